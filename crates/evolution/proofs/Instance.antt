@@ -1,0 +1,50 @@
+-- The premises of demand 3 can be met: an old layout, a new one, two arguments, and a reading of a cut record; what is due is computed.
+use Prim.Native.Nat.{ℕ, _-_, _^_}
+use native.Mathlib.Omega.{arith}
+use mathlib.Core.Path.{_≡_, refl}
+use mathlib.Core.Bool.{true, false}
+use mathlib.Core.List.{List, [], _∷_, _++_}
+use lib.ListN.{replicate}
+use Rattle.layout.specs.declared.Code.the-variants.{Data, Move}
+use Rattle.layout.specs.declared.Motion.the-variants.{Skip}
+use Rattle.layout.specs.declared.Shape.the-variants.{Text, Integers}
+use Rattle.layout.specs.declared.Count.the-variants.{Absent, Times}
+use Rattle.layout.specs.Layout.{fieldsOf, slotCount}
+use Rattle.layout.specs.Quoted.{bytes}
+use Rattle.record.specs.Table.{slotsOf, valueBytes}
+use Rattle.record.specs.Packing.{pack, filled}
+use Rattle.evolution.specs.Claim.{Layouts, Reading, plain, endOf, due, setBy}
+
+-- `a3` and then `a03 xS`, with the arguments "ab" and {-2}
+pair : Layouts
+unfolding fieldsOf plain pack endOf slotCount
+pair = record {
+  old = bytes "a3";
+  new = bytes "a03 xS";
+  fields = record { code = Data (Text 0); unsigned = false; count = Times 3 } ∷ [];
+  added = record { code = Move Skip; unsigned = false; count = Absent } ∷ record { code = Data (Integers 2 true); unsigned = false; count = Absent } ∷ [];
+  slots = 1 ∷ 0 ∷ 2 ∷ 2 ∷ 2 ∷ 1 ∷ [];
+  area = bytes "ab" ++ (255 ∷ 255 ∷ 255 ∷ 255 ∷ 255 ∷ 255 ∷ 255 ∷ 254 ∷ []);
+  oldOutput = replicate 3 0;
+  newOutput = replicate 9 7;
+  old-fields = refl;
+  new-fields = refl;
+  is-plain = tt;
+  new-accepted = refl;
+  old-sizes = tt;
+  old-room = omega arith;
+}
+
+-- the new record, cut at 5 and read by the new layout from the mark 1 on
+reading : Reading pair true true 5 (replicate 6 9) (replicate 4 9) 1
+unfolding pair pack setBy filled slotsOf slotCount valueBytes
+reading = record { within = omega arith; sizes = tt; enough-slots = omega arith; room = omega arith }
+
+-- cut at 5 the new layout shows its first field only; cut at 6 both
+due-five : due pair true 5 ≡ record { kind = 1; items = 97 ∷ 98 ∷ 0 ∷ [] } ∷ []
+unfolding pair setBy filled slotsOf
+due-five = refl
+
+due-six : due pair true 6 ≡ record { kind = 1; items = 97 ∷ 98 ∷ 0 ∷ [] } ∷ record { kind = 2; items = (2 ^ 64 - 2) ∷ [] } ∷ []
+unfolding pair setBy filled slotsOf
+due-six = refl

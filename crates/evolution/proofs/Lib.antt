@@ -1,0 +1,8 @@
+-- The proof of demand 3, from the field outwards; an instance of its premises; the examples.
+mod Fields
+mod Run
+mod Arguments
+mod Shown
+pub mod ReadsBack
+mod Instance
+mod Examples

@@ -1,0 +1,222 @@
+-- The proof of demand 3. Packing a plain layout joins the bytes of its fields, so the old record is the front of the new one; a reader that
+-- stands where the packer stood finds each field's own bytes as long as they end at or before the cut, and stops at the first that does not.
+use Prim.Native.Nat.{ℕ, zero, suc, _+_, _-_, _*_, _≤_, suc-le-suc}
+use native.Mathlib.Nat.{le-refl}
+use native.Mathlib.Omega.{arith}
+use mathlib.Core.Path.{_≡_, refl, sym, ap, _∙_, subst}
+use mathlib.Core.Bool.{Bool, true, false, _&&_}
+use mathlib.Core.List.{List, [], _∷_, _++_, map, append-nil}
+use lib.ListN.{length, take, drop, length-append}
+use lib.Seq.{take-at, take-append-le, length-take-le}
+use lib.Dec.{T, leb, eqb}
+use borrow.Author.Tests.{le-leb, eqb-true, eq-eqb}
+use Rattle.layout.specs.declared.Field.{Field}
+use Rattle.layout.specs.declared.Refusal.the-variants.{BadSize, WrongSlots, NoRoom}
+use Rattle.layout.specs.Layout.{takesSlot, fieldsOf, slotCount}
+use Rattle.layout.specs.Refusals.{if_then_else_, Result, ok, refused}
+use Rattle.layout.proofs.Laws.{AllSound, no-number-zero, bound, demanded, ok-inj, packed-reads}
+use Rattle.record.specs.Table.{Slot, slotsOf, shown, slotWidth, valueBytes}
+use Rattle.record.specs.Packing.{accepted, Filled, filled, argumentsFit, packed, packs, pack, packEffect, Packed}
+use Rattle.record.specs.Geometry.{sizesFit}
+use Rattle.record.specs.Reading.{Read, valuesFrom, reads, read, readEffect, putInto}
+use Rattle.evolution.specs.Claim.{plain, plainCode, plainCount, endOf, Layouts, packedBy, recordOf, textOf, outputBy, fieldsBy, due, cutRecord, Reading, ReadsBack}
+use Rattle.record.proofs.Bytes.{both}
+use Rattle.evolution.proofs.Run.{AllGood, joined, joined-append, length-joined, packed-joined, agree}
+use Rattle.evolution.proofs.Shown.{shows-put, set-proper}
+use Rattle.evolution.proofs.Arguments.{fields-filled, front, spare, fit-front, all-good}
+
+-- ---- the calls, by their parts
+
+true→T : {t : Bool} → t ≡ true → T t
+true→T e = subst (λ (t : Bool). T t) (sym e) tt
+
+T→true : (t : Bool) → T t → t ≡ true
+T→true true h = refl
+T→true false h = absurd h
+
+record Accepted (slots area output : List ℕ) (fs : List Field) (bs : List ℕ) : Type 0 where
+  counts : length (slotsOf slots) ≡ slotCount fs
+  fit : argumentsFit area 0 (slotsOf slots) fs ≡ ok tt
+  bytes : packed (filled area (slotsOf slots) fs) ≡ bs
+
+accepted-parts : (text slots area output : List ℕ) (fs : List Field) (bs : List ℕ) → fieldsOf true text ≡ ok fs → packs text slots area output ≡ ok bs
+    → Accepted slots area output fs bs
+unfolding packs
+accepted-parts text slots area output fs bs f e =
+    let (sizes, e₁) = demanded (sizesFit text slots output area) BadSize 0 _ bs e in
+    let (fs′, f′, e₂) = bound (fieldsOf true text) _ bs e₁ in
+    let same : fs′ ≡ fs = ok-inj (sym f′ ∙ f) in
+    let (counts, e₃) = demanded (eqb (length (slotsOf slots)) (slotCount fs′)) WrongSlots 0 _ bs e₂ in
+    let (x, fit, e₄) = bound (argumentsFit area 0 (slotsOf slots) fs′) _ bs e₃ in
+    let (room, e₅) = demanded (leb (length (packed (filled area (slotsOf slots) fs′))) (length output)) NoRoom 0 _ bs e₄ in
+    subst (λ (gs : List Field). Accepted slots area output gs bs) same (record { counts = eqb-true _ _ counts; fit = fit; bytes = ok-inj e₅ })
+
+packs-by : (text slots area output : List ℕ) (fs : List Field) → fieldsOf true text ≡ ok fs → sizesFit text slots output area ≡ true
+    → length (slotsOf slots) ≡ slotCount fs → argumentsFit area 0 (slotsOf slots) fs ≡ ok tt
+    → length (packed (filled area (slotsOf slots) fs)) ≤ length output → packs text slots area output ≡ ok (packed (filled area (slotsOf slots) fs))
+unfolding packs
+packs-by text slots area output fs f s c a r = rw (s, f, eq-eqb _ _ c, a, le-leb _ _ r)
+
+reads-by : (text bs slots area : List ℕ) (mark : ℕ) (fs : List Field) → fieldsOf false text ≡ ok fs → (sizesFit text slots bs area && leb mark (length area)) ≡ true
+    → slotCount fs ≤ length (slotsOf slots) → mark + length (valueBytes (valuesFrom bs 0 fs)) ≤ length area
+    → reads text bs slots area mark ≡ ok (valuesFrom bs 0 fs)
+unfolding reads
+reads-by text bs slots area mark fs f s c r = rw (s, f, le-leb _ _ c, le-leb _ _ r)
+
+slots-take : (n : ℕ) (ns : List ℕ) → slotsOf (take (slotWidth * n) ns) ≡ take n (slotsOf ns)
+unfolding slotsOf
+slots-take zero ns = refl
+slots-take (suc n) ns = rw (three n) (go ns (slots-take n))
+  where
+    three : (n : ℕ) → slotWidth * suc n ≡ suc (suc (suc (slotWidth * n)))
+    three n = omega arith
+
+    go : (ns : List ℕ) → ((ms : List ℕ) → slotsOf (take (slotWidth * n) ms) ≡ take n (slotsOf ms)) → slotsOf (take (suc (suc (suc (slotWidth * n)))) ns) ≡ take (suc n) (slotsOf ns)
+    go [] ih = refl
+    go (k ∷ []) ih = refl
+    go (k ∷ s ∷ []) ih = refl
+    go (k ∷ s ∷ c ∷ rest) ih = ap (λ (r : List Slot). record { kind = k; start = s; len = c } ∷ r) (ih rest)
+
+accepted-bytes : (output : List ℕ) (r : Result (List ℕ)) → packEffect output r .answer .number ≡ 0 → (bs : List ℕ) × (r ≡ ok bs)
+accepted-bytes output (ok bs) e = (bs, refl)
+accepted-bytes output (refused n p) e = no-number-zero n e
+
+-- ---- the front of a layout
+
+count-front : (fs gs : List Field) → slotCount fs ≤ slotCount (fs ++ gs)
+unfolding slotCount
+count-front [] gs = omega arith
+count-front (f ∷ fs) gs = step (takesSlot (f .code)) (count-front fs gs)
+  where
+    step : (t : Bool) → slotCount fs ≤ slotCount (fs ++ gs) → (if t then suc (slotCount fs) else slotCount fs) ≤ (if t then suc (slotCount (fs ++ gs)) else slotCount (fs ++ gs))
+    step true h = suc-le-suc h
+    step false h = h
+
+plain-front : (fs gs : List Field) → T (plain (fs ++ gs)) → T (plain fs)
+unfolding plain
+plain-front [] gs h = tt
+plain-front (f ∷ fs) gs h =
+    let (x, y) = both (plainCode (f .code) && plainCount (f .count)) (plain (fs ++ gs)) h in
+    joint (plainCode (f .code) && plainCount (f .count)) (plain fs) x (plain-front fs gs y)
+  where
+    joint : (a b : Bool) → T a → T b → T (a && b)
+    joint true b h k = k
+    joint false b h k = h
+
+-- ---- the two packings
+
+module _ (l : Layouts) where
+  abbrev args : Bool → List Filled
+  args b = filled (l .area) (slotsOf (l .slots)) (fieldsBy l b)
+
+  new-record : (bs : List ℕ) × (packs (l .new) (l .slots) (l .area) (l .newOutput) ≡ ok bs)
+  unfolding pack
+  new-record = accepted-bytes (l .newOutput) (packs (l .new) (l .slots) (l .area) (l .newOutput)) (l .new-accepted)
+
+  new-parts : Accepted (l .slots) (l .area) (l .newOutput) (l .fields ++ l .added) (new-record .0)
+  new-parts = accepted-parts (l .new) (l .slots) (l .area) (l .newOutput) (l .fields ++ l .added) (new-record .0) (l .new-fields) (new-record .1)
+
+  fits : (b : Bool) → argumentsFit (l .area) 0 (slotsOf (l .slots)) (fieldsBy l b) ≡ ok tt
+  fits true = new-parts .fit
+  fits false = fit-front (l .area) (l .fields) (l .added) 0 (slotsOf (l .slots)) (new-parts .fit)
+
+  text-reads : (b : Bool) → (fieldsOf false (textOf l b) ≡ ok (fieldsBy l b)) × AllSound (fieldsBy l b)
+  text-reads true = packed-reads (l .new) (l .fields ++ l .added) (l .new-fields)
+  text-reads false = packed-reads (l .old) (l .fields) (l .old-fields)
+
+  is-plain-by : (b : Bool) → T (plain (fieldsBy l b))
+  is-plain-by true = l .is-plain
+  is-plain-by false = plain-front (l .fields) (l .added) (l .is-plain)
+
+  good : (b : Bool) → AllGood (args b)
+  good b = all-good (l .area) 0 (slotsOf (l .slots)) (fieldsBy l b) (is-plain-by b) (text-reads b .1) (fits b)
+
+  end-by : (b : Bool) → length (joined (args b)) ≡ endOf (fieldsBy l b)
+  end-by b = length-joined (args b) (good b) ∙ ap endOf (fields-filled (l .area) (slotsOf (l .slots)) (fieldsBy l b))
+
+  own : List ℕ
+  own = take (slotWidth * slotCount (l .fields)) (l .slots)
+
+  enough-slots : slotCount (l .fields) ≤ length (slotsOf (l .slots))
+  enough-slots = omega (arith, count-front (l .fields) (l .added), new-parts .counts)
+
+  old-filled : filled (l .area) (slotsOf own) (l .fields) ≡ args false
+  unfolding own
+  old-filled = rw slots-take (spare (l .area) (l .fields) 0 (slotCount (l .fields)) (slotsOf (l .slots)) (le-refl _) .0)
+
+  old-fits : argumentsFit (l .area) 0 (slotsOf own) (l .fields) ≡ ok tt
+  unfolding own
+  old-fits = rw slots-take (spare (l .area) (l .fields) 0 (slotCount (l .fields)) (slotsOf (l .slots)) (le-refl _) .1 ∙ fits false)
+
+  old-count : length (slotsOf own) ≡ slotCount (l .fields)
+  unfolding own
+  old-count = rw slots-take (length-take-le (slotCount (l .fields)) (slotsOf (l .slots)) enough-slots)
+
+  old-bytes : packed (filled (l .area) (slotsOf own) (l .fields)) ≡ joined (args false)
+  old-bytes = ap packed old-filled ∙ packed-joined (args false) (good false)
+
+  old-packs : packs (l .old) own (l .area) (l .oldOutput) ≡ ok (joined (args false))
+  unfolding own
+  old-packs =
+      packs-by (l .old) own (l .area) (l .oldOutput) (l .fields) (l .old-fields) (T→true _ (l .old-sizes)) old-count old-fits
+      (rw old-bytes (rw (end-by false) (l .old-room)))
+      ∙ ap ok old-bytes
+
+  new-packs : packs (l .new) (l .slots) (l .area) (l .newOutput) ≡ ok (joined (args true))
+  new-packs = new-record .1 ∙ ap ok (sym (new-parts .bytes) ∙ packed-joined (args true) (good true))
+
+  packing-is : (b : Bool) → packedBy l b ≡ packEffect (outputBy l b) (ok (joined (args b)))
+  unfolding pack own
+  packing-is true = ap (packEffect (l .newOutput)) new-packs
+  packing-is false = ap (packEffect (l .oldOutput)) old-packs
+
+  record-is : (b : Bool) → recordOf (packedBy l b) ≡ joined (args b)
+  record-is b = ap recordOf (packing-is b) ∙ take-at (joined (args b)) _ (length (joined (args b))) refl
+
+  packings : (b : Bool) → packedBy l b .answer ≡ accepted (endOf (fieldsBy l b)) 0
+  packings b = ap (λ (p : Packed). p .answer) (packing-is b) ∙ ap (λ (n : ℕ). accepted n 0) (end-by b)
+
+  -- ---- the readings
+
+  whole : List ℕ
+  whole = joined (args true)
+
+  begins : (b : Bool) → (after : List ℕ) × (whole ≡ joined (args b) ++ after)
+  unfolding whole
+  begins true = ([], sym (append-nil (joined (args true))))
+  begins false = (
+    joined (filled (l .area) (drop (slotCount (l .fields)) (slotsOf (l .slots))) (l .added)),
+    ap joined (front (l .area) (l .fields) (l .added) (slotsOf (l .slots))) ∙ joined-append (args false) _,
+  )
+
+  cut-is : (b : Bool) (cut : ℕ) → cut ≤ length (recordOf (packedBy l b)) → take cut (recordOf (packedBy l b)) ≡ take cut whole
+  cut-is b cut h =
+      ap (take cut) (record-is b)
+      ∙ sym (ap (take cut) (begins b .1) ∙ take-append-le cut (joined (args b)) (begins b .0) (subst (λ (r : List ℕ). cut ≤ length r) (record-is b) h))
+
+  inside : (b : Bool) (cut : ℕ) → cut ≤ length (recordOf (packedBy l b)) → cut ≤ length whole
+  inside b cut h =
+      let k : cut ≤ length (joined (args b)) = subst (λ (r : List ℕ). cut ≤ length r) (record-is b) h in
+      rw (begins b .1, length-append) (omega arith)
+
+  values : (p q : Bool) (cut : ℕ) → cut ≤ length (recordOf (packedBy l p)) → valuesFrom (take cut (recordOf (packedBy l p))) 0 (fieldsBy l q) ≡ due l q cut
+  values p q cut h =
+      rw (cut-is p cut h)
+      (ap (valuesFrom (take cut whole) 0) (sym (fields-filled (l .area) (slotsOf (l .slots)) (fieldsBy l q)))
+      ∙ agree whole cut (inside p cut h) (args q) (good q) 0 (begins q .0) (omega arith) (begins q .1))
+
+  module _ (p q : Bool) (cut : ℕ) (slots area : List ℕ) (mark : ℕ) (h : Reading l p q cut slots area mark) where
+    reading : read (textOf l q) (cutRecord l p cut) slots area mark ≡ putInto slots area mark (due l q cut)
+    unfolding read
+    reading =
+        let v : valuesFrom (cutRecord l p cut) 0 (fieldsBy l q) ≡ due l q cut = values p q cut (h .within) in
+        ap (readEffect slots area mark)
+        (reads-by (textOf l q) (cutRecord l p cut) slots area mark (fieldsBy l q) (text-reads q .0) (T→true _ (h .sizes)) (h .enough-slots) (rw v (h .room)) ∙ ap ok v)
+
+    showing : map (shown (read (textOf l q) (cutRecord l p cut) slots area mark .area)) (take (length (due l q cut)) (slotsOf (read (textOf l q) (cutRecord l p cut) slots area mark .slots))) ≡ due l q cut
+    showing =
+        ap (λ (r : Read). map (shown (r .area)) (take (length (due l q cut)) (slotsOf (r .slots)))) reading
+        ∙ shows-put slots area mark (due l q cut) (set-proper cut 0 (args q) (good q)) (omega (arith, h .room))
+
+  pub reads-back : ReadsBack l
+  reads-back = record { packings = packings; readings = reading; shows = showing }

@@ -1,0 +1,187 @@
+-- Packing a plain layout joins the fields' bytes; reading what is left of them after a cut shows what `setBy` says.
+use Prim.Native.Nat.{ℕ, zero, suc, _+_, _-_, _≤_, _<_, min}
+use native.Mathlib.Nat.{sub-zero, zero-sub, suc-sub-suc}
+use native.Mathlib.Omega.{arith}
+use mathlib.Core.Path.{_≡_, refl, sym, ap, ap₂, _∙_}
+use mathlib.Core.Bool.{Bool}
+use mathlib.Core.List.{List, [], _∷_, _++_, append-nil, append-assoc}
+use lib.ListN.{length, take, drop, replicate, length-append, length-replicate, drop-of-length-le}
+use lib.Seq.{take-length, length-take-le, take-at, drop-at, take-take, drop-drop, take-nil}
+use borrow.Author.Tests.{le-leb, lt-leb}
+use Rattle.layout.specs.declared.Code.{Code}
+use Rattle.layout.specs.declared.Code.the-variants.{Data, Move}
+use Rattle.layout.specs.declared.Motion.the-variants.{Skip, Back, Goto}
+use Rattle.layout.specs.declared.Count.{Count}
+use Rattle.layout.specs.declared.Field.{Field}
+use Rattle.layout.specs.Words.{FitCode}
+use Rattle.record.specs.Table.{Value}
+use Rattle.record.specs.Geometry.{amount, bytesFor, itemsIn}
+use Rattle.record.specs.Packing.{stored, Run, store, Filled, packOne, packAll, packed}
+use Rattle.record.specs.Reading.{loaded, valuesFrom}
+use Rattle.evolution.specs.Claim.{fills, endOf, setBy}
+use Rattle.record.proofs.Fields.{Served, length-stored, fills-some, split}
+use Rattle.evolution.proofs.Fields.{back}
+
+-- ---- a field with its argument, in a plain layout that the packer accepts
+
+-- the bytes that it stores
+unfoldable pub bytesOf : Code → Count → List ℕ → List ℕ
+bytesOf (Data s) n xs = stored s (amount n 0) xs
+bytesOf (Move Skip) n xs = replicate (amount n 0) 0
+bytesOf (Move Back) n xs = []
+bytesOf (Move Goto) n xs = []
+
+abbrev pub Good : Code → Count → List ℕ → Type 0
+Good (Data s) n xs = FitCode (Data s) × Served s (amount n 0) xs × (0 < amount n 0) × ((all : ℕ) → amount n all ≡ amount n 0)
+Good (Move Skip) n xs = (all : ℕ) → amount n all ≡ amount n 0
+Good (Move Back) n xs = ⊥
+Good (Move Goto) n xs = ⊥
+
+abbrev pub AllGood : List Filled → Type 0
+AllGood [] = Unit {0}
+AllGood (a ∷ rest) = Good (a .field .code) (a .field .count) (a .items) × AllGood rest
+
+unfoldable pub joined : List Filled → List ℕ
+unfolding bytesOf
+joined [] = []
+joined (a ∷ rest) = bytesOf (a .field .code) (a .field .count) (a .items) ++ joined rest
+
+pub length-bytes : (k : Code) (n : Count) (xs : List ℕ) → Good k n xs → length (bytesOf k n xs) ≡ fills k n
+unfolding bytesOf fills
+length-bytes (Data s) n xs h = length-stored s (amount n 0) xs (h .1)
+length-bytes (Move Skip) n xs h = length-replicate (amount n 0) 0
+length-bytes (Move Back) n xs h = absurd h
+length-bytes (Move Goto) n xs h = absurd h
+
+-- ---- packing
+
+-- a store at the end appends
+store-end : (out bs : List ℕ) → store (record { out = out; at = length out }) bs ≡ record { out = out ++ bs; at = length (out ++ bs) }
+store-end out bs = simp (take-length, length-append, drop-of-length-le out {i = length out + length bs} (omega arith), append-nil)
+
+pack-one : (out : List ℕ) (k : Code) (n : Count) (xs : List ℕ) → Good k n xs
+    → packOne (record { out = out; at = length out }) k n xs ≡ record { out = out ++ bytesOf k n xs; at = length (out ++ bytesOf k n xs) }
+unfolding packOne bytesOf
+pack-one out (Data s) n xs h = rw (h .3 (length xs)) (store-end out (stored s (amount n 0) xs))
+pack-one out (Move Skip) n xs h = store-end out (replicate (amount n 0) 0)
+pack-one out (Move Back) n xs h = absurd h
+pack-one out (Move Goto) n xs h = absurd h
+
+pack-all : (out : List ℕ) (fs : List Filled) → AllGood fs
+    → packAll (record { out = out; at = length out }) fs ≡ record { out = out ++ joined fs; at = length (out ++ joined fs) }
+unfolding packAll joined
+pack-all out [] h = rw append-nil
+pack-all out (a ∷ rest) h =
+    let bs : List ℕ = bytesOf (a .field .code) (a .field .count) (a .items) in
+    ap (λ (r : Run). packAll r rest) (pack-one out (a .field .code) (a .field .count) (a .items) (h .0))
+    ∙ pack-all (out ++ bs) rest (h .1)
+    ∙ ap (λ (o : List ℕ). record { out = o; at = length o }) (append-assoc out bs (joined rest))
+
+pub packed-joined : (fs : List Filled) → AllGood fs → packed fs ≡ joined fs
+unfolding packed
+packed-joined fs h = ap (λ (r : Run). r .out) (pack-all [] fs h)
+
+pub joined-append : (fs gs : List Filled) → joined (fs ++ gs) ≡ joined fs ++ joined gs
+unfolding joined
+joined-append [] gs = refl
+joined-append (a ∷ fs) gs = ap (λ (r : List ℕ). bytesOf (a .field .code) (a .field .count) (a .items) ++ r) (joined-append fs gs) ∙ sym (append-assoc (bytesOf (a .field .code) (a .field .count) (a .items)) (joined fs) (joined gs))
+
+-- ---- reading a cut
+
+drop-take : (a k : ℕ) (l : List ℕ) → drop a (take k l) ≡ take (k - a) (drop a l)
+drop-take zero k l = rw sub-zero
+drop-take (suc a) zero l = rw zero-sub
+drop-take (suc a) (suc k) [] = sym (take-nil (suc k - suc a))
+drop-take (suc a) (suc k) (x ∷ l) = drop-take a k l ∙ ap (λ (i : ℕ). take i (drop a l)) (sym (suc-sub-suc k a))
+
+-- n bytes from a on are those of the whole where they end at or before the cut
+within : (a n k : ℕ) (l : List ℕ) → a + n ≤ k → take n (drop a (take k l)) ≡ take n (drop a l)
+within a n k l h = ap (take n) (drop-take a k l) ∙ take-take n (k - a) (drop a l) (omega arith)
+
+unfoldable pub fieldsIn : List Filled → List Field
+fieldsIn [] = []
+fieldsIn (a ∷ rest) = a .field ∷ fieldsIn rest
+
+pub length-joined : (fs : List Filled) → AllGood fs → length (joined fs) ≡ endOf (fieldsIn fs)
+unfolding joined fieldsIn endOf
+length-joined [] h = refl
+length-joined (a ∷ rest) h = rw (length-append, length-bytes (a .field .code) (a .field .count) (a .items) (h .0), length-joined rest (h .1))
+
+abbrev one : Code → Bool → Count → List ℕ → Filled
+one k u n xs = record { field = record { code = k; unsigned = u; count = n }; items = xs }
+
+-- past the cut nothing is due
+past-due-step : (cut before : ℕ) (rest : List Filled) → ((b : ℕ) → cut < b → setBy cut b rest ≡ []) → cut < before
+    → (k : Code) (u : Bool) (n : Count) (xs : List ℕ) → setBy cut before (one k u n xs ∷ rest) ≡ []
+unfolding setBy
+past-due-step cut before rest ih h (Data s) u n xs = rw (lt-leb (before + bytesFor s (amount n 0)) cut (omega arith)) (ih _ (omega arith))
+past-due-step cut before rest ih h (Move m) u n xs = ih _ (omega arith)
+
+past-due : (cut before : ℕ) (fs : List Filled) → cut < before → setBy cut before fs ≡ []
+unfolding setBy
+past-due cut before [] h = refl
+past-due cut before (a ∷ rest) h =
+    past-due-step cut before rest (λ b k. past-due cut b rest k) h (a .field .code) (a .field .unsigned) (a .field .count) (a .items)
+
+-- at the end of the bytes nothing is read
+at-end-step : (bs : List ℕ) (fs : List Field) → valuesFrom bs (length bs) fs ≡ []
+    → (k : Code) (u : Bool) (n : Count) (xs : List ℕ) → Good k n xs → valuesFrom bs (length bs) (record { code = k; unsigned = u; count = n } ∷ fs) ≡ []
+unfolding valuesFrom
+at-end-step bs fs ih (Data s) u n xs h =
+    rw (h .3 (itemsIn s (length bs - length bs)), lt-leb (bytesFor s (amount n 0)) (length bs - length bs) (omega (arith, fills-some s (amount n 0) (h .0) (h .2))))
+at-end-step bs fs ih (Move Skip) u n xs h = let e : min (length bs + amount n (length bs)) (length bs) ≡ length bs = omega arith in rw e ih
+at-end-step bs fs ih (Move Back) u n xs h = absurd h
+at-end-step bs fs ih (Move Goto) u n xs h = absurd h
+
+at-end : (bs : List ℕ) (fs : List Filled) → AllGood fs → valuesFrom bs (length bs) (fieldsIn fs) ≡ []
+unfolding valuesFrom fieldsIn
+at-end bs [] h = refl
+at-end bs (a ∷ rest) h =
+    at-end-step bs (fieldsIn rest) (at-end bs rest (h .1)) (a .field .code) (a .field .unsigned) (a .field .count) (a .items) (h .0)
+
+-- Before the cut the reader stands where the packer stood: `whole` has the bytes of fs and then `after` from `at` on
+module _ (whole : List ℕ) (cut : ℕ) (inside : cut ≤ length whole) where
+  size : length (take cut whole) ≡ cut
+  size = length-take-le cut whole inside
+
+  abbrev Agree : List Filled → Type 0
+  Agree fs = (at : ℕ) (after : List ℕ) → at ≤ cut → drop at whole ≡ joined fs ++ after → valuesFrom (take cut whole) at (fieldsIn fs) ≡ setBy cut at fs
+
+  next : (at : ℕ) (bs rest after : List ℕ) (n : ℕ) → length bs ≡ n → drop at whole ≡ (bs ++ rest) ++ after → drop (at + n) whole ≡ rest ++ after
+  next at bs rest after n len e = sym (drop-drop n at whole) ∙ ap (drop n) (e ∙ append-assoc bs rest after) ∙ drop-at bs (rest ++ after) n len
+
+  agree-step : (rest : List Filled) → AllGood rest → Agree rest → (k : Code) (u : Bool) (n : Count) (xs : List ℕ) → Good k n xs → Agree (one k u n xs ∷ rest)
+  unfolding valuesFrom setBy fieldsIn joined bytesOf
+  agree-step rest hs ih (Data s) u n xs h at after le e =
+      let bs : List ℕ = stored s (amount n 0) xs in
+      let need : ℕ = bytesFor s (amount n 0) in
+      let len : length bs ≡ need = length-stored s (amount n 0) xs (h .1) in
+      let left : length (take cut whole) ≡ cut = size in
+      rw (h .3 (itemsIn s (length (take cut whole) - at)))
+      (split (at + need) cut
+      (λ (k : at + need ≤ cut).
+      rw (le-leb need (length (take cut whole) - at) (omega arith), le-leb (at + need) cut k)
+      (ap₂ (λ (v : Value) (r : List Value). v ∷ r)
+      (ap (loaded s u (amount n 0)) (within at need cut whole k ∙ ap (take need) (e ∙ append-assoc bs (joined rest) after) ∙ take-at bs (joined rest ++ after) need len) ∙ back s u (amount n 0) xs (h .1))
+      (ih (at + need) after k (next at bs (joined rest) after need len e))))
+      (λ (k : cut < at + need).
+      rw (lt-leb need (length (take cut whole) - at) (omega arith), lt-leb (at + need) cut k) (sym (past-due cut (at + need) rest k))))
+  agree-step rest hs ih (Move Skip) u n xs h at after le e =
+      let zeros : List ℕ = replicate (amount n 0) 0 in
+      let len : length zeros ≡ amount n 0 = length-replicate (amount n 0) 0 in
+      let left : length (take cut whole) ≡ cut = size in
+      rw (h (length (take cut whole)))
+      (split (at + amount n 0) cut
+      (λ (k : at + amount n 0 ≤ cut).
+      let here : min (at + amount n 0) (length (take cut whole)) ≡ at + amount n 0 = omega arith in
+      rw here (ih (at + amount n 0) after k (next at zeros (joined rest) after (amount n 0) len e)))
+      (λ (k : cut < at + amount n 0).
+      let end : min (at + amount n 0) (length (take cut whole)) ≡ length (take cut whole) = omega arith in
+      rw end (at-end (take cut whole) rest hs ∙ sym (past-due cut (at + amount n 0) rest k))))
+  agree-step rest hs ih (Move Back) u n xs h at after le e = absurd h
+  agree-step rest hs ih (Move Goto) u n xs h at after le e = absurd h
+
+  pub agree : (fs : List Filled) → AllGood fs → Agree fs
+  unfolding valuesFrom setBy fieldsIn
+  agree [] h = λ at after le e. refl
+  agree (a ∷ rest) h = agree-step rest (h .1) (agree rest (h .1)) (a .field .code) (a .field .unsigned) (a .field .count) (a .items) (h .0)

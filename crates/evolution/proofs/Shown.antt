@@ -1,0 +1,125 @@
+-- The slots of values just put into a table show those values: each stands in the area where its slot says.
+use Prim.Native.Nat.{ℕ, zero, suc, _+_, _-_, _*_, _%_, _^_, _≤_, _<_}
+use native.Mathlib.Nat.{mod-eq-of-lt, mod-lt, one-le-pow, pow-le-pow-right}
+use native.Mathlib.Omega.{arith}
+use mathlib.Core.Path.{_≡_, refl, sym, ap, ap₂, _∙_}
+use mathlib.Core.Bool.{Bool, true, false, _||_}
+use mathlib.Core.List.{List, [], _∷_, _++_, map, append-assoc}
+use lib.ListN.{length, take, drop}
+use lib.Seq.{take-at, drop-at, drop-drop, length-take-le}
+use lib.Dec.{eqb, leb, ltb}
+use Rattle.layout.specs.declared.Code.{Code}
+use Rattle.layout.specs.declared.Code.the-variants.{Data, Move}
+use Rattle.layout.specs.declared.Shape.{Shape}
+use Rattle.layout.specs.declared.Shape.the-variants.{Text, Digits, Integers}
+use Rattle.layout.specs.declared.Count.{Count}
+use Rattle.layout.specs.Words.{FitCode}
+use Rattle.layout.specs.Refusals.{if_then_else_}
+use Rattle.record.specs.Bytes.{pieces, join, number, ordered, storeAt}
+use Rattle.record.specs.Table.{Slot, slotsOf, Value, integerBytes, integersIn, areaBytes, shown, slotNumbers, valueBytes}
+use Rattle.record.specs.Geometry.{amount, bytesFor}
+use Rattle.record.specs.Packing.{Filled}
+use Rattle.record.specs.Reading.{putInto, widened}
+use Rattle.record.proofs.Bytes.{All}
+use Rattle.evolution.specs.Claim.{readBack, setBy}
+use Rattle.evolution.proofs.Run.{Good, AllGood}
+use Rattle.record.proofs.Fields.{item, length-item, number-item}
+
+-- an integer fits eight bytes
+abbrev pub Proper : Value → Type 0
+Proper v = eqb (v .kind) 1 ≡ false → All (λ x. x < 2 ^ 64) (v .items)
+
+abbrev pub AllProper : List Value → Type 0
+AllProper [] = Unit {0}
+AllProper (v ∷ vs) = Proper v × AllProper vs
+
+-- integers come back from their bytes
+integers-in : (xs rest : List ℕ) → All (λ x. x < 2 ^ 64) xs → integersIn (length xs) (integerBytes xs ++ rest) ≡ xs
+unfolding integersIn integerBytes pieces join item
+integers-in [] rest h = refl
+integers-in (x ∷ xs) rest h =
+    let tail : List ℕ = integerBytes xs ++ rest in
+    let split : integerBytes (x ∷ xs) ++ rest ≡ item 8 true x ++ tail = append-assoc (item 8 true x) (integerBytes xs) rest in
+    ap (integersIn (suc (length xs))) split
+    ∙ ap₂ (λ (y : ℕ) (ys : List ℕ). y ∷ ys)
+    (ap (λ (p : List ℕ). number 256 (ordered true p)) (take-at (item 8 true x) tail 8 (length-item 8 true x)) ∙ number-item 8 true x ∙ mod-eq-of-lt (h .0))
+    (ap (integersIn (length xs)) (drop-at (item 8 true x) tail 8 (length-item 8 true x)) ∙ integers-in xs rest (h .1))
+
+-- a slot shows the value whose bytes stand at its start
+shows-one : (area rest : List ℕ) (start : ℕ) (v : Value) → Proper v → drop start area ≡ areaBytes v ++ rest
+    → shown area (record { kind = v .kind; start = start; len = length (v .items) }) ≡ v
+unfolding shown areaBytes
+shows-one area rest start v h e = rw e (ap (λ (xs : List ℕ). record { kind = v .kind; items = xs }) (by-kind (eqb (v .kind) 1) h))
+  where
+    by-kind : (t : Bool) → (t ≡ false → All (λ x. x < 2 ^ 64) (v .items))
+        → (if t then take (length (v .items)) ((if t then v .items else integerBytes (v .items)) ++ rest)
+        else integersIn (length (v .items)) ((if t then v .items else integerBytes (v .items)) ++ rest)) ≡ v .items
+    by-kind true k = take-at (v .items) rest (length (v .items)) refl
+    by-kind false k = integers-in (v .items) rest (k refl)
+
+shows-from : (vs : List Value) → AllProper vs → (area rest more : List ℕ) (start : ℕ) → drop start area ≡ valueBytes vs ++ rest
+    → map (shown area) (take (length vs) (slotsOf (slotNumbers start vs ++ more))) ≡ vs
+unfolding slotNumbers valueBytes slotsOf join
+shows-from [] h area rest more start e = refl
+shows-from (v ∷ vs) h area rest more start e =
+    let tail : List ℕ = valueBytes vs ++ rest in
+    let here : drop start area ≡ areaBytes v ++ tail = e ∙ append-assoc (areaBytes v) (valueBytes vs) rest in
+    let later : drop (start + length (areaBytes v)) area ≡ tail =
+    sym (drop-drop (length (areaBytes v)) start area) ∙ ap (drop (length (areaBytes v))) here ∙ drop-at (areaBytes v) tail (length (areaBytes v)) refl in
+    ap₂ (λ (x : Value) (xs : List Value). x ∷ xs) (shows-one area tail start v (h .0) here) (shows-from vs (h .1) area rest more (start + length (areaBytes v)) later)
+
+-- the table that a reading leaves shows the values that were put into it
+pub shows-put : (slots area : List ℕ) (mark : ℕ) (vs : List Value) → AllProper vs → mark ≤ length area
+    → map (shown (putInto slots area mark vs .area)) (take (length vs) (slotsOf (putInto slots area mark vs .slots))) ≡ vs
+unfolding putInto
+shows-put slots area mark vs h k =
+    let after : List ℕ = drop (mark + length (valueBytes vs)) area in
+    shows-from vs h (storeAt area mark (valueBytes vs)) after _ mark
+    (ap (drop mark) (append-assoc (take mark area) (valueBytes vs) after) ∙ drop-at (take mark area) (valueBytes vs ++ after) mark (length-take-le mark area k))
+
+-- ---- what demand 3 reads back is proper
+
+true-false {ℓ} : {X : Type ℓ} → true ≡ false → X
+true-false e = let z : _≡_ {A = ℕ} 0 1 = cc in absurd (omega arith)
+
+widened-fits : (w : ℕ) (u : Bool) (x : ℕ) → w ≤ 8 → widened w u (x % 256 ^ w) < 2 ^ 64
+unfolding widened
+widened-fits w u x h = by-sign (u || ltb (2 * (x % 256 ^ w)) (256 ^ w))
+  where
+    low : x % 256 ^ w < 256 ^ w
+    low = mod-lt x (one-le-pow w 256 (omega arith))
+
+    top : 256 ^ w ≤ 256 ^ 8
+    top = pow-le-pow-right (omega arith) h
+
+    by-sign : (t : Bool) → (if t then x % 256 ^ w else (x % 256 ^ w + (2 ^ 64 - 256 ^ w))) < 2 ^ 64
+    by-sign true = omega (arith, low, top)
+    by-sign false = omega (arith, low, top)
+
+all-widened : (w : ℕ) (u : Bool) (xs : List ℕ) → w ≤ 8 → All (λ x. x < 2 ^ 64) (map (λ x. widened w u (x % 256 ^ w)) xs)
+all-widened w u [] h = tt
+all-widened w u (x ∷ xs) h = (widened-fits w u x h, all-widened w u xs h)
+
+read-back-proper : (s : Shape) (u : Bool) (n : ℕ) (xs : List ℕ) → FitCode (Data s) → Proper (readBack s u n xs)
+unfolding readBack
+read-back-proper (Text pad) u n xs h e = true-false e
+read-back-proper (Digits hex high) u n xs h e = true-false e
+read-back-proper (Integers w big) u n xs h e = all-widened w u (take n xs) (h .1)
+
+chosen : (t : Bool) (v : Value) (vs : List Value) → Proper v → AllProper vs → AllProper (if t then v ∷ vs else vs)
+chosen true v vs h k = (h, k)
+chosen false v vs h k = k
+
+set-proper-step : (cut before : ℕ) (rest : List Filled) → ((b : ℕ) → AllProper (setBy cut b rest))
+    → (k : Code) (u : Bool) (n : Count) (xs : List ℕ) → Good k n xs
+    → AllProper (setBy cut before (record { field = record { code = k; unsigned = u; count = n }; items = xs } ∷ rest))
+unfolding setBy
+set-proper-step cut before rest ih (Data s) u n xs h =
+    chosen (leb (before + bytesFor s (amount n 0)) cut) (readBack s u (amount n 0) xs) _ (read-back-proper s u (amount n 0) xs (h .0)) (ih _)
+set-proper-step cut before rest ih (Move m) u n xs h = ih _
+
+pub set-proper : (cut before : ℕ) (fs : List Filled) → AllGood fs → AllProper (setBy cut before fs)
+unfolding setBy
+set-proper cut before [] h = tt
+set-proper cut before (a ∷ rest) h =
+    set-proper-step cut before rest (λ b. set-proper cut b rest (h .1)) (a .field .code) (a .field .unsigned) (a .field .count) (a .items) (h .0)

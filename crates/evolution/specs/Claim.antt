@@ -1,0 +1,168 @@
+-- Demand 3 (document 01, "What demand 3 reads back"): one claim about both packings and every reading.
+-- The sentences of that section stand beside the definitions that state them. The proof is in proofs/ReadsBack.antt.
+use Prim.Native.Nat.{ℕ, _+_, _-_, _*_, _%_, _^_, _≤_}
+use mathlib.Core.Path.{_≡_}
+use mathlib.Core.Bool.{Bool, true, false, _&&_}
+use mathlib.Core.List.{List, [], _∷_, _++_, map}
+use lib.ListN.{length, take}
+use lib.Dec.{T, leb, eqb}
+use Rattle.layout.specs.declared.Code.{Code}
+use Rattle.layout.specs.declared.Code.the-variants.{Data, Move}
+use Rattle.layout.specs.declared.Motion.the-variants.{Skip, Back, Goto}
+use Rattle.layout.specs.declared.Shape.{Shape}
+use Rattle.layout.specs.declared.Shape.the-variants.{Text, Digits, Integers}
+use Rattle.layout.specs.declared.Count.{Count}
+use Rattle.layout.specs.declared.Count.the-variants.{Absent, Star, Times}
+use Rattle.layout.specs.declared.Field.{Field}
+use Rattle.layout.specs.Refusals.{if_then_else_, ok}
+use Rattle.layout.specs.Layout.{fieldsOf, slotCount}
+use Rattle.record.specs.Bytes.{fit}
+use Rattle.record.specs.Table.{slotsOf, Value, shown, slotWidth, valueBytes}
+use Rattle.record.specs.Geometry.{amount, bytesFor, sizesFit}
+use Rattle.record.specs.Packing.{Filled, filled, accepted, Packed, pack}
+use Rattle.record.specs.Reading.{trimmed, widened, putInto, read}
+
+-- ---- a plain layout: no star, no `X`, no `@`, no count of 0
+
+abbrev pub plainCount : Count → Bool
+plainCount Absent = true
+plainCount Star = false
+plainCount (Times n) = leb 1 n
+
+abbrev pub plainCode : Code → Bool
+plainCode (Data s) = true
+plainCode (Move Skip) = true
+plainCode (Move Back) = false
+plainCode (Move Goto) = false
+
+unfoldable pub plain : List Field → Bool
+plain [] = true
+plain (f ∷ fs) = plainCode (f .code) && plainCount (f .count) && plain fs
+
+-- ---- what comes back of an argument's items xs, in a field of n items
+
+-- "hex lowered"
+unfoldable pub lowered : ℕ → ℕ
+lowered c = if leb 65 c && leb c 70 then c + 32 else c
+
+unfoldable pub readBack : Shape → Bool → ℕ → List ℕ → Value
+unfolding lowered trimmed widened fit
+-- "a string cut or zero-padded; for `A` cut or space-padded, then trailing spaces and zero bytes dropped"
+readBack (Text pad) u n xs = record { kind = 1; items = if eqb pad 32 then trimmed (fit n pad xs) else fit n pad xs }
+-- "digits cut or padded with `0`, hex lowered. Strings and digits come back as kind 1."
+readBack (Digits hex high) u n xs = record { kind = 1; items = map lowered (fit n 48 xs) }
+-- "the first count items come back (one where no count stands), each reduced modulo 2 to the power of the width in bits, signed as
+-- kind 2 or, with `u`, unsigned as kind 3"
+readBack (Integers w big) u n xs =
+    record { kind = if u then 3 else 2; items = map (λ x. widened w u (x % 256 ^ w)) (take n xs) }
+
+-- ---- "A field's end is the sum of the bytes that it and every field before it fill in packing, `x` included."
+
+unfoldable pub fills : Code → Count → ℕ
+fills (Data s) n = bytesFor s (amount n 0)
+fills (Move Skip) n = amount n 0
+fills (Move Back) n = 0
+fills (Move Goto) n = 0
+
+-- the end of the last field ("0 without fields")
+unfoldable pub endOf : List Field → ℕ
+unfolding fills
+endOf [] = 0
+endOf (f ∷ fs) = fills (f .code) (f .count) + endOf fs
+
+-- The values of exactly the fields that take a slot and end at or before the cut; `before` is the end of the fields before.
+-- "`x` sets nothing, also where it stops at the cut."
+unfoldable pub setBy : ℕ → ℕ → List Filled → List Value
+unfolding fills readBack
+setBy cut before [] = []
+setBy cut before (a ∷ rest) =
+    let end = before + fills (a .field .code) (a .field .count) in
+    let later = setBy cut end rest in
+    elim (a .field .code) [
+      | Data s ↦
+          if leb end cut
+          then readBack s (a .field .unsigned) (amount (a .field .count) 0) (a .items) ∷ later
+          else later
+      | Move m ↦ later
+    ]
+
+-- ---- the premises
+
+-- An old layout, a new one with fields added at its end, the arguments and the buffers of the two packings.
+pub record Layouts : Type 0 where
+  pub old : List ℕ
+  pub new : List ℕ
+  pub fields : List Field
+  pub added : List Field
+  -- "The arguments are those at packing, the same for both records": the new layout's; the old one uses the first of them
+  pub slots : List ℕ
+  pub area : List ℕ
+  pub oldOutput : List ℕ
+  pub newOutput : List ℕ
+  -- "“Added” goes by fields and not by text"; two fields are the same where type, flag and count agree
+  pub old-fields : fieldsOf true old ≡ ok fields
+  pub new-fields : fieldsOf true new ≡ ok (fields ++ added)
+  pub is-plain : T (plain (fields ++ added))
+  -- the packer accepts the arguments for the new layout, which says that it has room and sizes that line 1 does not refuse
+  pub new-accepted : pack new slots area newOutput .answer .number ≡ 0
+  -- "no call is lent anything that number 1 refuses, and each packing has room for its result"
+  pub old-sizes : T (sizesFit old (take (slotWidth * slotCount fields) slots) oldOutput area)
+  pub old-room : endOf fields ≤ length oldOutput
+
+-- Which of the two layouts, packings or records is meant: `true` is the new one, `false` the old one.
+
+abbrev pub textOf : Layouts → Bool → List ℕ
+textOf l true = l .new
+textOf l false = l .old
+
+abbrev pub fieldsBy : Layouts → Bool → List Field
+fieldsBy l true = l .fields ++ l .added
+fieldsBy l false = l .fields
+
+abbrev pub slotsBy : Layouts → Bool → List ℕ
+slotsBy l true = l .slots
+slotsBy l false = take (slotWidth * slotCount (l .fields)) (l .slots)
+
+abbrev pub outputBy : Layouts → Bool → List ℕ
+outputBy l true = l .newOutput
+outputBy l false = l .oldOutput
+
+abbrev pub packedBy : Layouts → Bool → Packed
+packedBy l which = pack (textOf l which) (slotsBy l which) (l .area) (outputBy l which)
+
+-- the record that a packing made
+abbrev pub recordOf : Packed → List ℕ
+recordOf p = take (p .answer .first) (p .output)
+
+-- "A record cut at k is its first k bytes"
+abbrev pub cutRecord : Layouts → Bool → ℕ → List ℕ
+cutRecord l which k = take k (recordOf (packedBy l which))
+
+-- the values due to a reading by a layout of a record that is cut at k
+abbrev pub due : Layouts → Bool → ℕ → List Value
+due l layout k = setBy k 0 (filled (l .area) (slotsOf (l .slots)) (fieldsBy l layout))
+
+-- ---- the claim
+
+-- A reading by either layout of either record: k is the cut ("k from 0 to its length; not cut, k is its length"); table, area and mark
+-- "may hold anything". Room is asked only for the values that are set, not for those of all fields: so the claim covers more readings.
+pub record Reading (l : Layouts) (packing layout : Bool) (k : ℕ) (slots area : List ℕ) (mark : ℕ) : Type 0 where
+  pub within : k ≤ length (recordOf (packedBy l packing))
+  pub sizes : T (sizesFit (textOf l layout) slots (cutRecord l packing k) area && leb mark (length area))
+  pub enough-slots : slotCount (fieldsBy l layout) ≤ length (slotsOf slots)
+  pub room : mark + length (valueBytes (due l layout k)) ≤ length area
+
+pub record ReadsBack (l : Layouts) : Type 0 where
+  -- "Both packings answer 0, the end of the last field (0 without fields), and 0."
+  pub packings : (which : Bool) → packedBy l which .answer ≡ accepted (endOf (fieldsBy l which)) 0
+  -- Every reading leaves what `putInto` says of the values due: "answers 0, the number of fields set, and the mark plus the bytes of their
+  -- values. A set slot holds its value's kind, as its start the place where the value before it ended (the mark for the first), and its
+  -- length; there the area holds the value. Surplus slots stay as lent." So do the slots of fields that are not set, and all else of the area.
+  pub readings :
+      (packing layout : Bool) (k : ℕ) (slots area : List ℕ) (mark : ℕ) → Reading l packing layout k slots area mark
+      → read (textOf l layout) (cutRecord l packing k) slots area mark ≡ putInto slots area mark (due l layout k)
+  -- and each set slot shows its value
+  pub shows :
+      (packing layout : Bool) (k : ℕ) (slots area : List ℕ) (mark : ℕ) → Reading l packing layout k slots area mark
+      → let after = read (textOf l layout) (cutRecord l packing k) slots area mark in
+      map (shown (after .area)) (take (length (due l layout k)) (slotsOf (after .slots))) ≡ due l layout k

@@ -1,0 +1,3 @@
+-- Demand 3, and worked examples of the definitions.
+pub mod Claim
+pub mod Examples

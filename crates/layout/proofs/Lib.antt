@@ -1,0 +1,5 @@
+-- Laws of layout text. Laws and Decoded are for the crates above; Steps and Turns serve `parse`.
+mod Steps
+mod Turns
+pub mod Laws
+pub mod Decoded

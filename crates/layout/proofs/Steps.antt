@@ -1,0 +1,307 @@
+-- Absent step of the layout reader, on plain values: a count, a flag, a word, and the field at a type character.
+-- Assumes nothing.
+use Prim.Native.Nat.{ℕ, zero, suc, _+_, _-_, _*_, _/_, _%_, _≤_, _<_, min}
+use native.Mathlib.Nat.{add-zero, suc-ne-zero}
+use native.Mathlib.Numerals.{add-one}
+use native.Mathlib.Omega.{arith}
+use mathlib.Core.Path.{_≡_, refl, sym, ap, _∙_}
+use mathlib.Core.Bool.{Bool, true, false, _&&_, not, and-false}
+use mathlib.Core.List.{List, [], _∷_}
+use borrow.Author.Tests.{eq-eqb, ne-eqb, le-leb, lt-leb}
+use lib.Dec.{eqb, ltb}
+use lib.ListN.{length, getD, drop, drop-of-length-le, length-drop}
+use lib.Seq.{drop-cons, drop-drop}
+use Rattle.layout.specs.declared.Code.{Code}
+use Rattle.layout.specs.declared.Code.the-variants.{Move}
+use Rattle.layout.specs.declared.Motion.the-variants.{Skip, Goto}
+use Rattle.layout.specs.declared.Count.{Count}
+use Rattle.layout.specs.declared.Count.the-variants.{Absent, Star, Times}
+use Rattle.layout.specs.declared.Field.{Field}
+use Rattle.layout.specs.declared.Typed.{Typed}
+use Rattle.layout.specs.declared.Typed.the-variants.{Known, Unknown}
+use Rattle.layout.specs.declared.Refusal.the-variants.{UnknownType, CountTooLarge, CountMisused}
+use Rattle.layout.specs.Refusals.{if_then_else_, refused}
+use Rattle.layout.specs.Layout.{isDecimal, digitRun, decimal, typeOf, takesFlag, flagged, countOf, countLength, inLimit, hasMeaning, toNat, takesSlot, field, bad, fieldAfter, fieldAt, stepOf}
+use Rattle.layout.proofs.Laws.{decimal-held}
+use Rattle.layout.specs.declared.Read.the-variants.{Item, Bad}
+use Rattle.layout.specs.Words.{typeNumbered, countFrom, known, fieldOf, wordOf, heldNumber, FitCode, FitCount, FieldOf, ReadAs}
+
+-- ---- a decimal number from the place i on
+
+module _ (s : List ℕ) (i v : ℕ) where
+  pub decimal-on : i < length s → isDecimal (getD s i 0) ≡ true → decimal v (drop i s) ≡ decimal (10 * v + (getD s i 0 - 48)) (drop (suc i) s)
+  unfolding decimal
+  decimal-on h e = rw (drop-cons s i 0, e)
+
+  pub decimal-stop : i < length s → isDecimal (getD s i 0) ≡ false → decimal v (drop i s) ≡ v
+  unfolding decimal
+  decimal-stop h e = rw (drop-cons s i 0, e)
+
+  pub decimal-end : length s ≤ i → decimal v (drop i s) ≡ v
+  unfolding decimal
+  decimal-end h = rw (drop-of-length-le s h)
+
+  -- with one digit more the number, held at 4,097, is the same
+  pub held-on : i < length s → isDecimal (getD s i 0) ≡ true
+      → min 4097 (decimal (min 4097 (10 * v + (getD s i 0 - 48))) (drop (suc i) s)) ≡ min 4097 (decimal v (drop i s))
+  held-on h e =
+      sym (decimal-held 4097 (10 * v + (getD s i 0 - 48)) (drop (suc i) s)) ∙ ap (min 4097) (sym (decimal-on h e))
+
+pub is-decimal : (c : ℕ) → 48 ≤ c → c ≤ 57 → isDecimal c ≡ true
+is-decimal c h k = rw (le-leb 48 c h, le-leb c 57 k)
+
+pub below-decimal : (c : ℕ) → c < 48 → isDecimal c ≡ false
+below-decimal c h = rw (lt-leb 48 c h)
+
+pub above-decimal : (c : ℕ) → 57 < c → isDecimal c ≡ false
+above-decimal c h = rw (lt-leb c 57 h, and-false)
+
+-- ---- the count at a place
+
+abbrev pub CountAt : List ℕ → ℕ → ℕ → ℕ → Type 0
+CountAt s at v e = (v ≡ heldNumber (countOf (drop at s))) × (e ≡ at + countLength (drop at s))
+
+module _ (s : List ℕ) (at : ℕ) where
+  pub count-end : length s ≤ at → CountAt s at 0 at
+  unfolding countOf countLength
+  count-end h = rw (drop-of-length-le s h) (refl, sym (add-zero at))
+
+  module _ (h : at < length s) where
+    pub count-star : getD s at 0 ≡ 42 → CountAt s at 1 (at + 1)
+    unfolding countOf countLength
+    count-star e = rw (drop-cons s at 0 h, eq-eqb (getD s at 0) 42 e) (refl, refl)
+
+    module _ (no-star : getD s at 0 ≡ 42 → ⊥) where
+      pub count-none : isDecimal (getD s at 0) ≡ false → CountAt s at 0 at
+      unfolding countOf countLength digitRun
+      count-none e = rw (drop-cons s at 0 h, ne-eqb (getD s at 0) 42 no-star, e) (refl, sym (add-zero at))
+
+      pub count-number : isDecimal (getD s at 0) ≡ true → (v e : ℕ) → v ≡ min 4097 (decimal 0 (drop at s)) → e ≡ at + digitRun (drop at s) → CountAt s at (v + 2) e
+      unfolding countOf countLength
+      count-number d v e p q =
+          let n : suc (suc (min 4097 (decimal 0 (drop at s)))) ≡ v + 2 = omega arith in
+          (sym n ∙ (rw (drop-cons s at 0 h, ne-eqb (getD s at 0) 42 no-star, d)), q ∙ (rw (drop-cons s at 0 h, ne-eqb (getD s at 0) 42 no-star)))
+
+-- ---- the flag at a place
+
+module _ (s : List ℕ) (at : ℕ) (k : Code) where
+  pub flag-end : length s ≤ at → false ≡ flagged k (drop at s)
+  unfolding flagged
+  flag-end h = rw (drop-of-length-le s h)
+
+  pub flag-other : at < length s → (getD s at 0 ≡ 117 → ⊥) → false ≡ flagged k (drop at s)
+  unfolding flagged
+  flag-other h e = rw (drop-cons s at 0 h, ne-eqb (getD s at 0) 117 e, and-false)
+
+  pub flag-here : at < length s → getD s at 0 ≡ 117 → takesFlag k ≡ flagged k (drop at s)
+  unfolding flagged
+  flag-here h e = rw (drop-cons s at 0 h, eq-eqb (getD s at 0) 117 e) (and-true′ (takesFlag k))
+    where
+      and-true′ : (t : Bool) → t ≡ t && true
+      and-true′ true = refl
+      and-true′ false = refl
+
+-- ---- the number of a count
+
+pub times-from : (n : ℕ) → (n ≡ 0 → ⊥) → (n ≡ 1 → ⊥) → Times (n - 2) ≡ countFrom n
+times-from zero h k = absurd (h refl)
+times-from (suc zero) h k = absurd (k refl)
+times-from (suc (suc n)) h k = let e : suc (suc n) - 2 ≡ n = omega arith in ap Times e
+
+pub skip-meaning : (packing : Bool) (n : ℕ) → (n ≡ 1 → ⊥) → true ≡ hasMeaning packing (Move Skip) (countFrom n)
+skip-meaning packing zero h = refl
+skip-meaning packing (suc zero) h = absurd (h refl)
+skip-meaning packing (suc (suc n)) h = refl
+
+pub goto-meaning : (packing : Bool) (n : ℕ) → not (eqb n 0) ≡ hasMeaning packing (Move Goto) (countFrom n)
+goto-meaning packing zero = refl
+goto-meaning packing (suc zero) = refl
+goto-meaning packing (suc (suc n)) = ap not (ne-eqb (suc (suc n)) 0 (suc-ne-zero _))
+
+pub held-over : (n : Count) → 4098 < heldNumber n → inLimit n ≡ false
+held-over Absent h = absurd (omega arith)
+held-over Star h = absurd (omega arith)
+held-over (Times n) h = lt-leb n 4096 (omega arith)
+
+pub held-within : (n : Count) → heldNumber n ≤ 4098 → (inLimit n ≡ true) × (countFrom (heldNumber n) ≡ n)
+held-within Absent h = (refl, refl)
+held-within Star h = (refl, refl)
+held-within (Times n) h = let e : min 4097 n ≡ n = omega arith in (le-leb n 4096 (omega arith), ap Times e)
+
+-- ---- a word and its field
+
+bit-of : (u : Bool) → eqb (toNat u) 1 ≡ u
+bit-of true = refl
+bit-of false = refl
+
+pub bit-le : (u : Bool) → toNat u ≤ 1
+bit-le true = omega arith
+bit-le false = omega arith
+
+pub word-field : (c : ℕ) (u : Bool) (n : ℕ) → c < 256 → fieldOf (wordOf c u n) ≡ record { code = known (typeNumbered c); unsigned = u; count = countFrom n }
+unfolding fieldOf
+word-field c u n h =
+    let small : toNat u ≤ 1 = bit-le u in
+    let low : wordOf c u n % 256 ≡ c = omega arith in
+    let upper : wordOf c u n / 256 ≡ toNat u + 2 * n = omega arith in
+    let flag : (toNat u + 2 * n) % 2 ≡ toNat u = omega arith in
+    let high : wordOf c u n / 512 ≡ n = omega arith in
+    rw (low, upper, flag, high, bit-of u)
+
+abbrev FitType : Typed → Type 0
+FitType (Known k) = FitCode k
+FitType Unknown = Unit {0}
+
+chosen : (t : Bool) (a b : Typed) → FitType a → FitType b → FitType (if t then a else b)
+chosen true a b h k = h
+chosen false a b h k = k
+
+width-fits : (a b c : Bool) → (0 < (if a then 1 else if b then 2 else if c then 4 else 8)) × ((if a then 1 else if b then 2 else if c then 4 else 8) ≤ 8)
+width-fits true b c = (omega arith, omega arith)
+width-fits false true c = (omega arith, omega arith)
+width-fits false false true = (omega arith, omega arith)
+width-fits false false false = (omega arith, omega arith)
+
+type-fits : (k : ℕ) → FitType (typeNumbered k)
+unfolding typeNumbered
+type-fits k =
+    chosen (ltb k 2) _ _ tt
+    (chosen (ltb k 6) _ _ tt
+    (chosen (ltb k 14) _ _ (width-fits (ltb k 8) (ltb k 10) (ltb k 12))
+    (chosen (eqb k 14) _ _ tt
+    (chosen (eqb k 15) _ _ tt
+    (chosen (eqb k 16) _ _ tt tt)))))
+
+known-fits : (t : Typed) → FitType t → FitCode (known t)
+known-fits (Known k) h = h
+known-fits Unknown h = tt
+
+count-fits : (n : ℕ) → n < 8388608 → FitCount (countFrom n)
+count-fits zero h = tt
+count-fits (suc zero) h = tt
+count-fits (suc (suc n)) h = omega arith
+
+pub field-fits : (w : ℕ) (f : Field) → w < 4294967296 → f ≡ fieldOf w → FieldOf w f
+unfolding fieldOf
+field-fits w f h e =
+    record { same = e; code = rw e (known-fits (typeNumbered (w % 256)) (type-fits (w % 256))); count = rw e (count-fits (w / 512) (omega arith)) }
+
+-- ---- the field at a type character
+
+module _ (packing : Bool) (p c : ℕ) (cs : List ℕ) (no-space : c ≡ 32 → ⊥) where
+  at-unknown : typeOf c ≡ Unknown → fieldAt packing p c cs ≡ refused UnknownType p
+  unfolding fieldAt
+  at-unknown e = rw (e, fieldAt)
+
+  at-known : (k : Code) → typeOf c ≡ Known k → fieldAt packing p c cs ≡ fieldAfter packing p k cs
+  unfolding fieldAt
+  at-known k e = rw (e, fieldAt)
+
+  pub step-unknown : typeOf c ≡ Unknown → stepOf packing p c cs ≡ bad UnknownType p
+  unfolding stepOf
+  step-unknown e = rw (ne-eqb c 32 no-space, at-unknown e)
+
+  module _ (k : Code) (e : typeOf c ≡ Known k) (u : Bool) (flag : u ≡ flagged k cs) (v : ℕ) (held : v ≡ heldNumber (countOf (drop (toNat u) cs))) where
+    pub step-large : 4098 < v → stepOf packing p c cs ≡ bad CountTooLarge p
+    unfolding stepOf fieldAfter
+    step-large h =
+        let n : Count = countOf (drop (toNat u) cs) in
+        let over : inLimit n ≡ false = held-over n (omega arith) in
+        rw (ne-eqb c 32 no-space, at-known k e, ← flag, over)
+
+    module _ (within : v ≤ 4098) where
+      pub step-meaningless : hasMeaning packing k (countFrom v) ≡ false → stepOf packing p c cs ≡ bad CountMisused p
+      unfolding stepOf fieldAfter
+      step-meaningless m =
+          let n : Count = countOf (drop (toNat u) cs) in
+          let w : (inLimit n ≡ true) × (countFrom (heldNumber n) ≡ n) = held-within n (omega arith) in
+          let same : countFrom v ≡ n = ap countFrom held ∙ w .1 in
+          rw (ne-eqb c 32 no-space, at-known k e, ← flag, w .0, ← same, m)
+
+      pub step-field : (d : ℕ) → d < 256 → typeNumbered d ≡ Known k → hasMeaning packing k (countFrom v) ≡ true
+          → stepOf packing p c cs ≡ field (fieldOf (wordOf d u v)) (toNat u + countLength (drop (toNat u) cs))
+      unfolding stepOf fieldAfter
+      step-field d h type m =
+          let n : Count = countOf (drop (toNat u) cs) in
+          let w : (inLimit n ≡ true) × (countFrom (heldNumber n) ≡ n) = held-within n (omega arith) in
+          let same : countFrom v ≡ n = ap countFrom held ∙ w .1 in
+          rw (ne-eqb c 32 no-space, at-known k e, ← flag, w .0, ← same, m, word-field d u v h, type)
+
+-- ---- a field lies inside the text
+
+run-within : (cs : List ℕ) → digitRun cs ≤ length cs
+unfolding digitRun
+run-within [] = omega arith
+run-within (c ∷ cs) = step (isDecimal c) (run-within cs)
+  where
+    step : (t : Bool) → digitRun cs ≤ length cs → (if t then suc (digitRun cs) else 0) ≤ suc (length cs)
+    step true h = omega arith
+    step false h = omega arith
+
+count-within : (cs : List ℕ) → countLength cs ≤ length cs
+unfolding countLength
+count-within [] = omega arith
+count-within (c ∷ cs) = step (eqb c 42) (run-within (c ∷ cs))
+  where
+    step : (t : Bool) → digitRun (c ∷ cs) ≤ length (c ∷ cs) → (if t then 1 else digitRun (c ∷ cs)) ≤ length (c ∷ cs)
+    step true h = omega arith
+    step false h = h
+
+flag-within : (k : Code) (cs : List ℕ) → toNat (flagged k cs) ≤ length cs
+unfolding flagged
+flag-within k [] = omega arith
+flag-within k (c ∷ cs) = omega (arith, bit-le (takesFlag k && eqb c 117))
+
+-- ---- what `read_field` has seen when the count is read: the type k and its number d, the flag u (b as a number), the count's number v, and the place e after it
+
+pub record Seen (text : List ℕ) (p : ℕ) (k : Code) (d : ℕ) (u : Bool) (b v e : ℕ) : Type 0 where
+  pub start : p < length text
+  pub small : d < 256
+  pub numbered : typeNumbered d ≡ Known k
+  pub no-space : getD text p 0 ≡ 32 → ⊥
+  pub type : typeOf (getD text p 0) ≡ Known k
+  pub flag : u ≡ flagged k (drop (p + 1) text)
+  pub bit : b ≡ toNat u
+  pub count : CountAt text (p + 1 + b) v e
+
+module _ (packing : Bool) (text : List ℕ) (p : ℕ) (k : Code) (d : ℕ) (u : Bool) (b v e : ℕ) (s : Seen text p k d u b v e) where
+  here : u ≡ flagged k (drop (suc p) text)
+  here = rw add-one at (s .flag)
+
+  place : p + 1 + b ≡ suc p + toNat u
+  place = omega (arith, s .bit)
+
+  tail : drop (p + 1 + b) text ≡ drop (toNat u) (drop (suc p) text)
+  tail = ap (λ (i : ℕ). drop i text) place ∙ sym (drop-drop (toNat u) (suc p) text)
+
+  number : v ≡ heldNumber (countOf (drop (toNat u) (drop (suc p) text)))
+  number = s .count .0 ∙ ap (λ (cs : List ℕ). heldNumber (countOf cs)) tail
+
+  pub read-large : 4098 < v → ReadAs packing text p (Bad CountTooLarge)
+  read-large h =
+      record { step = step-large packing p _ _ (s .no-space) k (s .type) u here v number h; told = tt }
+
+  pub read-meaningless : v ≤ 4098 → hasMeaning packing k (countFrom v) ≡ false → ReadAs packing text p (Bad CountMisused)
+  read-meaningless h m =
+      record { step = step-meaningless packing p _ _ (s .no-space) k (s .type) u here v number h m; told = tt }
+
+  more : e - (p + 1) ≡ toNat u + countLength (drop (toNat u) (drop (suc p) text))
+  more =
+      let l : countLength (drop (p + 1 + b) text) ≡ countLength (drop (toNat u) (drop (suc p) text)) = ap countLength tail in
+      omega (arith, s .count .1, s .bit)
+
+  inside : e ≤ length text
+  inside =
+      let f : toNat u ≤ length text - suc p = rw (here, ← length-drop) (flag-within k (drop (suc p) text)) in
+      let l : countLength (drop (p + 1 + b) text) ≤ length text - (p + 1 + b) = rw (← length-drop) (count-within (drop (p + 1 + b) text)) in
+      omega (arith, s .count .1, s .bit, s .start)
+
+  pub read-item : v ≤ 4098 → hasMeaning packing k (countFrom v) ≡ true → (t : ℕ) → t ≡ toNat (takesSlot k)
+      → ReadAs packing text p (Item (d + 256 * b + 512 * v) (e - (p + 1)) t)
+  read-item h m t slot =
+      let w : d + 256 * b + 512 * v ≡ wordOf d u v = ap (λ (x : ℕ). d + 256 * x + 512 * v) (s .bit) in
+      let code : known (typeNumbered d) ≡ k = ap known (s .numbered) in
+      record {
+        step = rw (w, more) (step-field packing p _ _ (s .no-space) k (s .type) u here v number h d (s .small) (s .numbered) m);
+        told = (slot ∙ (rw (w, word-field d u v (s .small), code)), omega (arith, inside, s .start, s .count .1));
+      }

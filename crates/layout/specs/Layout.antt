@@ -1,0 +1,181 @@
+-- The text of a layout (document 01, "Layout text", and lines 2, 3 and 4 of its table): from bytes to fields.
+-- The types Code, Shape, Motion, Count and Field are the source's. A text is the list of its bytes, and a place is an index into it.
+use Prim.Native.Nat.{ℕ, zero, suc, _+_, _-_, _*_}
+use mathlib.Core.Bool.{Bool, true, false, _&&_, not}
+use mathlib.Core.List.{List, [], _∷_}
+use lib.ListN.{drop}
+use lib.Dec.{eqb, leb}
+use Rattle.layout.specs.declared.Code.{Code}
+use Rattle.layout.specs.declared.Code.the-variants.{Data, Move}
+use Rattle.layout.specs.declared.Motion.the-variants.{Skip, Back, Goto}
+use Rattle.layout.specs.declared.Shape.the-variants.{Text, Digits, Integers}
+use Rattle.layout.specs.declared.Count.{Count}
+use Rattle.layout.specs.declared.Count.the-variants.{Absent, Star, Times}
+use Rattle.layout.specs.declared.Field.{Field}
+use Rattle.layout.specs.declared.Typed.{Typed}
+use Rattle.layout.specs.declared.Typed.the-variants.{Known, Unknown}
+use Rattle.layout.specs.declared.Refusal.{Refusal}
+use Rattle.layout.specs.declared.Refusal.the-variants.{UnknownType, CountTooLarge, CountMisused}
+use Rattle.layout.specs.Refusals.{if_then_else_, Result, ok, refused, _>>=_, demand}
+
+-- ---- the limits ("Slot tables", sizes)
+
+-- "layout at most 256 bytes"
+abbrev pub maxLayout : ℕ
+maxLayout = 256
+
+-- "a count at most 4,096"
+abbrev pub maxCount : ℕ
+maxCount = 4096
+
+-- ---- the type characters ("What the work covers": `a A b B h H c s S i I w W x X @`)
+
+-- the pad of a text; hex or binary digits, high or low digit first; an integer's bytes, big- or little-endian
+unfoldable pub typeOf : ℕ → Typed
+typeOf c =
+    if eqb c 97 then Known (Data (Text 0))  -- a
+    else if eqb c 65 then Known (Data (Text 32))  -- A
+    else if eqb c 98 then Known (Data (Digits false false))  -- b
+    else if eqb c 66 then Known (Data (Digits false true))  -- B
+    else if eqb c 104 then Known (Data (Digits true false))  -- h
+    else if eqb c 72 then Known (Data (Digits true true))  -- H
+    else if eqb c 99 then Known (Data (Integers 1 false))  -- c
+    else if eqb c 115 then Known (Data (Integers 2 false))  -- s
+    else if eqb c 83 then Known (Data (Integers 2 true))  -- S
+    else if eqb c 105 then Known (Data (Integers 4 false))  -- i
+    else if eqb c 73 then Known (Data (Integers 4 true))  -- I
+    else if eqb c 119 then Known (Data (Integers 8 false))  -- w
+    else if eqb c 87 then Known (Data (Integers 8 true))  -- W
+    else if eqb c 120 then Known (Move Skip)  -- x
+    else if eqb c 88 then Known (Move Back)  -- X
+    else if eqb c 64 then Known (Move Goto)  -- @
+    else Unknown
+
+-- "The flag is accepted after `c s S i I w W`"
+abbrev pub takesFlag : Code → Bool
+takesFlag (Data (Text pad)) = false
+takesFlag (Data (Digits hex high)) = false
+takesFlag (Data (Integers w big)) = true
+takesFlag (Move m) = false
+
+-- "`x X @` take no slot; every other field takes the next one."
+abbrev pub takesSlot : Code → Bool
+takesSlot (Data s) = true
+takesSlot (Move m) = false
+
+-- 1 for true, 0 for false
+abbrev pub toNat : Bool → ℕ
+toNat true = 1
+toNat false = 0
+
+-- ---- a field's flag and count, at the front of the bytes that follow its type character
+
+-- the flag `u` (byte 117) stands in front, after a type that takes it
+unfoldable pub flagged : Code → List ℕ → Bool
+flagged k [] = false
+flagged k (c ∷ cs) = takesFlag k && eqb c 117
+
+abbrev pub isDecimal : ℕ → Bool
+isDecimal c = leb 48 c && leb c 57
+
+-- how many decimal digits stand in front
+unfoldable pub digitRun : List ℕ → ℕ
+digitRun [] = 0
+digitRun (c ∷ cs) = if isDecimal c then suc (digitRun cs) else 0
+
+-- the number that those digits make, after digits that made `before`; leading zeros change nothing
+unfoldable pub decimal : ℕ → List ℕ → ℕ
+decimal before [] = before
+decimal before (c ∷ cs) = if isDecimal c then decimal (10 * before + (c - 48)) cs else before
+
+-- the count in front, `*` (byte 42) or digits, and how many bytes it takes
+unfoldable pub countOf : List ℕ → Count
+unfolding decimal
+countOf [] = Absent
+countOf (c ∷ cs) = if eqb c 42 then Star else if isDecimal c then Times (decimal 0 (c ∷ cs)) else Absent
+
+unfoldable pub countLength : List ℕ → ℕ
+unfolding digitRun
+countLength [] = 0
+countLength (c ∷ cs) = if eqb c 42 then 1 else digitRun (c ∷ cs)
+
+-- line 3 is not due
+abbrev pub inLimit : Count → Bool
+inLimit Absent = true
+inLimit Star = true
+inLimit (Times n) = leb n maxCount
+
+-- line 4 is not due: `@` has a count, and in packing `x` has no star
+abbrev pub hasMeaning : Bool → Code → Count → Bool
+hasMeaning packing (Data s) n = true
+hasMeaning packing (Move Skip) Absent = true
+hasMeaning packing (Move Skip) Star = not packing
+hasMeaning packing (Move Skip) (Times n) = true
+hasMeaning packing (Move Back) n = true
+hasMeaning packing (Move Goto) Absent = false
+hasMeaning packing (Move Goto) Star = true
+hasMeaning packing (Move Goto) (Times n) = true
+
+-- ---- fields
+
+-- what stands at a place: a space, or a field and how many bytes follow its type character, or a refusal
+pub data Step : Type 0 where
+  space : Step
+  field : Field → ℕ → Step
+  bad : Refusal → ℕ → Step
+
+abbrev pub stepFrom : Result (Field × ℕ) → Step
+stepFrom (ok f) = field (f .0) (f .1)
+stepFrom (refused why place) = bad why place
+
+-- the field of type k at the place `at`, whose flag and count stand in front of cs; and how many bytes those take
+unfoldable pub fieldAfter : Bool → ℕ → Code → List ℕ → Result (Field × ℕ)
+unfolding flagged countOf countLength
+fieldAfter packing at k cs = do
+  let u = flagged k cs
+  let rest = drop (toNat u) cs
+  let n = countOf rest
+  _ ← demand (inLimit n) CountTooLarge at
+  _ ← demand (hasMeaning packing k n) CountMisused at
+  ok (record { code = k; unsigned = u; count = n }, toNat u + countLength rest)
+
+-- the field whose type character c stands at the place `at`, followed by cs
+unfoldable pub fieldAt : Bool → ℕ → ℕ → List ℕ → Result (Field × ℕ)
+unfolding typeOf fieldAfter
+fieldAt packing at c cs = elim (typeOf c) [ Known k ↦ fieldAfter packing at k cs | Unknown ↦ refused UnknownType at ]
+
+unfoldable pub stepOf : Bool → ℕ → ℕ → List ℕ → Step
+unfolding fieldAt
+stepOf packing at c cs = if eqb c 32 then space else stepFrom (fieldAt packing at c cs)
+
+-- how many bytes after the one at its place a step takes
+abbrev pub extra : Step → ℕ
+extra space = 0
+extra (field f n) = n
+extra (bad why place) = 0
+
+-- a step in front of the fields that follow
+abbrev pub before : Step → Result (List Field) → Result (List Field)
+before space rest = rest
+before (field f n) rest = rest >>= (λ fs. ok (f ∷ fs))
+before (bad why place) rest = refused why place
+
+-- the fields of the text from the place `at` on, after its next n bytes, which belong to the field before
+unfoldable pub fieldsFrom : Bool → ℕ → ℕ → List ℕ → Result (List Field)
+unfolding stepOf
+fieldsFrom packing at n [] = ok []
+fieldsFrom packing at (suc n) (c ∷ cs) = fieldsFrom packing (suc at) n cs
+fieldsFrom packing at zero (c ∷ cs) =
+    let s = stepOf packing at c cs in
+    let rest = fieldsFrom packing (suc at) (extra s) cs in
+    before s rest
+
+-- THE FIELDS OF A LAYOUT, for packing (true) or reading (false), or the first refusal from the left
+unfoldable pub fieldsOf : Bool → List ℕ → Result (List Field)
+unfolding fieldsFrom
+fieldsOf packing text = fieldsFrom packing 0 0 text
+
+-- how many of the fields take a slot
+unfoldable pub slotCount : List Field → ℕ
+slotCount [] = 0
+slotCount (f ∷ fs) = if takesSlot (f .code) then suc (slotCount fs) else slotCount fs

@@ -1,0 +1,134 @@
+-- The layout reader's promise: a field as one number, a word, and what `parse` answers and writes. Packer and reader rely on this alone
+-- (document 01, "Layout text": "they rely on its promise alone").
+use Prim.Native.Nat.{ℕ, zero, suc, _+_, _*_, _/_, _%_, _≤_, _<_, min}
+use mathlib.Core.Path.{_≡_}
+use mathlib.Core.Bool.{Bool}
+use mathlib.Core.List.{List, map}
+use lib.ListN.{length, take, drop, getD}
+use lib.Dec.{eqb, leb, ltb}
+use Rattle.layout.specs.declared.Code.{Code}
+use Rattle.layout.specs.declared.Code.the-variants.{Data, Move}
+use Rattle.layout.specs.declared.Motion.the-variants.{Skip, Back, Goto}
+use Rattle.layout.specs.declared.Shape.the-variants.{Text, Digits, Integers}
+use Rattle.layout.specs.declared.Count.{Count}
+use Rattle.layout.specs.declared.Count.the-variants.{Absent, Star, Times}
+use Rattle.layout.specs.declared.Field.{Field}
+use Rattle.layout.specs.declared.Typed.{Typed}
+use Rattle.layout.specs.declared.Typed.the-variants.{Known, Unknown}
+use Rattle.layout.specs.declared.Parsed.{Parsed}
+use Rattle.layout.specs.declared.Parsed.the-variants.{Fields, Refused}
+use Rattle.layout.specs.declared.Read.{Read}
+use Rattle.layout.specs.declared.Read.the-variants.{Item, Bad}
+use Rattle.layout.specs.Refusals.{if_then_else_, Result, ok, refused}
+use Rattle.layout.specs.Layout.{toNat, takesSlot, Step, field, bad, stepOf, fieldsFrom, slotCount}
+
+-- ---- the types by number
+
+abbrev pub widthNumbered : ℕ → ℕ
+widthNumbered k = if ltb k 8 then 1 else if ltb k 10 then 2 else if ltb k 12 then 4 else 8
+
+unfoldable pub typeNumbered : ℕ → Typed
+typeNumbered k =
+    if ltb k 2 then Known (Data (Text (32 * k)))
+    else if ltb k 6 then Known (Data (Digits (leb 4 k) (eqb (k % 2) 1)))
+    else if ltb k 14 then Known (Data (Integers (widthNumbered k) (eqb (k % 2) 1)))
+    else if eqb k 14 then Known (Move Skip)
+    else if eqb k 15 then Known (Move Back)
+    else if eqb k 16 then Known (Move Goto)
+    else Unknown
+
+-- ---- a word: the number of the type, 256 for the flag, 512 for each unit of the count's number
+
+-- a count as a number: 0 for none, 1 for a star, n + 2 for n
+abbrev pub countFrom : ℕ → Count
+countFrom zero = Absent
+countFrom (suc zero) = Star
+countFrom (suc (suc n)) = Times n
+
+-- the type of a number; no word that `parse` writes has an unknown one, which stands here as X
+abbrev pub known : Typed → Code
+known (Known k) = k
+known Unknown = Move Back
+
+unfoldable pub fieldOf : ℕ → Field
+unfolding typeNumbered
+fieldOf w = record { code = known (typeNumbered (w % 256)); unsigned = eqb (w / 256 % 2) 1; count = countFrom (w / 512) }
+
+-- what every word's field keeps to: an integer has 1 to 8 bytes, and a count is far from wrapping
+abbrev pub FitCode : Code → Type 0
+FitCode (Data (Text pad)) = Unit {0}
+FitCode (Data (Digits hex high)) = Unit {0}
+FitCode (Data (Integers w big)) = (0 < w) × (w ≤ 8)
+FitCode (Move m) = Unit {0}
+
+abbrev pub FitCount : Count → Type 0
+FitCount Absent = Unit {0}
+FitCount Star = Unit {0}
+FitCount (Times n) = n < 8388608
+
+pub record FieldOf (w : ℕ) (f : Field) : Type 0 where
+  pub same : f ≡ fieldOf w
+  pub code : FitCode (f .code)
+  pub count : FitCount (f .count)
+
+abbrev pub wordOf : ℕ → Bool → ℕ → ℕ
+wordOf c u n = c + 256 * toNat u + 512 * n
+
+-- the fields in the first n words
+unfoldable pub decoded : ℕ → List ℕ → List Field
+unfolding fieldOf
+decoded n ws = map fieldOf (take n ws)
+
+-- ---- what `parse` promises
+
+-- the slots that one field takes
+abbrev pub slotsTaken : Field → ℕ
+slotsTaken f = toNat (takesSlot (f .code))
+
+abbrev pub parsedAs : Result (List Field) → Parsed
+parsedAs (ok fs) = Fields (length fs) (slotCount fs)
+parsedAs (refused n p) = Refused n p
+
+abbrev pub Decodes : Result (List Field) → List ℕ → Type 0
+Decodes (ok fs) ws = decoded (length fs) ws ≡ fs
+Decodes (refused n p) ws = Unit {0}
+
+-- the answer is that of the definition, and the first words are the fields; the other words may be anything
+pub record Parses (o : Result (List Field)) (r : Parsed) (ws : List ℕ) : Type 0 where
+  pub answer : r ≡ parsedAs o
+  pub words : Decodes o ws
+  pub room : length ws ≡ 256
+
+-- ---- inside `parse`
+
+-- the fields that are still to come of a text from the place `at` on
+unfoldable pub rest : Bool → List ℕ → ℕ → Result (List Field)
+unfolding fieldsFrom
+rest packing text at = fieldsFrom packing at 0 (drop at text)
+
+-- r is the first place from `at` on that is no space, and the fields from there are those from `at`
+pub record SpacesEnd (text : List ℕ) (at r : ℕ) : Type 0 where
+  pub from : at ≤ r
+  pub within : r ≤ length text
+  pub same : (packing : Bool) → rest packing text at ≡ rest packing text r
+  pub stops : r < length text → getD text r 0 ≡ 32 → ⊥
+
+-- the step that an answer of `read_field` stands for, at the place p
+abbrev pub stepBy : ℕ → Read → Step
+stepBy p (Item w m k) = field (fieldOf w) m
+stepBy p (Bad n) = bad n p
+
+-- its slots are those of its field, and it ends inside a text of so many bytes
+abbrev pub Told : ℕ → ℕ → Read → Type 0
+Told size p (Item w m k) = (k ≡ slotsTaken (fieldOf w)) × (p + m < size)
+Told size p (Bad n) = Unit {0}
+
+pub record ReadAs (packing : Bool) (text : List ℕ) (p : ℕ) (r : Read) : Type 0 where
+  pub step : stepOf packing p (getD text p 0) (drop (suc p) text) ≡ stepBy p r
+  pub told : Told (length text) p r
+
+-- a count's number, with a count above 4,096 held at 4,097
+abbrev pub heldNumber : Count → ℕ
+heldNumber Absent = 0
+heldNumber Star = 1
+heldNumber (Times n) = suc (suc (min 4097 n))

@@ -1,0 +1,202 @@
+-- The packer (document 01, "Packing", and the table of numbers): THE EFFECT OF A CALL is `pack`, at the end.
+use Prim.Native.Nat.{ℕ, zero, suc, _+_, _-_, _*_, _/_, _%_}
+use mathlib.Core.Bool.{Bool, true, false, _&&_, not}
+use mathlib.Core.List.{List, [], _∷_, _++_, map}
+use lib.ListN.{length, take, drop, replicate}
+use lib.Dec.{eqb, leb, ltb}
+use Rattle.layout.specs.declared.Code.{Code}
+use Rattle.layout.specs.declared.Code.the-variants.{Data, Move}
+use Rattle.layout.specs.declared.Motion.the-variants.{Skip, Back, Goto}
+use Rattle.layout.specs.declared.Shape.{Shape}
+use Rattle.layout.specs.declared.Shape.the-variants.{Text, Digits, Integers}
+use Rattle.layout.specs.declared.Count.{Count}
+use Rattle.layout.specs.declared.Count.the-variants.{Absent, Star, Times}
+use Rattle.layout.specs.declared.Field.{Field}
+use Rattle.layout.specs.declared.Refusal.{Refusal}
+use Rattle.layout.specs.declared.Refusal.the-variants.{BadSize, WrongSlots, NotSet, BadSlot, WrongKind, WrongAmount, BadDigit, NoRoom}
+use Rattle.layout.specs.Refusals.{if_then_else_, numberOf, Result, ok, refused, _>>=_, demand}
+use Rattle.layout.specs.Layout.{isDecimal, fieldsOf, slotCount}
+use Rattle.record.specs.declared.Answer.{Answer}
+use Rattle.record.specs.declared.Cursor.{Cursor}
+use Rattle.record.specs.Bytes.{storeAt, fit, ceilDiv, pieces, join, digits, number, ordered}
+use Rattle.record.specs.Table.{Slot, slotsOf, itemSize, shown}
+use Rattle.record.specs.Geometry.{amount, base, perByte, backFrom, gotoIn, sizesFit}
+
+-- ---- what a field stores of its argument's items
+
+-- the value of a digit's character, of either case; 16 where it is none
+unfoldable pub digitValue : ℕ → ℕ
+digitValue c =
+    if isDecimal c then c - 48
+    else if leb 65 c && leb c 70 then c - 55
+    else if leb 97 c && leb c 102 then c - 87
+    else 16
+
+-- `b B h H`: n digits; missing ones and the spare ones of the last byte are 0 (byte 48), further ones are not looked at
+unfoldable pub digitBytes : Bool → Bool → ℕ → List ℕ → List ℕ
+unfolding pieces digitValue number fit
+digitBytes hex high n cs =
+    let m = ceilDiv n (perByte hex) in
+    map (λ p. number (base hex) (ordered high p)) (pieces (perByte hex) m (map digitValue (fit (m * perByte hex) 48 (take n cs))))
+
+-- `c s S i I w W`: the w low-order bytes of each of the first n integers
+unfoldable pub lowBytes : ℕ → Bool → ℕ → List ℕ → List ℕ
+unfolding join digits
+lowBytes w big n xs = join (map (λ x. ordered big (digits 256 w x)) (take n xs))
+
+-- the bytes of a field of n items
+unfoldable pub stored : Shape → ℕ → List ℕ → List ℕ
+unfolding fit digitBytes lowBytes
+stored (Text pad) n xs = fit n pad xs
+stored (Digits hex high) n xs = digitBytes hex high n xs
+stored (Integers w big) n xs = lowBytes w big n xs
+
+-- ---- the run over the fields
+
+-- The bytes up to the highest position reached, which are the result so far, and the cursor's position, which is never past them.
+pub record Run : Type 0 where
+  pub out : List ℕ
+  pub at : ℕ
+
+-- "starts at 0"
+abbrev pub start : Run
+start = record { out = []; at = 0 }
+
+-- the code's cursor of a run: its position, and the highest one reached
+abbrev pub cursorOf : Run → Cursor
+cursorOf r = record { at = r .at; end = length (r .out) }
+
+abbrev pub store : Run → List ℕ → Run
+store r bs = record { out = storeAt (r .out) (r .at) bs; at = r .at + length bs }
+
+-- `@`: "bytes never stored are zero"
+abbrev pub goto : Run → Count → Run
+goto r n =
+    let at = gotoIn (length (r .out)) n in
+    record { out = r .out ++ replicate (at - length (r .out)) 0; at = at }
+
+-- one field, with the items of its argument
+unfoldable pub packOne : Run → Code → Count → List ℕ → Run
+unfolding stored
+packOne r (Data s) n xs = store r (stored s (amount n (length xs)) xs)
+packOne r (Move Skip) n xs = store r (replicate (amount n 0) 0)
+packOne r (Move Back) n xs = record { out = r .out; at = backFrom (r .at) n }
+packOne r (Move Goto) n xs = goto r n
+
+-- a field and the items of its argument (none for `x X @`)
+pub record Filled : Type 0 where
+  pub field : Field
+  pub items : List ℕ
+
+unfoldable pub packAll : Run → List Filled → Run
+unfolding packOne
+packAll r [] = r
+packAll r (f ∷ fs) = packAll (packOne r (f .field .code) (f .field .count) (f .items)) fs
+
+-- the result
+unfoldable pub packed : List Filled → List ℕ
+unfolding packAll
+packed fs = packAll start fs .out
+
+-- ---- the arguments: lines 6 to 10
+
+-- line 8 is not due: a string for `a A b B h H`, integers for the others
+abbrev pub kindFits : Shape → ℕ → Bool
+kindFits (Text pad) k = eqb k 1
+kindFits (Digits hex high) k = eqb k 1
+kindFits (Integers w big) k = not (eqb k 1)
+
+-- line 9 is not due: "No count: the slot holds exactly one integer. Count n: at least n"
+abbrev pub enough : Count → ℕ → Bool
+enough Absent have = eqb have 1
+enough Star have = true
+enough (Times n) have = leb n have
+
+abbrev pub amountFits : Shape → Count → ℕ → Bool
+amountFits (Text pad) n have = true
+amountFits (Digits hex high) n have = true
+amountFits (Integers w big) n have = enough n have
+
+-- line 10 is not due: each digit that is looked at is one
+unfoldable pub allDigits : Bool → List ℕ → Bool
+unfolding digitValue
+allDigits hex [] = true
+allDigits hex (c ∷ cs) = ltb (digitValue c) (base hex) && allDigits hex cs
+
+unfoldable pub digitsFit : Shape → ℕ → List ℕ → Bool
+unfolding allDigits
+digitsFit (Text pad) n cs = true
+digitsFit (Digits hex high) n cs = allDigits hex (take n cs)
+digitsFit (Integers w big) n cs = true
+
+-- "A value is inside the area when its start plus its bytes is at most the area's length"
+abbrev pub insideArea : List ℕ → Slot → Bool
+insideArea area a = leb (a .start + a .len * itemSize (a .kind)) (length area)
+
+-- slot number i serves a field: the lines in number order
+unfoldable pub argumentFits : List ℕ → Shape → Count → ℕ → Slot → Result (Unit {0})
+unfolding shown digitsFit
+argumentFits area s n i a = do
+  _ ← demand (not (eqb (a .kind) 0)) NotSet i
+  _ ← demand (leb (a .kind) 3 && insideArea area a) BadSlot i
+  _ ← demand (kindFits s (a .kind)) WrongKind i
+  _ ← demand (amountFits s n (a .len)) WrongAmount i
+  demand (digitsFit s (amount n (a .len)) (shown area a .items)) BadDigit i
+
+-- the next slot; there is one, once line 5 is passed
+abbrev pub nextSlot : List Slot → Slot
+nextSlot [] = record { kind = 0; start = 0; len = 0 }
+nextSlot (t ∷ ts) = t
+
+-- slot by slot from number i on, each against its field
+unfoldable pub argumentsFit : List ℕ → ℕ → List Slot → List Field → Result (Unit {0})
+unfolding argumentFits
+argumentsFit area i ts [] = ok tt
+argumentsFit area i ts (f ∷ fs) = elim (f .code) [
+  | Data s ↦ argumentFits area s (f .count) i (nextSlot ts) >>= (λ _. argumentsFit area (suc i) (drop 1 ts) fs)
+  | Move m ↦ argumentsFit area i ts fs
+]
+
+-- the fields with the items of their arguments
+unfoldable pub filled : List ℕ → List Slot → List Field → List Filled
+unfolding shown
+filled area ts [] = []
+filled area ts (f ∷ fs) = elim (f .code) [
+  | Data s ↦ record { field = f; items = shown area (nextSlot ts) .items } ∷ filled area (drop 1 ts) fs
+  | Move m ↦ record { field = f; items = [] } ∷ filled area ts fs
+]
+
+-- ---- the call
+
+-- "Accepted: 0, .." and "Refused: number, place, 0"
+abbrev pub accepted : ℕ → ℕ → Answer
+accepted first second = record { number = 0; first = first; second = second }
+
+abbrev pub refusal : Refusal → ℕ → Answer
+refusal why place = record { number = numberOf why; first = place; second = 0 }
+
+-- the result, or the first line of the table that holds, in 01's order
+unfoldable pub packs : List ℕ → List ℕ → List ℕ → List ℕ → Result (List ℕ)
+unfolding fieldsOf argumentsFit filled packed slotCount slotsOf
+packs layout slots area output = do
+  _ ← demand (sizesFit layout slots output area) BadSize 0
+  fs ← fieldsOf true layout
+  _ ← demand (eqb (length (slotsOf slots)) (slotCount fs)) WrongSlots 0
+  _ ← argumentsFit area 0 (slotsOf slots) fs
+  let bs = packed (filled area (slotsOf slots) fs)
+  _ ← demand (leb (length bs) (length output)) NoRoom 0
+  ok bs
+
+-- all that a call of the packer leaves: its answer and the output buffer
+pub record Packed : Type 0 where
+  pub answer : Answer
+  pub output : List ℕ
+
+-- "After an accepted packing, bytes past the result stay as lent"; a refusal changes nothing
+abbrev pub packEffect : List ℕ → Result (List ℕ) → Packed
+packEffect output (ok bs) = record { answer = accepted (length bs) 0; output = bs ++ drop (length bs) output }
+packEffect output (refused why place) = record { answer = refusal why place; output = output }
+
+unfoldable pub pack : List ℕ → List ℕ → List ℕ → List ℕ → Packed
+unfolding packs
+pack layout slots area output = packEffect output (packs layout slots area output)

@@ -1,0 +1,106 @@
+-- The reader (document 01, "Reading", and the table of numbers): THE EFFECT OF A CALL is `read`, at the end.
+use Prim.Native.Nat.{ℕ, zero, suc, _+_, _-_, _*_, _^_}
+use mathlib.Core.Bool.{Bool, true, false, _&&_, _||_}
+use mathlib.Core.List.{List, [], _∷_, _++_, map}
+use lib.ListN.{length, take, drop}
+use lib.Dec.{eqb, leb, ltb}
+use Rattle.layout.specs.declared.Code.{Code}
+use Rattle.layout.specs.declared.Code.the-variants.{Data, Move}
+use Rattle.layout.specs.declared.Shape.{Shape}
+use Rattle.layout.specs.declared.Shape.the-variants.{Text, Digits, Integers}
+use Rattle.layout.specs.declared.Field.{Field}
+use Rattle.layout.specs.declared.Refusal.the-variants.{BadSize, WrongSlots, NoRoom}
+use Rattle.layout.specs.Refusals.{if_then_else_, Result, ok, refused, _>>=_, demand}
+use Rattle.layout.specs.Layout.{fieldsOf, slotCount}
+use Rattle.record.specs.declared.Answer.{Answer}
+use Rattle.record.specs.Bytes.{part, storeAt, pieces, join, digits, number, ordered}
+use Rattle.record.specs.Table.{slotsOf, Value, areaBytes, slotWidth, slotNumbers, valueBytes}
+use Rattle.record.specs.Geometry.{amount, base, perByte, bytesFor, itemsIn, movedIn, sizesFit}
+use Rattle.record.specs.Packing.{accepted, refusal}
+
+-- ---- the value that a field's bytes show
+
+-- "trailing spaces and zero bytes dropped"
+abbrev pub isBlank : ℕ → Bool
+isBlank c = eqb c 0 || eqb c 32
+
+unfoldable pub trimmed : List ℕ → List ℕ
+trimmed [] = []
+trimmed (c ∷ cs) = onto c (trimmed cs)
+  where
+    onto : ℕ → List ℕ → List ℕ
+    onto c [] = if isBlank c then [] else (c ∷ [])
+    onto c (d ∷ ds) = c ∷ d ∷ ds
+
+-- the character of a digit, "hex in lower case"
+unfoldable pub digitChar : ℕ → ℕ
+digitChar d = if ltb d 10 then d + 48 else (d + 87)
+
+-- the number below 2 ^ 64 for the w bytes that make u: u itself, or the two's complement of the negative number that u stands for
+unfoldable pub widened : ℕ → Bool → ℕ → ℕ
+widened w unsigned u = if unsigned || ltb (2 * u) (256 ^ w) then u else (u + (2 ^ 64 - 256 ^ w))
+
+-- the value of n items in a field's bytes bs
+unfoldable pub loaded : Shape → Bool → ℕ → List ℕ → Value
+unfolding trimmed digitChar widened join digits pieces number
+loaded (Text pad) u n bs = record { kind = 1; items = if eqb pad 32 then trimmed bs else bs }
+loaded (Digits hex high) u n bs =
+    record { kind = 1; items = take n (map digitChar (join (map (λ b. ordered high (digits (base hex) (perByte hex) b)) bs))) }
+loaded (Integers w big) u n bs =
+    record {
+      kind = if u then 3 else 2;
+      items = map (λ p. widened w u (number 256 (ordered big p))) (pieces w n bs);
+    }
+
+-- ---- the run over the fields
+
+-- the values of the fields from the place `at` on, up to the first that needs more bytes than remain
+unfoldable pub valuesFrom : List ℕ → ℕ → List Field → List Value
+unfolding loaded
+valuesFrom bs at [] = []
+valuesFrom bs at (f ∷ fs) = elim (f .code) [
+  | Data s ↦
+      let left = length bs - at in
+      let n = amount (f .count) (itemsIn s left) in
+      let need = bytesFor s n in
+      if leb need left then loaded s (f .unsigned) n (part bs at need) ∷ valuesFrom bs (at + need) fs else []
+  | Move m ↦ valuesFrom bs (movedIn (length bs) m (f .count) at) fs
+]
+
+-- ---- the call
+
+-- the values that a layout shows of a record, or the first line of the table that holds, in 01's order
+unfoldable pub reads : List ℕ → List ℕ → List ℕ → List ℕ → ℕ → Result (List Value)
+unfolding fieldsOf slotsOf slotCount valuesFrom valueBytes
+reads layout bs slots area mark = do
+  _ ← demand (sizesFit layout slots bs area && leb mark (length area)) BadSize 0
+  fs ← fieldsOf false layout
+  _ ← demand (leb (slotCount fs) (length (slotsOf slots))) WrongSlots 0
+  let vs = valuesFrom bs 0 fs
+  _ ← demand (leb (mark + length (valueBytes vs)) (length area)) NoRoom 0
+  ok vs
+
+-- all that a call of the reader leaves: its answer, the slots and the area
+pub record Read : Type 0 where
+  pub answer : Answer
+  pub slots : List ℕ
+  pub area : List ℕ
+
+-- values put into a table and an area, from the start mark on; what they do not cover stays as lent
+unfoldable pub putInto : List ℕ → List ℕ → ℕ → List Value → Read
+unfolding slotNumbers valueBytes
+putInto slots area mark vs =
+    record {
+      answer = accepted (length vs) (mark + length (valueBytes vs));
+      slots = slotNumbers mark vs ++ drop (slotWidth * length vs) slots;
+      area = storeAt area mark (valueBytes vs);
+    }
+
+-- a refusal changes nothing
+abbrev pub readEffect : List ℕ → List ℕ → ℕ → Result (List Value) → Read
+readEffect slots area mark (ok vs) = putInto slots area mark vs
+readEffect slots area mark (refused why place) = record { answer = refusal why place; slots = slots; area = area }
+
+unfoldable pub read : List ℕ → List ℕ → List ℕ → List ℕ → ℕ → Read
+unfolding reads putInto
+read layout bs slots area mark = readEffect slots area mark (reads layout bs slots area mark)

@@ -1,0 +1,155 @@
+// The answer of a call, and the cursor of a run over a record.
+ghost use mathlib.Core.Path.{_≡_};
+ghost use Prim.Native.Nat.{_+_, _≤_, _<_, min, max};
+ghost use Rattle.layout.specs.Refusals.{numberOf};
+ghost use Rattle.layout.specs.Words.{FitCount};
+ghost use Rattle.layout.specs.declared.Motion.the-variants.{Skip, Goto};
+ghost use Rattle.record.specs.Geometry.{amount, backFrom, movedIn, gotoIn};
+ghost use Rattle.record.specs.Packing.{accepted, refusal};
+use layout::Count;
+use layout::Refusal;
+
+// What a call answers: 0 and two more numbers, or the number of a refusal, its place, and 0.
+pub struct Answer {
+    pub number: u32,
+    pub first: u32,
+    pub second: u32,
+}
+
+// The number of a refusal, in the order of document 01's table.
+fn number_of(why: Refusal) -> u32
+    ensures { λ r. ⌜ r ≡ numberOf why ⌝ }
+{
+    match why {
+        Refusal::BadSize => 1,
+        Refusal::UnknownType => 2,
+        Refusal::CountTooLarge => 3,
+        Refusal::CountMisused => 4,
+        Refusal::WrongSlots => 5,
+        Refusal::NotSet => 6,
+        Refusal::BadSlot => 7,
+        Refusal::WrongKind => 8,
+        Refusal::WrongAmount => 9,
+        Refusal::BadDigit => 10,
+        Refusal::NoRoom => 11,
+    }
+}
+
+impl Answer {
+    pub fn accepted(first: u32, second: u32) -> Answer
+        ensures { λ r. ⌜ r ≡ accepted first second ⌝ }
+    {
+        Answer {
+            number: 0,
+            first: first,
+            second: second,
+        }
+    }
+
+    pub fn refused(why: Refusal, place: u32) -> Answer
+        ensures { λ r. ⌜ r ≡ refusal why place ⌝ }
+    {
+        Answer {
+            number: number_of(why),
+            first: place,
+            second: 0,
+        }
+    }
+}
+
+// A position in a record and an end: in packing the highest position reached, in reading the end of the record.
+// Every move hands back the next cursor.
+pub struct Cursor {
+    pub at: usize,
+    pub end: usize,
+}
+
+fn least(a: usize, b: usize) -> usize
+    ensures { λ r. ⌜ r ≡ min a b ⌝ }
+{
+    if a < b { a } else { b }
+}
+
+fn most(a: usize, b: usize) -> usize
+    ensures { λ r. ⌜ r ≡ max a b ⌝ }
+{
+    if a < b { b } else { a }
+}
+
+// How many a count asks for where there are so many in all.
+pub fn amount(n: Count, all: usize) -> usize
+    ensures { λ r. ⌜ r ≡ amount n all ⌝ }
+{
+    match n {
+        Count::Absent => 1,
+        Count::Star => all,
+        Count::Times(m) => m,
+    }
+}
+
+impl Cursor {
+    // At the start of a record that has so many bytes; for packing none.
+    pub fn new(size: usize) -> Cursor
+        ensures { λ r. ⌜ r ≡ record { at = 0; end = size } ⌝ }
+    {
+        Cursor { at: 0, end: size }
+    }
+
+    // Past so many bytes that are stored here.
+    pub fn store(self, bytes: usize) -> Cursor
+        requires { ⌜ self .at + bytes < 18446744073709551616 ⌝ }
+        ensures { λ r. ⌜ r ≡ record { at = self .at + bytes; end = max (self .end) (self .at + bytes) } ⌝ }
+    {
+        let at = self.at + bytes;
+        Cursor {
+            at: at,
+            end: most(self.end, at),
+        }
+    }
+
+    // `X`
+    pub fn back(self, n: Count) -> Cursor
+        ensures { λ r. ⌜ r ≡ record { at = backFrom (self .at) n; end = self .end } ⌝ }
+    {
+        let at = self.at;
+        Cursor {
+            at: at - least(at, amount(n, at)),
+            end: self.end,
+        }
+    }
+
+    // `x` in reading: forward, and not past the end.
+    pub fn skip(self, n: Count) -> Cursor
+        requires { ⌜ (self .at ≤ self .end) × (self .end < 4294967296) × FitCount n ⌝ }
+        ensures { λ r. ⌜ r ≡ record { at = movedIn (self .end) Skip n (self .at); end = self .end } ⌝ }
+    {
+        let end = self.end;
+        Cursor {
+            at: least(self.at + amount(n, end), end),
+            end: end,
+        }
+    }
+
+    // `@` in reading: not past the end.
+    pub fn seek(self, n: Count) -> Cursor
+        ensures { λ r. ⌜ r ≡ record { at = movedIn (self .end) Goto n (self .at); end = self .end } ⌝ }
+    {
+        let end = self.end;
+        Cursor {
+            at: least(amount(n, end), end),
+            end: end,
+        }
+    }
+
+    // `@` in packing: the position counts as reached.
+    pub fn goto(self, n: Count) -> Cursor
+        ensures { λ r. ⌜ r ≡ record { at = gotoIn (self .end) n; end = max (self .end) (gotoIn (self .end) n) } ⌝ }
+    {
+        let end = self.end;
+        let at = amount(n, end);
+        Cursor {
+            at: at,
+            end: most(end, at),
+        }
+    }
+}
