@@ -1,9 +1,9 @@
 -- The premises of demand 3 can be met: an old layout, a new one, two arguments, and a reading of a cut record; what is due is computed.
-use Prim.Native.Nat.{ℕ, _-_, _^_}
+use Prim.Native.Nat.{_-_, _^_}
 use native.Mathlib.Omega.{arith}
 use mathlib.Core.Path.{_≡_, refl}
 use mathlib.Core.Bool.{true, false}
-use mathlib.Core.List.{List, [], _∷_, _++_}
+use mathlib.Core.List.{[], _∷_, _++_}
 use lib.ListN.{replicate}
 use Rattle.layout.specs.declared.Code.the-variants.{Data, Move}
 use Rattle.layout.specs.declared.Motion.the-variants.{Skip}
@@ -12,12 +12,12 @@ use Rattle.layout.specs.declared.Count.the-variants.{Absent, Times}
 use Rattle.layout.specs.Layout.{fieldsOf, slotCount}
 use Rattle.layout.specs.Quoted.{bytes}
 use Rattle.record.specs.Table.{slotsOf, valueBytes}
-use Rattle.record.specs.Packing.{pack, filled}
+use Rattle.record.specs.Packing.{pack, filled, argumentsFit}
 use Rattle.evolution.specs.Claim.{Layouts, Reading, plain, endOf, due, setBy}
 
 -- `a3` and then `a03 xS`, with the arguments "ab" and {-2}
 pair : Layouts
-unfolding fieldsOf plain pack endOf slotCount
+unfolding fieldsOf plain argumentsFit slotsOf endOf slotCount
 pair = record {
   old = bytes "a3";
   new = bytes "a03 xS";
@@ -30,8 +30,11 @@ pair = record {
   old-fields = refl;
   new-fields = refl;
   is-plain = tt;
-  new-accepted = refl;
+  slot-for-each = refl;
+  served = refl;
+  new-sizes = tt;
   old-sizes = tt;
+  new-room = omega arith;
   old-room = omega arith;
 }
 

@@ -8,18 +8,17 @@ use mathlib.Core.Bool.{Bool, true, false, _&&_}
 use mathlib.Core.List.{List, [], _∷_, _++_, map, append-nil}
 use lib.ListN.{length, take, drop, length-append}
 use lib.Seq.{take-at, take-append-le, length-take-le}
-use lib.Dec.{T, leb, eqb}
-use borrow.Author.Tests.{le-leb, eqb-true, eq-eqb}
+use lib.Dec.{T, leb}
+use borrow.Author.Tests.{le-leb, eq-eqb}
 use Rattle.layout.specs.declared.Field.{Field}
-use Rattle.layout.specs.declared.Refusal.the-variants.{BadSize, WrongSlots, NoRoom}
 use Rattle.layout.specs.Layout.{takesSlot, fieldsOf, slotCount}
-use Rattle.layout.specs.Refusals.{if_then_else_, Result, ok, refused}
-use Rattle.layout.proofs.Laws.{AllSound, no-number-zero, bound, demanded, ok-inj, packed-reads}
+use Rattle.layout.specs.Refusals.{if_then_else_, ok}
+use Rattle.layout.proofs.Laws.{AllSound, packed-reads}
 use Rattle.record.specs.Table.{Slot, slotsOf, shown, slotWidth, valueBytes}
 use Rattle.record.specs.Packing.{accepted, Filled, filled, argumentsFit, packed, packs, pack, packEffect, Packed}
 use Rattle.record.specs.Geometry.{sizesFit}
 use Rattle.record.specs.Reading.{Read, valuesFrom, reads, read, readEffect, putInto}
-use Rattle.evolution.specs.Claim.{plain, plainCode, plainCount, endOf, Layouts, packedBy, recordOf, textOf, outputBy, fieldsBy, due, cutRecord, Reading, ReadsBack}
+use Rattle.evolution.specs.Claim.{plain, plainCode, plainCount, endOf, Layouts, packedBy, recordOf, textOf, outputBy, slotsBy, fieldsBy, due, cutRecord, Reading, ReadsBack}
 use Rattle.record.proofs.Bytes.{both}
 use Rattle.evolution.proofs.Run.{AllGood, joined, joined-append, length-joined, packed-joined, agree}
 use Rattle.evolution.proofs.Shown.{shows-put, set-proper}
@@ -27,29 +26,9 @@ use Rattle.evolution.proofs.Arguments.{fields-filled, front, spare, fit
 
 -- ---- the calls, by their parts
 
-true→T : {t : Bool} → t ≡ true → T t
-true→T e = subst (λ (t : Bool). T t) (sym e) tt
-
 T→true : (t : Bool) → T t → t ≡ true
 T→true true h = refl
 T→true false h = absurd h
-
-record Accepted (slots area output : List ℕ) (fs : List Field) (bs : List ℕ) : Type 0 where
-  counts : length (slotsOf slots) ≡ slotCount fs
-  fit : argumentsFit area 0 (slotsOf slots) fs ≡ ok tt
-  bytes : packed (filled area (slotsOf slots) fs) ≡ bs
-
-accepted-parts : (text slots area output : List ℕ) (fs : List Field) (bs : List ℕ) → fieldsOf true text ≡ ok fs → packs text slots area output ≡ ok bs
-    → Accepted slots area output fs bs
-unfolding packs
-accepted-parts text slots area output fs bs f e =
-    let (sizes, e₁) = demanded (sizesFit text slots output area) BadSize 0 _ bs e in
-    let (fs′, f′, e₂) = bound (fieldsOf true text) _ bs e₁ in
-    let same : fs′ ≡ fs = ok-inj (sym f′ ∙ f) in
-    let (counts, e₃) = demanded (eqb (length (slotsOf slots)) (slotCount fs′)) WrongSlots 0 _ bs e₂ in
-    let (x, fit, e₄) = bound (argumentsFit area 0 (slotsOf slots) fs′) _ bs e₃ in
-    let (room, e₅) = demanded (leb (length (packed (filled area (slotsOf slots) fs′))) (length output)) NoRoom 0 _ bs e₄ in
-    subst (λ (gs : List Field). Accepted slots area output gs bs) same (record { counts = eqb-true _ _ counts; fit = fit; bytes = ok-inj e₅ })
 
 packs-by : (text slots area output : List ℕ) (fs : List Field) → fieldsOf true text ≡ ok fs → sizesFit text slots output area ≡ true
     → length (slotsOf slots) ≡ slotCount fs → argumentsFit area 0 (slotsOf slots) fs ≡ ok tt
@@ -76,10 +55,6 @@ slots-take (suc n) ns = rw (three n) (go ns (slots-take n))
     go (k ∷ []) ih = refl
     go (k ∷ s ∷ []) ih = refl
     go (k ∷ s ∷ c ∷ rest) ih = ap (λ (r : List Slot). record { kind = k; start = s; len = c } ∷ r) (ih rest)
-
-accepted-bytes : (output : List ℕ) (r : Result (List ℕ)) → packEffect output r .answer .number ≡ 0 → (bs : List ℕ) × (r ≡ ok bs)
-accepted-bytes output (ok bs) e = (bs, refl)
-accepted-bytes output (refused n p) e = no-number-zero n e
 
 -- ---- the front of a layout
 
@@ -109,16 +84,9 @@ module _ (l : Layouts) where
   abbrev args : Bool → List Filled
   args b = filled (l .area) (slotsOf (l .slots)) (fieldsBy l b)
 
-  new-record : (bs : List ℕ) × (packs (l .new) (l .slots) (l .area) (l .newOutput) ≡ ok bs)
-  unfolding pack
-  new-record = accepted-bytes (l .newOutput) (packs (l .new) (l .slots) (l .area) (l .newOutput)) (l .new-accepted)
-
-  new-parts : Accepted (l .slots) (l .area) (l .newOutput) (l .fields ++ l .added) (new-record .0)
-  new-parts = accepted-parts (l .new) (l .slots) (l .area) (l .newOutput) (l .fields ++ l .added) (new-record .0) (l .new-fields) (new-record .1)
-
   fits : (b : Bool) → argumentsFit (l .area) 0 (slotsOf (l .slots)) (fieldsBy l b) ≡ ok tt
-  fits true = new-parts .fit
-  fits false = fit-front (l .area) (l .fields) (l .added) 0 (slotsOf (l .slots)) (new-parts .fit)
+  fits true = l .served
+  fits false = fit-front (l .area) (l .fields) (l .added) 0 (slotsOf (l .slots)) (l .served)
 
   text-reads : (b : Bool) → (fieldsOf false (textOf l b) ≡ ok (fieldsBy l b)) × AllSound (fieldsBy l b)
   text-reads true = packed-reads (l .new) (l .fields ++ l .added) (l .new-fields)
@@ -134,41 +102,44 @@ module _ (l : Layouts) where
   end-by : (b : Bool) → length (joined (args b)) ≡ endOf (fieldsBy l b)
   end-by b = length-joined (args b) (good b) ∙ ap endOf (fields-filled (l .area) (slotsOf (l .slots)) (fieldsBy l b))
 
-  own : List ℕ
-  own = take (slotWidth * slotCount (l .fields)) (l .slots)
-
   enough-slots : slotCount (l .fields) ≤ length (slotsOf (l .slots))
-  enough-slots = omega (arith, count-front (l .fields) (l .added), new-parts .counts)
+  enough-slots = omega (arith, count-front (l .fields) (l .added), l .slot-for-each)
 
-  old-filled : filled (l .area) (slotsOf own) (l .fields) ≡ args false
-  unfolding own
-  old-filled = rw slots-take (spare (l .area) (l .fields) 0 (slotCount (l .fields)) (slotsOf (l .slots)) (le-refl _) .0)
+  -- the slots that a packing is lent serve its fields as all the slots do
 
-  old-fits : argumentsFit (l .area) 0 (slotsOf own) (l .fields) ≡ ok tt
-  unfolding own
-  old-fits = rw slots-take (spare (l .area) (l .fields) 0 (slotCount (l .fields)) (slotsOf (l .slots)) (le-refl _) .1 ∙ fits false)
+  own-filled : (b : Bool) → filled (l .area) (slotsOf (slotsBy l b)) (fieldsBy l b) ≡ args b
+  own-filled true = refl
+  own-filled false = rw slots-take (spare (l .area) (l .fields) 0 (slotCount (l .fields)) (slotsOf (l .slots)) (le-refl _) .0)
 
-  old-count : length (slotsOf own) ≡ slotCount (l .fields)
-  unfolding own
-  old-count = rw slots-take (length-take-le (slotCount (l .fields)) (slotsOf (l .slots)) enough-slots)
+  own-fits : (b : Bool) → argumentsFit (l .area) 0 (slotsOf (slotsBy l b)) (fieldsBy l b) ≡ ok tt
+  own-fits true = fits true
+  own-fits false = rw slots-take (spare (l .area) (l .fields) 0 (slotCount (l .fields)) (slotsOf (l .slots)) (le-refl _) .1 ∙ fits false)
 
-  old-bytes : packed (filled (l .area) (slotsOf own) (l .fields)) ≡ joined (args false)
-  old-bytes = ap packed old-filled ∙ packed-joined (args false) (good false)
+  own-count : (b : Bool) → length (slotsOf (slotsBy l b)) ≡ slotCount (fieldsBy l b)
+  own-count true = l .slot-for-each
+  own-count false = rw slots-take (length-take-le (slotCount (l .fields)) (slotsOf (l .slots)) enough-slots)
 
-  old-packs : packs (l .old) own (l .area) (l .oldOutput) ≡ ok (joined (args false))
-  unfolding own
-  old-packs =
-      packs-by (l .old) own (l .area) (l .oldOutput) (l .fields) (l .old-fields) (T→true _ (l .old-sizes)) old-count old-fits
-      (rw old-bytes (rw (end-by false) (l .old-room)))
-      ∙ ap ok old-bytes
+  own-bytes : (b : Bool) → packed (filled (l .area) (slotsOf (slotsBy l b)) (fieldsBy l b)) ≡ joined (args b)
+  own-bytes b = ap packed (own-filled b) ∙ packed-joined (args b) (good b)
 
-  new-packs : packs (l .new) (l .slots) (l .area) (l .newOutput) ≡ ok (joined (args true))
-  new-packs = new-record .1 ∙ ap ok (sym (new-parts .bytes) ∙ packed-joined (args true) (good true))
+  parsed : (b : Bool) → fieldsOf true (textOf l b) ≡ ok (fieldsBy l b)
+  parsed true = l .new-fields
+  parsed false = l .old-fields
+
+  sizes : (b : Bool) → T (sizesFit (textOf l b) (slotsBy l b) (outputBy l b) (l .area))
+  sizes true = l .new-sizes
+  sizes false = l .old-sizes
+
+  room : (b : Bool) → endOf (fieldsBy l b) ≤ length (outputBy l b)
+  room true = l .new-room
+  room false = l .old-room
 
   packing-is : (b : Bool) → packedBy l b ≡ packEffect (outputBy l b) (ok (joined (args b)))
-  unfolding pack own
-  packing-is true = ap (packEffect (l .newOutput)) new-packs
-  packing-is false = ap (packEffect (l .oldOutput)) old-packs
+  unfolding pack
+  packing-is b =
+      ap (packEffect (outputBy l b))
+      (packs-by (textOf l b) (slotsBy l b) (l .area) (outputBy l b) (fieldsBy l b) (parsed b) (T→true _ (sizes b)) (own-count b) (own-fits b) (rw (own-bytes b) (rw (end-by b) (room b)))
+      ∙ ap ok (own-bytes b))
 
   record-is : (b : Bool) → recordOf (packedBy l b) ≡ joined (args b)
   record-is b = ap recordOf (packing-is b) ∙ take-at (joined (args b)) _ (length (joined (args b))) refl

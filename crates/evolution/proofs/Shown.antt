@@ -1,5 +1,5 @@
 -- The slots of values just put into a table show those values: each stands in the area where its slot says.
-use Prim.Native.Nat.{ℕ, zero, suc, _+_, _-_, _*_, _%_, _^_, _≤_, _<_}
+use Prim.Native.Nat.{ℕ, suc, _+_, _-_, _*_, _%_, _^_, _≤_, _<_}
 use native.Mathlib.Nat.{mod-eq-of-lt, mod-lt, one-le-pow, pow-le-pow-right}
 use native.Mathlib.Omega.{arith}
 use mathlib.Core.Path.{_≡_, refl, sym, ap, ap₂, _∙_}
@@ -16,7 +16,7 @@ use Rattle.layout.specs.declared.Count.{Count}
 use Rattle.layout.specs.Words.{FitCode}
 use Rattle.layout.specs.Refusals.{if_then_else_}
 use Rattle.record.specs.Bytes.{pieces, join, number, ordered, storeAt}
-use Rattle.record.specs.Table.{Slot, slotsOf, Value, integerBytes, integersIn, areaBytes, shown, slotNumbers, valueBytes}
+use Rattle.record.specs.Table.{slotsOf, Value, integerBytes, integersIn, areaBytes, shown, slotNumbers, valueBytes}
 use Rattle.record.specs.Geometry.{amount, bytesFor}
 use Rattle.record.specs.Packing.{Filled}
 use Rattle.record.specs.Reading.{putInto, widened}

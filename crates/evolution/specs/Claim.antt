@@ -19,7 +19,7 @@ use Rattle.layout.specs.Layout.{fieldsOf, slotCount}
 use Rattle.record.specs.Bytes.{fit}
 use Rattle.record.specs.Table.{slotsOf, Value, shown, slotWidth, valueBytes}
 use Rattle.record.specs.Geometry.{amount, bytesFor, sizesFit}
-use Rattle.record.specs.Packing.{Filled, filled, accepted, Packed, pack}
+use Rattle.record.specs.Packing.{Filled, filled, argumentsFit, accepted, Packed, pack}
 use Rattle.record.specs.Reading.{trimmed, widened, putInto, read}
 
 -- ---- a plain layout: no star, no `X`, no `@`, no count of 0
@@ -103,10 +103,13 @@ pub record Layouts : Type 0 where
   pub old-fields : fieldsOf true old ≡ ok fields
   pub new-fields : fieldsOf true new ≡ ok (fields ++ added)
   pub is-plain : T (plain (fields ++ added))
-  -- the packer accepts the arguments for the new layout, which says that it has room and sizes that line 1 does not refuse
-  pub new-accepted : pack new slots area newOutput .answer .number ≡ 0
+  -- the arguments are such as the packer takes for the new layout: a slot for each field (line 5), and each serves its field (lines 6 to 10)
+  pub slot-for-each : length (slotsOf slots) ≡ slotCount (fields ++ added)
+  pub served : argumentsFit area 0 (slotsOf slots) (fields ++ added) ≡ ok tt
   -- "no call is lent anything that number 1 refuses, and each packing has room for its result"
+  pub new-sizes : T (sizesFit new slots newOutput area)
   pub old-sizes : T (sizesFit old (take (slotWidth * slotCount fields) slots) oldOutput area)
+  pub new-room : endOf (fields ++ added) ≤ length newOutput
   pub old-room : endOf fields ≤ length oldOutput
 
 -- Which of the two layouts, packings or records is meant: `true` is the new one, `false` the old one.
