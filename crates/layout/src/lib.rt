@@ -226,7 +226,8 @@ fn takes_flag(k: Code) -> bool
     }
 }
 
-fn slots_of(k: Code) -> usize
+// How many slots a field of a type takes.
+pub fn slots_of(k: Code) -> usize
     ensures { λ r. ⌜ r ≡ toNat (takesSlot k) ⌝ }
 {
     if let Code::Data(_) = k { 1 } else { 0 }

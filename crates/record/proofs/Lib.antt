@@ -1,5 +1,6 @@
 -- Laws of the definitions, for the crates above.
 pub mod Bytes
+pub mod Bounds
 pub mod Stores
 pub mod Fields
 pub mod Moves

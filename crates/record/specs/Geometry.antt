@@ -1,11 +1,9 @@
 -- What packing and reading share: how many items a field has, how many bytes those fill, and how the cursor moves.
-use Prim.Native.Nat.{ℕ, _+_, _-_, _*_, _/_, _%_, min, max}
+use Prim.Native.Nat.{ℕ, _+_, _-_, _*_, _/_, _%_, min}
 use mathlib.Core.Bool.{Bool, true, false, _&&_}
 use mathlib.Core.List.{List}
 use lib.ListN.{length}
 use lib.Dec.{eqb, leb}
-use Rattle.layout.specs.declared.Code.{Code}
-use Rattle.layout.specs.declared.Code.the-variants.{Data, Move}
 use Rattle.layout.specs.declared.Motion.{Motion}
 use Rattle.layout.specs.declared.Motion.the-variants.{Skip, Back, Goto}
 use Rattle.layout.specs.declared.Shape.{Shape}
@@ -63,10 +61,13 @@ gotoIn highest n = amount n highest
 
 -- ---- line 1 of the table, as far as both calls share it
 
+abbrev pub lengthsFit : ℕ → ℕ → ℕ → ℕ → Bool
+lengthsFit layout slots bytes area =
+    leb layout maxLayout
+    && leb slots (slotWidth * maxSlots)
+    && eqb (slots % slotWidth) 0
+    && leb bytes maxRecord
+    && leb area maxArea
+
 abbrev pub sizesFit : List ℕ → List ℕ → List ℕ → List ℕ → Bool
-sizesFit layout slots bytes area =
-    leb (length layout) maxLayout
-    && leb (length slots) (slotWidth * maxSlots)
-    && eqb (length slots % slotWidth) 0
-    && leb (length bytes) maxRecord
-    && leb (length area) maxArea
+sizesFit layout slots bytes area = lengthsFit (length layout) (length slots) (length bytes) (length area)

@@ -1,9 +1,9 @@
 -- Slot tables (document 01, "Slot tables"): a run of slots, three numbers to a slot, and a value area of bytes.
-use Prim.Native.Nat.{ℕ, zero, suc, _+_, _-_, _*_, _/_, _%_}
-use mathlib.Core.Bool.{Bool, true, false}
-use mathlib.Core.List.{List, [], _∷_, _++_, map}
+use Prim.Native.Nat.{ℕ, _+_}
+use mathlib.Core.Bool.{true}
+use mathlib.Core.List.{List, [], _∷_, map}
 use lib.ListN.{length, take, drop}
-use lib.Dec.{eqb, leb}
+use lib.Dec.{eqb}
 use Rattle.layout.specs.Refusals.{if_then_else_}
 use Rattle.record.specs.Bytes.{pieces, join, digits, number, ordered}
 

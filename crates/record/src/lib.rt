@@ -2,12 +2,46 @@
 ghost use mathlib.Core.Path.{_≡_};
 ghost use Prim.Native.Nat.{_+_, _≤_, _<_, min, max};
 ghost use Rattle.layout.specs.Refusals.{numberOf};
-ghost use Rattle.layout.specs.Words.{FitCount};
+ghost use Rattle.layout.specs.Words.{FitCode, FitCount};
+ghost use Rattle.layout.specs.declared.Code.the-variants.{Data};
 ghost use Rattle.layout.specs.declared.Motion.the-variants.{Skip, Goto};
-ghost use Rattle.record.specs.Geometry.{amount, backFrom, movedIn, gotoIn};
+ghost use Rattle.record.specs.Geometry.{lengthsFit, amount, perByte, bytesFor, backFrom, movedIn, gotoIn};
 ghost use Rattle.record.specs.Packing.{accepted, refusal};
 use layout::Count;
 use layout::Refusal;
+use layout::Shape;
+
+// The limits of document 01, and how many numbers make a slot.
+pub const MAX_LAYOUT: usize = 256;
+
+pub const MAX_SLOTS: usize = 64;
+
+pub const MAX_RECORD: usize = 4096;
+
+pub const MAX_AREA: usize = 65536;
+
+pub const SLOT_WIDTH: usize = 3;
+
+const MAX_NUMBERS: usize = SLOT_WIDTH * MAX_SLOTS;
+
+// Line 1 of the table is not due, for what both calls are lent: by their lengths.
+pub fn lengths_fit(layout: usize, slots: usize, bytes: usize, area: usize) -> bool
+    ensures { λ r. ⌜ r ≡ lengthsFit layout slots bytes area ⌝ }
+{
+    if MAX_LAYOUT < layout {
+        return false;
+    }
+    if MAX_NUMBERS < slots {
+        return false;
+    }
+    if slots % SLOT_WIDTH != 0 {
+        return false;
+    }
+    if MAX_RECORD < bytes {
+        return false;
+    }
+    area <= MAX_AREA
+}
 
 // What a call answers: 0 and two more numbers, or the number of a refusal, its place, and 0.
 pub struct Answer {
@@ -64,7 +98,7 @@ pub struct Cursor {
     pub end: usize,
 }
 
-fn least(a: usize, b: usize) -> usize
+pub fn least(a: usize, b: usize) -> usize
     ensures { λ r. ⌜ r ≡ min a b ⌝ }
 {
     if a < b { a } else { b }
@@ -84,6 +118,25 @@ pub fn amount(n: Count, all: usize) -> usize
         Count::Absent => 1,
         Count::Star => all,
         Count::Times(m) => m,
+    }
+}
+
+// How many digits fill a byte.
+pub fn per_byte(hex: bool) -> usize
+    ensures { λ r. ⌜ r ≡ perByte hex ⌝ }
+{
+    if hex { 2 } else { 8 }
+}
+
+// How many bytes so many items of a field fill. (The bound is above every length that a slot can hold and every count.)
+pub fn bytes_for(s: Shape, n: usize) -> usize
+    requires { ⌜ (n < 4303355904) × FitCode (Data s) ⌝ }
+    ensures { λ r. ⌜ r ≡ bytesFor s n ⌝ }
+{
+    match s {
+        Shape::Text(_) => n,
+        Shape::Digits(hex, _) => (n + (per_byte(hex) - 1)) / per_byte(hex),
+        Shape::Integers(w, _) => n * w,
     }
 }
 

@@ -6,24 +6,16 @@ use borrow.Author.Needs.{needs}
 use Rattle.record.specs.Geometry.{backFrom}
 use Rattle.record.proofs.Cursor.back.Statement.{statement}
 use Rattle.record.proofs.Cursor.back.Tie as tie
-use Rattle.record.proofs.Cursor.back.Reads as reads
-use Rattle.record.proofs.Cursor.back.Lts as lts
-use Rattle.record.proofs.amount.Reads as amount-reads
-use Rattle.record.proofs.least.Reads as least-reads
 
--- src/lib.rt:116:32
 amount-requires : tie.Need-amount-requires
 amount-requires c κs = search needs
 
--- src/lib.rt:116:22
 least-requires : tie.Need-least-requires
 least-requires c κs = search needs
 
--- src/lib.rt:116:17
 sub-t6 : tie.Need-sub-t6
 sub-t6 c = search needs
 
--- src/lib.rt:111:5
 returns : tie.Need-returns
 returns c =
     let start = c .before .before in

@@ -4,26 +4,18 @@ use borrow.Author.Needs.{needs}
 use Rattle.record.proofs.Moves.{amount-small}
 use Rattle.record.proofs.Cursor.skip.Statement.{statement}
 use Rattle.record.proofs.Cursor.skip.Tie as tie
-use Rattle.record.proofs.Cursor.skip.Reads as reads
-use Rattle.record.proofs.Cursor.skip.Lts as lts
-use Rattle.record.proofs.amount.Reads as amount-reads
-use Rattle.record.proofs.least.Reads as least-reads
 
--- src/lib.rt:128:33
 amount-requires : tie.Need-amount-requires
 amount-requires c κs = search needs
 
--- src/lib.rt:128:23
 add-least : tie.Need-add-least
 add-least c =
     let start = c .before .before in
     omega (arith, amount-small (start .args .n) (start .args .self .end) (start .pre .2))
 
--- src/lib.rt:128:17
 least-requires : tie.Need-least-requires
 least-requires c κs = search needs
 
--- src/lib.rt:122:5
 returns : tie.Need-returns
 returns c = cc
 

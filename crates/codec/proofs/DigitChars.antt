@@ -1,0 +1,139 @@
+-- Laws of reading digits: the characters of a byte, those of the bytes of a field, and what a loop keeps that stores them.
+use Prim.Native.Nat.{ℕ, zero, suc, _+_, _-_, _*_, _/_, _%_, _^_, _≤_, _<_, min}
+use native.Mathlib.Nat.{not-suc-le-zero, le-of-suc-le-suc, pow-zero, pow-suc, pow-succ', mul-suc, zero-mul, suc-mul, div-one, div-div-eq-div-mul}
+use native.Mathlib.Omega.{arith}
+use lib.Pow.{pow-add}
+use mathlib.Core.Path.{_≡_, refl, sym, ap, _∙_}
+use mathlib.Core.Bool.{Bool, true, false}
+use mathlib.Core.List.{List, [], _∷_, _++_, map, map-append}
+use lib.ListN.{length, take, drop, getD, length-take, length-drop, length-map}
+use lib.Seq.{getD-drop, getD-take, take-add, take-all, take-append-le, drop-append-add, length-take-le, ext-getD}
+use Rattle.layout.specs.declared.Shape.the-variants.{Digits}
+use Rattle.record.specs.Bytes.{part, storeAt, ceilDiv, join, digits, ordered}
+use Rattle.record.specs.Geometry.{base, perByte}
+use Rattle.record.specs.Reading.{digitChar, loaded}
+use Rattle.record.proofs.Bytes.{length-digits, length-ordered, length-join}
+use Rattle.record.proofs.Stores.{length-part, length-storeAt, store-none, store-store}
+use Rattle.codec.specs.Numerals.{placeOf, charsOf}
+use Rattle.codec.proofs.DigitLaws.{ordered-at, map-at}
+
+-- ---- the digits of a byte
+
+digit-nth : (b n x q : ℕ) → q < n → getD (digits b n x) q 0 ≡ x / b ^ q % b
+unfolding digits
+digit-nth b zero x q h = absurd (not-suc-le-zero h)
+digit-nth b (suc n) x zero h = rw (pow-zero b, div-one x)
+digit-nth b (suc n) x (suc q) h = digit-nth b n (x / b) q (le-of-suc-le-suc h) ∙ rw (div-div-eq-div-mul x b (b ^ q), pow-succ' b q)
+
+pow-16 : (q : ℕ) → 2 ^ (4 * q) ≡ 16 ^ q
+pow-16 zero = refl
+pow-16 (suc q) = rw (mul-suc 4 q, pow-add 2 (4 * q) 4, pow-16 q, pow-suc 16 q)
+
+pub hex-shifted : (x q : ℕ) → q < 2 → x / 2 ^ (4 * q) % 16 ≡ getD (digits 16 2 x) q 0
+hex-shifted x q h = rw (pow-16 q) (sym (digit-nth 16 2 x q h))
+
+pub binary-shifted : (x q : ℕ) → q < 8 → x / 2 ^ q % 2 ≡ getD (digits 2 8 x) q 0
+binary-shifted x q h = sym (digit-nth 2 8 x q h)
+
+pub length-chars : (hex high : Bool) (b : ℕ) → length (charsOf hex high b) ≡ perByte hex
+unfolding charsOf
+length-chars hex high b = simp (length-map, length-ordered, length-digits)
+
+pub length-first : (hex high : Bool) (b count : ℕ) → count ≤ perByte hex → length (take count (charsOf hex high b)) ≡ count
+length-first hex high b count h = length-take-le count (charsOf hex high b) (omega (arith, length-chars hex high b))
+
+-- the character that a turn writes
+pub char-turn : (hex high : Bool) (b count j p q x d v : ℕ) → j < count → count ≤ perByte hex → p ≡ perByte hex → q ≡ placeOf high p j → x ≡ b
+    → d ≡ getD (digits (base hex) (perByte hex) x) q 0 → v ≡ digitChar d → v ≡ getD (take count (charsOf hex high b)) j 0
+unfolding charsOf
+char-turn hex high b count j p q x d v h k ep eq ex ed ev =
+    let ds : List ℕ = digits (base hex) (perByte hex) b in
+    let long : length ds ≡ perByte hex = length-digits (base hex) (perByte hex) b in
+    let at : getD (ordered high ds) j 0 ≡ d = ordered-at high (perByte hex) ds j long (omega arith) ∙ rw (ed, eq, ep, ex) in
+    rw (getD-take count (map digitChar (ordered high ds)) j 0 h, map-at digitChar (ordered high ds) j (omega (arith, length-ordered high ds)), at) ev
+
+-- ---- the characters of a field
+
+chars-join : (hex high : Bool) (bs : List ℕ) → map digitChar (join (map (λ b. ordered high (digits (base hex) (perByte hex) b)) bs)) ≡ join (map (charsOf hex high) bs)
+unfolding join charsOf
+chars-join hex high [] = refl
+chars-join hex high (b ∷ bs) = rw (map-append, chars-join hex high bs)
+
+-- a piece of a join of pieces of one length
+module _ (f : ℕ → List ℕ) (k : ℕ) (each : (x : ℕ) → length (f x) ≡ k) where
+  join-part : (xs : List ℕ) (i count : ℕ) → i < length xs → count ≤ k → part (join (map f xs)) (i * k) count ≡ take count (f (getD xs i 0))
+  unfolding join
+  join-part [] i count h l = absurd (not-suc-le-zero h)
+  join-part (x ∷ xs) zero count h l = rw zero-mul (take-append-le count (f x) (join (map f xs)) (omega (arith, each x)))
+  join-part (x ∷ xs) (suc i) count h l =
+      let past : suc i * k ≡ length (f x) + i * k = omega (arith, suc-mul i k, each x) in
+      rw (past, drop-append-add (f x) (join (map f xs)) (i * k)) (join-part xs i count (le-of-suc-le-suc h) l)
+
+part-take : (n a count : ℕ) (l : List ℕ) → a + count ≤ n → part (take n l) a count ≡ part l a count
+part-take n a count l h =
+    let long : length (part (take n l) a count) ≡ min count (min n (length l) - a) = simp (length-take, length-drop) in
+    ext-getD 0 (part (take n l) a count) (part l a count) (simp (length-take, length-drop) (omega arith))
+    (λ i k. getD-take count (drop a (take n l)) i 0 (omega arith) ∙ getD-drop a (take n l) i 0 ∙ getD-take n l (a + i) 0 (omega arith)
+    ∙ sym (getD-take count (drop a l) i 0 (omega arith) ∙ getD-drop a l i 0))
+
+bytes-hold : (hex : Bool) (n : ℕ) → n ≤ ceilDiv n (perByte hex) * perByte hex
+bytes-hold true n = omega arith
+bytes-hold false n = omega arith
+
+-- the characters that a field of n digits shows
+abbrev pub shownChars : Bool → Bool → ℕ → List ℕ → List ℕ
+shownChars hex high n bs = loaded (Digits hex high) false n bs .items
+
+pub shown-any : (hex high u : Bool) (n : ℕ) (bs : List ℕ) → shownChars hex high n bs ≡ loaded (Digits hex high) u n bs .items
+unfolding loaded
+shown-any hex high u n bs = refl
+
+pub length-shown : (hex high : Bool) (n : ℕ) (bs : List ℕ) → length bs ≡ ceilDiv n (perByte hex) → length (shownChars hex high n bs) ≡ n
+unfolding loaded
+length-shown hex high n bs e =
+    rw (chars-join hex high bs)
+    (length-take-le n (join (map (charsOf hex high) bs)) (rw (length-join (charsOf hex high) (perByte hex) (length-chars hex high) bs, e) (bytes-hold hex n)))
+
+shown-part : (hex high : Bool) (n : ℕ) (bs : List ℕ) (k count : ℕ) → k < length bs → count ≤ perByte hex → k * perByte hex + count ≤ n
+    → part (shownChars hex high n bs) (k * perByte hex) count ≡ take count (charsOf hex high (getD bs k 0))
+unfolding loaded
+shown-part hex high n bs k count h l m =
+    rw (chars-join hex high bs) (part-take n (k * perByte hex) count (join (map (charsOf hex high) bs)) m ∙ join-part (charsOf hex high) (perByte hex) (length-chars hex high) bs k count h l)
+
+-- ---- a loop that stores a run piece by piece: d is d₀ with the first i elements of s put in from the place `to` on
+
+pub record Grown (d₀ : List ℕ) (to : ℕ) (s d : List ℕ) (i : ℕ) : Type 0 where
+  pub long : length d ≡ length d₀
+  pub is : d ≡ storeAt d₀ to (take i s)
+
+pub grown-none : {d s : List ℕ} {to : ℕ} → Grown d to s d 0
+grown-none {d} {s} {to} = record { long = refl; is = sym (store-none d to) }
+
+pub grown-more : {d₀ d d′ s : List ℕ} {to i : ℕ} (count : ℕ) → Grown d₀ to s d i → to + length s ≤ length d₀ → i + count ≤ length s → d′ ≡ storeAt d (to + i) (part s i count)
+    → Grown d₀ to s d′ (i + count)
+grown-more {d₀} {d} {d′} {s} {to} {i} count g room h q =
+    let li : length (take i s) ≡ i = length-take-le i s (omega arith) in
+    let place : to + i ≡ to + length (take i s) = omega arith in
+    let lc : length (part s i count) ≡ count = length-part count i s h in
+    let step : storeAt (storeAt d₀ to (take i s)) (to + length (take i s)) (part s i count) ≡ storeAt d₀ to (take i s ++ part s i count) = store-store d₀ to (take i s) (part s i count) (omega arith) in
+    record {
+      long = ap length q ∙ length-storeAt d (to + i) (part s i count) (omega (arith, g .long)) ∙ g .long;
+      is = q ∙ rw (g .is, take-add i count s, place) step;
+    }
+
+pub grown-done : {d₀ d s : List ℕ} {to i : ℕ} → Grown d₀ to s d i → length s ≡ i → d ≡ storeAt d₀ to s
+grown-done {d₀} {d} {s} {to} {i} g e = g .is ∙ ap (storeAt d₀ to) (take-all i s (omega arith))
+
+-- the turn of the loop that reads the byte number k
+pub chars-turn : (hex high : Bool) (n : ℕ) (bytes : List ℕ) (at k : ℕ) {d₀ d d′ : List ℕ} {to i count : ℕ} → at + ceilDiv n (perByte hex) ≤ length bytes → k < ceilDiv n (perByte hex) → i ≡ k * perByte hex → i < n
+    → to + n ≤ length d₀ → count ≡ min (perByte hex) (n - i) → Grown d₀ to (shownChars hex high n (part bytes at (ceilDiv n (perByte hex)))) d i
+    → d′ ≡ storeAt d (to + i) (take count (charsOf hex high (getD bytes (at + k) 0))) → Grown d₀ to (shownChars hex high n (part bytes at (ceilDiv n (perByte hex)))) d′ (i + count)
+chars-turn hex high n bytes at k {d₀} {d} {d′} {to} {i} {count} fits h ei l room ec g q =
+    let m : ℕ = ceilDiv n (perByte hex) in
+    let bs : List ℕ = part bytes at m in
+    let lb : length bs ≡ m = length-part m at bytes fits in
+    let ls : length (shownChars hex high n bs) ≡ n = length-shown hex high n bs lb in
+    let byte : getD bs k 0 ≡ getD bytes (at + k) 0 = getD-take m (drop at bytes) k 0 h ∙ getD-drop at bytes k 0 in
+    let piece : part (shownChars hex high n bs) i count ≡ take count (charsOf hex high (getD bytes (at + k) 0)) =
+    rw (ei, ← byte) (shown-part hex high n bs k count (omega arith) (omega arith) (omega arith)) in
+    grown-more count g (omega arith) (omega arith) (rw piece q)

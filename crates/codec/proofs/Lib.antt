@@ -1,0 +1,7 @@
+-- The laws that belong to no one function.
+pub mod ByteLaws
+pub mod IntegerLaws
+pub mod TextLaws
+mod DigitLaws
+mod DigitBytes
+mod DigitChars

@@ -1,0 +1,3 @@
+-- What contracts between the functions of this crate cite.
+pub mod Items
+pub mod Numerals

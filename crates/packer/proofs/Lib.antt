@@ -1,0 +1,9 @@
+-- Laws of the packer's passes.
+mod SlotLaws
+mod Bounds
+mod ArgumentLaws
+mod MeasureLaws
+mod StoreLaws
+mod RunLaws
+mod WriteLaws
+mod WholeLaws

@@ -1,0 +1,117 @@
+-- Which way a call goes, on plain values: each answer of the code is that of the definition.
+use Prim.Native.Nat.{ℕ, _*_, _/_, _%_, _≤_, _<_}
+use native.Mathlib.Omega.{arith}
+use mathlib.Core.Path.{_≡_, refl, sym, ap, _∙_}
+use mathlib.Core.Bool.{Bool, true, false, _&&_}
+use mathlib.Core.List.{List, _++_}
+use borrow.Author.Tests.{le-leb, lt-leb, leb-true, eq-eqb, ne-eqb}
+use lib.Dec.{eqb, leb}
+use lib.ListN.{length, drop}
+use Rattle.layout.specs.declared.Field.{Field}
+use Rattle.layout.specs.declared.Refusal.{Refusal}
+use Rattle.layout.specs.declared.Refusal.the-variants.{BadSize, WrongSlots, NoRoom}
+use Rattle.layout.specs.Refusals.{Result, ok, refused, _>>=_}
+use Rattle.layout.specs.Layout.{maxLayout, fieldsOf, slotCount}
+use Rattle.record.specs.declared.Cursor.{Cursor}
+use Rattle.record.specs.Table.{Slot, slotsOf, slotWidth, maxSlots, maxRecord, maxArea}
+use Rattle.record.specs.Geometry.{sizesFit, lengthsFit}
+use Rattle.record.specs.Packing.{start, cursorOf, packAll, filled, packed, argumentsFit, accepted, refusal, packs, packEffect, pack}
+use Rattle.packer.specs.declared.measure.Measured.the-variants.{Length, Refused}
+use Rattle.packer.specs.Measure.{origin, checked, Room, measuredOf}
+use Rattle.packer.specs.Writing.{written}
+use Rattle.packer.specs.Whole.{finished}
+use Rattle.packer.proofs.SlotLaws.{length-slots}
+use Rattle.packer.proofs.ArgumentLaws.{both}
+use Rattle.packer.proofs.RunLaws.{measured-as, written-as}
+
+-- ---- the end of a call
+
+measured-refused : (o : Result (Unit {0})) (c : Cursor) (why : Refusal) (k : ℕ) → Refused why k ≡ measuredOf (o >>= (λ _. ok c)) → o ≡ refused why k
+measured-refused (ok u) c why k e = let z : _≡_ {A = ℕ} 0 1 = cc in absurd (omega arith)
+measured-refused (refused w p) c why k e = cc
+
+measured-ok : (o : Result (Unit {0})) (c : Cursor) (len : ℕ) → Length len ≡ measuredOf (o >>= (λ _. ok c)) → (o ≡ ok tt) × (len ≡ c .end)
+measured-ok (ok u) c len e = let z : len ≡ c .end = cc in (refl, z)
+measured-ok (refused w p) c len e = let z : _≡_ {A = ℕ} 0 1 = cc in absurd (omega arith)
+
+module _ (area : List ℕ) (ts : List Slot) (fs : List Field) (output : List ℕ) where
+  measured : checked area 0 ts fs origin ≡ (argumentsFit area 0 ts fs >>= (λ _. ok (cursorOf (packAll start (filled area ts fs)))))
+  measured = measured-as area fs 0 ts start (omega arith)
+
+  pub finish-refused : (why : Refusal) (k : ℕ) → Refused why k ≡ measuredOf (checked area 0 ts fs origin)
+      → record { answer = refusal why k; output = output } ≡ packEffect output (finished area ts fs output)
+  unfolding finished
+  finish-refused why k e =
+      let a : argumentsFit area 0 ts fs ≡ refused why k = measured-refused (argumentsFit area 0 ts fs) (cursorOf (packAll start (filled area ts fs))) why k (e ∙ ap measuredOf measured) in
+      rw a
+
+  module _ (len : ℕ) (e : Length len ≡ measuredOf (checked area 0 ts fs origin)) where
+    passed : (argumentsFit area 0 ts fs ≡ ok tt) × (len ≡ length (packed (filled area ts fs)))
+    unfolding packed
+    passed = measured-ok (argumentsFit area 0 ts fs) (cursorOf (packAll start (filled area ts fs))) len (e ∙ ap measuredOf measured)
+
+    pub finish-full : length output < len → record { answer = refusal NoRoom 0; output = output } ≡ packEffect output (finished area ts fs output)
+    unfolding finished
+    finish-full h =
+        let l : length output < length (packed (filled area ts fs)) = omega (arith, passed .1) in
+        rw (passed .0, lt-leb _ _ l)
+
+    module _ (h : len ≤ length output) where
+      pub finish-room : Room (checked area 0 ts fs origin) (length output)
+      unfolding packed
+      finish-room = rw (measured, passed .0) (omega (arith, passed .1))
+
+      pub finish-done : (out : List ℕ) → out ≡ written area ts fs origin output → record { answer = accepted len 0; output = out } ≡ packEffect output (finished area ts fs output)
+      unfolding finished packed
+      finish-done out q =
+          let l : length (packed (filled area ts fs)) ≤ length output = omega (arith, passed .1) in
+          let w : out ≡ packed (filled area ts fs) ++ drop (length (packed (filled area ts fs))) output = q ∙ written-as area fs 0 ts start (length output) output (omega arith) finish-room in
+          rw (passed .0, le-leb _ _ l, w, passed .1)
+
+-- ---- the whole call
+
+module _ (layout slots area output : List ℕ) where
+  pub pack-sizes : sizesFit layout slots output area ≡ false → record { answer = refusal BadSize 0; output = output } ≡ pack layout slots area output
+  unfolding pack packs
+  pack-sizes h = simp h
+
+  module _ (fine : sizesFit layout slots output area ≡ true) where
+    pub pack-refused : (why : Refusal) (place : ℕ) → fieldsOf true layout ≡ refused why place → record { answer = refusal why place; output = output } ≡ pack layout slots area output
+    unfolding pack packs
+    pack-refused why place e = simp (fine, e)
+
+    module _ (fs : List Field) (e : fieldsOf true layout ≡ ok fs) where
+      pub pack-slots : eqb (length (slotsOf slots)) (slotCount fs) ≡ false → record { answer = refusal WrongSlots 0; output = output } ≡ pack layout slots area output
+      unfolding pack packs
+      pack-slots h = simp (fine, e, h)
+
+      pub pack-finish : eqb (length (slotsOf slots)) (slotCount fs) ≡ true → packEffect output (finished area (slotsOf slots) fs output) ≡ pack layout slots area output
+      unfolding pack packs finished
+      pack-finish h = simp (fine, e, h)
+
+-- ---- what line 1 says
+
+pub record Limits (l s o : ℕ) : Type 0 where
+  pub layout : l ≤ maxLayout
+  pub slots : s ≤ slotWidth * maxSlots
+  pub output : o ≤ maxRecord
+
+pub size-limits : (l s o a : ℕ) → lengthsFit l s o a ≡ true → Limits l s o
+size-limits l s o a e =
+    let fits : Bool = leb l maxLayout in
+    let slots : Bool = leb s (slotWidth * maxSlots) in
+    let whole : Bool = eqb (s % slotWidth) 0 in
+    let (r₁, e₅) = both (fits && slots && whole && leb o maxRecord) (leb a maxArea) e in
+    let (r₂, e₄) = both (fits && slots && whole) (leb o maxRecord) r₁ in
+    let (r₃, e₃) = both (fits && slots) whole r₂ in
+    let (e₁, e₂) = both fits slots r₃ in
+    record { layout = leb-true l maxLayout e₁; slots = leb-true s (slotWidth * maxSlots) e₂; output = leb-true o maxRecord e₄ }
+
+-- ---- line 5
+
+module _ (ns : List ℕ) (needed count : ℕ) (e : needed ≡ count) where
+  pub other-slots : (length ns / slotWidth ≡ needed → ⊥) → eqb (length (slotsOf ns)) count ≡ false
+  other-slots h = ne-eqb (length (slotsOf ns)) count (λ q. h (sym (length-slots ns) ∙ q ∙ sym e))
+
+  pub same-slots : length ns / slotWidth ≡ needed → eqb (length (slotsOf ns)) count ≡ true
+  same-slots h = eq-eqb (length (slotsOf ns)) count (length-slots ns ∙ h ∙ e)

@@ -1,0 +1,77 @@
+-- What the loop keeps is `Writing`: writing the fields from here on gives what writing all of them gives.
+use Prim.Native.Nat.{_-_}
+use native.Mathlib.Omega.{arith}
+use borrow.Author.Needs.{needs}
+use Rattle.packer.proofs.WriteLaws.{Writing, writing-none, writing-done, writing-ready, writing-next}
+use Rattle.packer.proofs.write.write.Statement.{statement}
+use Rattle.packer.proofs.write.write.Tie as tie
+
+abbrev Inv-loop : tie.InvT-loop
+Inv-loop words n slots area out₀ c₀ k₀ i₀ out c k i = Writing area n words slots out₀ out i k c
+
+abbrev μ-loop : tie.MeasureT-loop
+μ-loop words n slots area out₀ c₀ k₀ i₀ out c k i = n - i
+
+new-requires : tie.Need-new-requires Inv-loop μ-loop
+new-requires c κs = search needs
+
+loop-holds : tie.Need-loop-holds Inv-loop μ-loop
+loop-holds c = rw (c .new .ensures) (writing-none _ _ _ _ _ (c .before .before .before .before .pre))
+
+mul-field-of : tie.Need-mul-field-of Inv-loop μ-loop
+mul-field-of c = omega (arith, c .before .before .before .before .before .before .pre .prepared)
+
+element-copy-out-field-of : tie.Need-element-copy-out-field-of Inv-loop μ-loop
+element-copy-out-field-of c = omega (arith, c .before .before .before .before .before .before .pre .prepared)
+
+field-of-requires : tie.Need-field-of-requires Inv-loop μ-loop
+field-of-requires c κs = search needs
+
+put-requires : tie.Need-put-requires Inv-loop μ-loop
+put-requires c κs =
+    let l = c .before .before .before .before in
+    writing-ready _ _ _ _ _ (l .before .before .before .before .before .pre) _ _ _ _ (l .loop .inv) (c .before .before .before .loop-test .taken) _ (c .before .field-of .ensures)
+
+slots-of-requires : tie.Need-slots-of-requires Inv-loop μ-loop
+slots-of-requires c κs = search needs
+
+loop-again : tie.Need-loop-again Inv-loop μ-loop
+loop-again c =
+    let p = c .before .before .before in
+    let l = p .before .before .before .before .before in
+    writing-next _ _ _ _ _ (l .before .before .before .before .before .pre) _ _ _ _ (l .loop .inv) (p .before .before .before .before .loop-test .taken) _ (p .before .before .field-of .ensures) _ _ (p .put .ensures) (p .put .kept .1 .1 .1 .1 .1 .1 .0) _ (c .slots-of .ensures)
+
+add-k : tie.Need-add-k Inv-loop μ-loop
+add-k c = omega (arith, loop-again c .standing .slots, c .before .before .before .before .before .before .before .before .before .before .before .before .before .pre .prepared)
+
+add-i : tie.Need-add-i Inv-loop μ-loop
+add-i c = omega arith
+
+loop-less : tie.Need-loop-less Inv-loop μ-loop
+loop-less c = omega arith
+
+same-length : tie.Need-same-length Inv-loop μ-loop
+same-length c = c .before .loop .inv .long
+
+returns : tie.Need-returns Inv-loop μ-loop
+returns c = writing-done _ _ _ _ _ (c .before .before .before .before .before .before .pre) _ _ _ _ (c .before .loop .inv) (c .loop-test .left)
+
+pub write-spec : {M : Type 1} → statement M
+write-spec =
+    tie.close
+    (tie.spec
+    Inv-loop
+    μ-loop
+    new-requires
+    loop-holds
+    mul-field-of
+    element-copy-out-field-of
+    field-of-requires
+    put-requires
+    slots-of-requires
+    add-k
+    add-i
+    loop-less
+    loop-again
+    same-length
+    returns)

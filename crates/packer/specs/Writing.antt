@@ -1,0 +1,75 @@
+-- The writing pass: the fields put into the lent buffer one after the other.
+use Prim.Native.Nat.{ℕ, _+_, _-_, _≤_}
+use mathlib.Core.Path.{_≡_}
+use mathlib.Core.Bool.{true}
+use mathlib.Core.List.{List, [], _∷_}
+use lib.ListN.{drop, replicate}
+use Rattle.layout.specs.declared.Code.{Code}
+use Rattle.layout.specs.declared.Code.the-variants.{Data, Move}
+use Rattle.layout.specs.declared.Motion.{Motion}
+use Rattle.layout.specs.declared.Motion.the-variants.{Skip, Back, Goto}
+use Rattle.layout.specs.declared.Shape.{Shape}
+use Rattle.layout.specs.declared.Shape.the-variants.{Text, Digits, Integers}
+use Rattle.layout.specs.declared.Count.{Count}
+use Rattle.layout.specs.declared.Field.{Field}
+use Rattle.layout.specs.Words.{slotsTaken, decoded, FitCode}
+use Rattle.record.specs.declared.Cursor.{Cursor}
+use Rattle.record.specs.Bytes.{storeAt}
+use Rattle.record.specs.Table.{Slot, slotsOf, shown, maxRecord}
+use Rattle.record.specs.Geometry.{amount, bytesFor, gotoIn}
+use Rattle.record.specs.Packing.{stored, nextSlot, kindFits, digitsFit, insideArea}
+use Rattle.packer.specs.Arguments.{slotAt}
+use Rattle.packer.specs.Measure.{origin, moved, advance, stepped, checked, Room, Ready, Prepared}
+
+-- `x` stores zeros; `@` past the highest position fills the gap with them
+abbrev pub putMove : List ℕ → Cursor → Motion → Count → List ℕ
+putMove out c Skip n = storeAt out (c .at) (replicate (amount n 0) 0)
+putMove out c Back n = out
+putMove out c Goto n = storeAt out (c .end) (replicate (gotoIn (c .end) n - c .end) 0)
+
+-- one field, whose argument is the slot t
+unfoldable pub put : List ℕ → Slot → List ℕ → Cursor → Code → Count → List ℕ
+unfolding stored shown
+put area t out c (Data s) n = storeAt out (c .at) (stored s (amount n (t .len)) (shown area t .items))
+put area t out c (Move m) n = putMove out c m n
+
+unfoldable pub written : List ℕ → List Slot → List Field → Cursor → List ℕ → List ℕ
+unfolding put
+written area ts [] c out = out
+written area ts (f ∷ fs) c out =
+    written area (drop (slotsTaken f) ts) fs (advance c (f .code) (f .count) (nextSlot ts .len)) (put area (nextSlot ts) out c (f .code) (f .count))
+
+-- ---- what the code relies on
+
+abbrev pub Enough : Shape → ℕ → ℕ → Type 0
+Enough (Text pad) n have = Unit {0}
+Enough (Digits hex high) n have = Unit {0}
+Enough (Integers w big) n have = n ≤ have
+
+-- n items of the value in a slot can be stored from the place `at` on, in a buffer of so many bytes
+pub record Storable (area : List ℕ) (s : Shape) (n : ℕ) (a : Slot) (at size : ℕ) : Type 0 where
+  pub inside : insideArea area a ≡ true
+  pub kind : kindFits s (a .kind) ≡ true
+  pub amounts : Enough s n (a .len)
+  pub digits : digitsFit s n (shown area a .items) ≡ true
+  pub code : FitCode (Data s)
+  pub room : at + bytesFor s n ≤ size
+  pub limit : size ≤ maxRecord
+
+-- a move has room in a buffer of so many bytes
+pub record Movable (c : Cursor) (m : Motion) (n : Count) (size : ℕ) : Type 0 where
+  pub within : c .at ≤ c .end
+  pub room : moved c m n .end ≤ size
+
+-- a field whose argument was checked has room in a buffer of so many bytes
+pub record Puttable (area ns : List ℕ) (k : ℕ) (c : Cursor) (code : Code) (n : Count) (size : ℕ) : Type 0 where
+  pub ready : Ready ns k c code n
+  pub within : c .at ≤ c .end
+  pub room : Room (stepped area k (slotAt ns k) c code n) size
+  pub limit : size ≤ maxRecord
+
+-- all fields have
+pub record Writable (area : List ℕ) (n : ℕ) (ws ns : List ℕ) (size : ℕ) : Type 0 where
+  pub prepared : Prepared n ws ns
+  pub room : Room (checked area 0 (slotsOf ns) (decoded n ws) origin) size
+  pub limit : size ≤ maxRecord

@@ -1,0 +1,57 @@
+// The packer: a layout and a table of arguments become a record (Tcl's `binary format`).
+// Everything is decided before anything is written: sizes, layout, slot count, arguments and length; then the fields are stored.
+ghost use mathlib.Core.Path.{_≡_};
+ghost use Prim.Native.Nat.{_≤_};
+ghost use lib.ListN.{length};
+ghost use Rattle.layout.specs.Words.{decoded};
+ghost use Rattle.record.specs.Table.{slotsOf, maxRecord};
+ghost use Rattle.record.specs.Packing.{packEffect, pack};
+ghost use Rattle.packer.specs.Measure.{Prepared};
+ghost use Rattle.packer.specs.Whole.{finished};
+use layout::Parsed;
+use layout::Refusal;
+use measure::Measured;
+use record::Answer;
+
+pub mod arguments;
+pub mod measure;
+pub mod slots;
+pub mod write;
+
+// What is left once there is a slot for each field that takes one.
+fn finish(words: &[u32; 256], n: usize, slots: &[u32], area: &[u8], output: &mut [u8]) -> Answer
+    requires { ⌜ Prepared n (now words) (now slots) × (length (now output) ≤ maxRecord) ⌝ }
+    ensures { λ r. ⌜ record { answer = r; output = now (output .exit) } ≡ packEffect (now (output .entry)) (finished (now (area .entry)) (slotsOf (now (slots .entry))) (decoded n (now (words .entry))) (now (output .entry))) ⌝ }
+{
+    let m = measure::measure(words, n, slots, area);
+    match m {
+        Measured::Refused(why, k) => Answer::refused(why, k as u32),
+        Measured::Length(len) => {
+            if output.len() < len {
+                return Answer::refused(Refusal::NoRoom, 0);
+            }
+            write::write(words, n, slots, area, output);
+            Answer::accepted(len as u32, 0)
+        }
+    }
+}
+
+// Packs the arguments into the output by the layout. A refusal changes nothing.
+pub fn pack(layout: &[u8], slots: &[u32], area: &[u8], output: &mut [u8]) -> Answer
+    ensures { λ r. ⌜ record { answer = r; output = now (output .exit) } ≡ pack (now (layout .entry)) (now (slots .entry)) (now (area .entry)) (now (output .entry)) ⌝ }
+{
+    if !record::lengths_fit(layout.len(), slots.len(), output.len(), area.len()) {
+        return Answer::refused(Refusal::BadSize, 0);
+    }
+    let mut words: [u32; 256] = [0; 256];
+    let p = layout::parse(layout, true, &mut words);
+    match p {
+        Parsed::Refused(why, place) => Answer::refused(why, place as u32),
+        Parsed::Fields(n, needed) => {
+            if slots.len() / record::SLOT_WIDTH != needed {
+                return Answer::refused(Refusal::WrongSlots, 0);
+            }
+            finish(&words, n, slots, area, output)
+        }
+    }
+}

@@ -1,0 +1,89 @@
+// The measuring pass: each argument checked, and the length of the result.
+ghost use mathlib.Core.Path.{_≡_};
+ghost use Prim.Native.Nat.{_+_, _<_};
+ghost use Rattle.layout.specs.declared.Code.the-variants.{Data};
+ghost use Rattle.layout.specs.Words.{decoded, FitCount};
+ghost use Rattle.record.specs.Table.{slotsOf};
+ghost use Rattle.packer.specs.Arguments.{slotAt};
+ghost use Rattle.packer.specs.Measure.{origin, moved, Ready, Prepared, stepped, checked, turnOf, Measures};
+use crate::arguments;
+use crate::arguments::Verdict;
+use crate::slots;
+use layout::Code;
+use layout::Count;
+use layout::Motion;
+use layout::Refusal;
+use layout::Shape;
+use record::Cursor;
+
+// What one field does to the pass: the cursor moves on, or the argument is refused.
+pub enum Turn {
+    Next(Cursor),
+    Stop(Refusal, usize),
+}
+
+// What the pass answers: the length of the result, or the refusal and the number of the slot.
+pub enum Measured {
+    Length(usize),
+    Refused(Refusal, usize),
+}
+
+// The cursor after `x X @`.
+fn moved(m: Motion, n: Count, c: Cursor) -> Cursor
+    requires { ⌜ (c .at < 1152921504606846976) × FitCount n ⌝ }
+    ensures { λ r. ⌜ r ≡ moved c m n ⌝ }
+{
+    match m {
+        Motion::Skip => c.store(record::amount(n, 0)),
+        Motion::Back => c.back(n),
+        Motion::Goto => c.goto(n),
+    }
+}
+
+// One field of the pass.
+fn step(code: Code, n: Count, slots: &[u32], area: &[u8], k: usize, c: Cursor) -> Turn
+    requires { ⌜ Ready (now slots) k c code n ⌝ }
+    ensures { λ r. ⌜ r ≡ turnOf (stepped (now (area .entry)) k (slotAt (now (slots .entry)) k) c code n) ⌝ }
+{
+    match code {
+        Code::Data(s) => {
+            let a = slots::slot_at(slots, k);
+            let v = arguments::check(s, n, a, k, area);
+            match v {
+                Verdict::Refused(why, place) => Turn::Stop(why, place),
+                Verdict::Fits => {
+                    let bytes = record::bytes_for(s, record::amount(n, a.len));
+                    Turn::Next(c.store(bytes))
+                }
+            }
+        }
+        Code::Move(m) => Turn::Next(moved(m, n, c)),
+    }
+}
+
+// The pass over the fields in the first n words.
+pub fn measure(words: &[u32; 256], n: usize, slots: &[u32], area: &[u8]) -> Measured
+    requires { ⌜ Prepared n (now words) (now slots) ⌝ }
+    ensures { λ r. ⌜ Measures (checked (now (area .entry)) 0 (slotsOf (now (slots .entry))) (decoded n (now (words .entry))) origin) r ⌝ }
+{
+    let mut c = Cursor::new(0);
+    let mut k: usize = 0;
+    let mut i: usize = 0;
+    while i < n {
+        let f = layout::field_of(words[i]);
+        let code = f.code;
+        let count = f.count;
+        let t = step(code, count, slots, area, k, c);
+        match t {
+            Turn::Stop(why, place) => {
+                return Measured::Refused(why, place);
+            }
+            Turn::Next(d) => {
+                c = d;
+                k += layout::slots_of(code);
+                i += 1;
+            }
+        }
+    }
+    Measured::Length(c.end)
+}

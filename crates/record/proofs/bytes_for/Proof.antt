@@ -1,0 +1,66 @@
+-- The arms are the clauses of `bytesFor`, and eight bytes an item do not wrap.
+use native.Mathlib.Omega.{arith}
+use Rattle.layout.specs.declared.Code.the-variants.{Data}
+use Rattle.layout.specs.declared.Shape.the-variants.{Integers}
+use Rattle.layout.specs.Words.{FitCode}
+use Rattle.record.proofs.Bounds.{per-byte-small, product-small}
+use borrow.Author.Needs.{needs}
+use Rattle.record.proofs.bytes_for.Statement.{statement}
+use Rattle.record.proofs.bytes_for.Tie as tie
+
+enum-told : tie.Need-enum-told
+enum-told c = search needs
+
+enum-known-s : tie.Need-enum-known-s
+enum-known-s c = search needs
+
+per-byte-requires : tie.Need-per-byte-requires
+per-byte-requires c κs = search needs
+
+sub-result : tie.Need-sub-result
+sub-result c = omega (arith, c .per-byte .ensures, per-byte-small (c .before .before .s .given .0 .0))
+
+add-result : tie.Need-add-result
+add-result c = omega (arith, c .per-byte .ensures, per-byte-small (c .before .before .s .given .0 .0))
+
+per-byte-requires-2 : tie.Need-per-byte-requires-2
+per-byte-requires-2 c κs = search needs
+
+div-result : tie.Need-div-result
+div-result c = omega (arith, c .per-byte2 .ensures, per-byte-small (c .before .before .before .s .given .0 .0))
+
+enum-known-s-2 : tie.Need-enum-known-s-2
+enum-known-s-2 c = search needs
+
+mul-result : tie.Need-mul-result
+mul-result c =
+    let start = c .before .before .before in
+    let s = c .before .s2 .given in
+    let fit : FitCode (Data (Integers (s .0 .0) (s .0 .1 .0))) = rw (s .1) at (start .pre .1) in
+    omega (arith, product-small (start .args .n) (s .0 .0) 4303355904 8 (omega arith) (fit .1))
+
+returns : tie.Need-returns
+returns c = search needs
+
+returns-2 : tie.Need-returns-2
+returns-2 c = rw (c .before .before .before .s .given .1) (cc)
+
+returns-3 : tie.Need-returns-3
+returns-3 c = rw (c .before .s2 .given .1)
+
+pub bytes-for-spec : {M : Type 1} → statement M
+bytes-for-spec =
+    tie.close
+    (tie.spec
+    enum-told
+    enum-known-s
+    per-byte-requires
+    sub-result
+    add-result
+    per-byte-requires-2
+    div-result
+    enum-known-s-2
+    mul-result
+    returns
+    returns-2
+    returns-3)
