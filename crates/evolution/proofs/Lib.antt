@@ -4,5 +4,6 @@ mod Run
 mod Arguments
 mod Shown
 pub mod ReadsBack
+mod Calls
 mod Instance
 mod Examples
