@@ -1,0 +1,210 @@
+"""Runs the benchmark: drive.py peers-program results.json
+
+Every peer does its timing loops itself and counts processor time. In each round every peer takes every workload once,
+so that what disturbs the machine disturbs all alike; what is compared are the ratios within a round, and of those the
+median is given.
+"""
+import json
+import os
+import shutil
+import subprocess
+import sys
+from statistics import median
+
+from workloads import BYTE_COUNTS, CALLS, FIELD_COUNTS, crowd_sum, main_workloads, workloads
+
+ROUNDS = int(os.environ.get("BENCH_ROUNDS", "15"))
+SLICE = int(float(os.environ.get("BENCH_MILLISECONDS", "3")) * 1e6)
+CROWD = int(os.environ.get("BENCH_RECORDS", "1000000"))
+CROWD_ROUNDS = 3
+NAMES = {"ours": "ours", "twin": "Rust twin", "tcl": "Tcl", "perl": "Perl", "python": "Python"}
+TITLES = {"w1": "w1 small mark record", "w2": "w2 strip of digits", "w3": "w3 s2000", "w4": "w4 a4096",
+          "w5": "w5 64 fields of c"}
+TWIN_GOAL = 1.5
+
+
+def tcl_goal(name, call):
+    return {("w1", "pack"): 2.0, ("w1", "read"): 4.0, ("w5", "pack"): 1.3}.get((name, call), 3.0)
+
+
+class Process:
+    def __init__(self, *command):
+        self.process = subprocess.Popen(command, stdin=subprocess.PIPE, stdout=subprocess.PIPE, text=True)
+
+    def tell(self, line):
+        self.process.stdin.write(line + "\n")
+
+    def ask(self, line):
+        self.tell(line)
+        self.process.stdin.flush()
+        answer = self.process.stdout.readline()
+        if not answer:
+            sys.exit(f"no answer to: {line}")
+        return answer.strip()
+
+    def close(self):
+        self.process.stdin.close()
+        self.process.wait()
+
+
+def start_peers(program):
+    """The processes, and for each peer the process that serves it."""
+    here = os.path.dirname(os.path.abspath(__file__))
+    native = Process(program)
+    serving = {peer: native for peer in native.ask("peers").split()}
+    if shutil.which("perl"):
+        serving["perl"] = Process("perl", os.path.join(here, "peer.pl"))
+    else:
+        print("skipped: Perl (perl not found)")
+    serving["python"] = Process(sys.executable, os.path.join(here, "peer.py"))
+    for process in {native, serving.get("perl", native)}:
+        for work in workloads():
+            for line in work.lines():
+                process.tell(line)
+    return serving
+
+
+def cases(peers):
+    """What is timed: peer, workload, call."""
+    for work in workloads():
+        for call in CALLS:
+            for peer in peers:
+                if peer != "memcpy" or work.name == "w4":
+                    yield peer, work.name, call
+
+
+def check_same(serving):
+    """Every peer gives the same bytes and the same values as ours."""
+    for work in workloads():
+        for call in CALLS:
+            expected = serving["ours"].ask(f"show ours {work.name} {call}")
+            for peer, process in serving.items():
+                if peer != "memcpy" and process.ask(f"show {peer} {work.name} {call}") != expected:
+                    sys.exit(f"{NAMES[peer]} and ours differ on {work.name} {call}")
+
+
+def calls_per_slice(serving, case):
+    peer, name, call = case
+    n = 1
+    while True:
+        spent = int(serving[peer].ask(f"time {peer} {name} {call} {n}"))
+        if spent > SLICE / 4:
+            return max(1, int(n * SLICE / spent))
+        n *= 4
+
+
+def run_rounds(serving):
+    """Nanoseconds of one call, for each case a list with one entry a round."""
+    todo = list(cases(serving))
+    counts = {case: calls_per_slice(serving, case) for case in todo}
+    times = {case: [] for case in todo}
+    for _ in range(ROUNDS):
+        for case in todo:
+            peer, name, call = case
+            n = counts[case]
+            times[case].append(int(serving[peer].ask(f"time {peer} {name} {call} {n}")) / n)
+    return times
+
+
+def run_crowd(serving):
+    """Records in a second, packed and read, for each peer and number of threads."""
+    cores = len(os.sched_getaffinity(0))
+    todo = [(peer, threads) for peer in serving if peer != "memcpy"
+            for threads in ((1, cores) if peer in ("ours", "twin", "tcl") and cores > 1 else (1,))]
+    rates = {case: ([], []) for case in todo}
+    for _ in range(CROWD_ROUNDS):
+        for peer, threads in todo:
+            records = CROWD if peer in ("ours", "twin") else CROWD // 5 if peer == "tcl" else CROWD // 20
+            packing, reading, total = map(int, serving[peer].ask(f"crowd {peer} {threads} {records}").split())
+            if total != crowd_sum(records):
+                sys.exit(f"{NAMES[peer]} read wrong marks")
+            rates[peer, threads][0].append(records / packing * 1e9)
+            rates[peer, threads][1].append(records / reading * 1e9)
+    return {case: tuple(map(median, both)) for case, both in rates.items()}
+
+
+def ratio(times, peer, name, call):
+    """Median over the rounds of the peer's time over ours; None where the peer is missing."""
+    if (peer, name, call) not in times:
+        return None
+    return median(theirs / own for theirs, own in zip(times[peer, name, call], times["ours", name, call]))
+
+
+def text(value, form="{:.2f}x"):
+    return "-" if value is None else form.format(value)
+
+
+def verdict(good):
+    return "met" if good else "MISSED"
+
+
+def print_main(times):
+    print("\nOne call. Each peer's time over ours: above 1, ours is quicker. Medians of the ratios of", ROUNDS, "rounds.")
+    print(f"{'workload':22} {'call':5} {'ours ns':>9} {'Tcl':>9} {'goal':>13} {'Rust twin':>10} {'goal':>14}"
+          f" {'Perl':>9} {'Python':>9}")
+    for work in main_workloads():
+        for call in CALLS:
+            tcl, twin = (ratio(times, peer, work.name, call) for peer in ("tcl", "twin"))
+            goal = tcl_goal(work.name, call)
+            tcl_text = f">={goal:.1f} {verdict(tcl >= goal)}" if tcl else "-"
+            twin_text = f">={1 / TWIN_GOAL:.2f} {verdict(twin >= 1 / TWIN_GOAL)}" if twin else "-"
+            print(f"{TITLES[work.name]:22} {call:5} {median(times['ours', work.name, call]):9.0f} {text(tcl):>9}"
+                  f" {tcl_text:>13} {text(twin):>10} {twin_text:>14}"
+                  f" {text(ratio(times, 'perl', work.name, call)):>9}"
+                  f" {text(ratio(times, 'python', work.name, call)):>9}")
+    for call in CALLS:
+        print(f"memcpy of the 4,096 bytes of w4 beside {call}: {text(ratio(times, 'memcpy', 'w4', call))} of our time")
+    print("Goals: Tcl's time at least 2 times ours for w1 pack, 4 times for w1 read, 1.3 times for w5 pack, 3 times for")
+    print("the others; our time at most 1.5 times the twin's (the twin's at least 0.67 of ours).")
+    print("Python's struct has no digit fields: w1 and w2 add the usual conversions by int, format and fromhex.")
+
+
+def print_growth(times, peers, letter, sizes, what):
+    print(f"\n{what}, nanoseconds a call (medians)")
+    print(f"{'':>8}" + "".join(f" {NAMES[peer] + ' ' + call:>15}" for peer in peers for call in CALLS))
+    for size in sizes:
+        row = (median(times[peer, f"{letter}{size}", call]) for peer in peers for call in CALLS)
+        print(f"{size:8}" + "".join(f" {value:15.0f}" for value in row))
+
+
+def print_crowd(rates):
+    print(f"\n{CROWD:,} candidates' records of 46 bytes (layout of w1), values put in and marks taken out, records a second")
+    print("(Tcl, Perl and Python on fewer records; Tcl with an interpreter for each thread)")
+    print(f"{'':12} {'threads':>7} {'packed':>14} {'read':>14}")
+    for (peer, threads), (packing, reading) in rates.items():
+        print(f"{NAMES[peer]:12} {threads:7} {packing:14,.0f} {reading:14,.0f}")
+
+
+def results(times, rates, peers):
+    """What the plot needs."""
+    return {
+        "peers": [[peer, NAMES[peer]] for peer in peers],
+        "ratios": [{"name": f"{work.name} {call}", "goal": tcl_goal(work.name, call),
+                    **{peer: ratio(times, peer, work.name, call) for peer in peers}}
+                   for work in main_workloads() for call in CALLS],
+        "growth": {letter: {f"{peer} {call}": [[size, median(times[peer, f"{letter}{size}", call])] for size in sizes]
+                            for peer in peers for call in CALLS}
+                   for letter, sizes in (("f", FIELD_COUNTS), ("b", BYTE_COUNTS))},
+        "crowd": [[peer, threads, *both] for (peer, threads), both in rates.items()],
+    }
+
+
+def main():
+    program, kept = sys.argv[1:]
+    serving = start_peers(program)
+    peers = [peer for peer in NAMES if peer in serving]
+    check_same(serving)
+    print("every peer gives the same bytes and values on every workload")
+    times = run_rounds(serving)
+    rates = run_crowd(serving)
+    for process in set(serving.values()):
+        process.close()
+    print_main(times)
+    print_growth(times, peers, "f", FIELD_COUNTS, "Growth by fields: 1 to 64 fields of c")
+    print_growth(times, peers, "b", BYTE_COUNTS, "Growth by bytes: one field of s, 16 to 4,096 bytes of record")
+    print_crowd(rates)
+    with open(kept, "w", encoding="utf-8") as file:
+        json.dump(results(times, rates, peers), file, indent=1)
+
+
+main()

@@ -1,0 +1,75 @@
+/* What the parts of the benchmark's C program share. */
+#ifndef PEERS_H
+#define PEERS_H
+
+#include "curlew.h"
+
+#include <stdio.h>
+#include <stdlib.h>
+#include <string.h>
+#include <time.h>
+
+typedef uint32_t pack_call(const uint8_t *, size_t, const uint8_t *, size_t, const uint8_t *, size_t,
+                           uint8_t *, size_t, uint8_t *, size_t);
+typedef uint32_t read_call(const uint8_t *, size_t, const uint8_t *, size_t, uint8_t *, size_t,
+                           uint8_t *, size_t, size_t, uint8_t *, size_t);
+
+/* Two calls with the same interface: ours, or the twin's. */
+struct library {
+    const char *name;
+    pack_call *pack;
+    read_call *read;
+};
+
+/* One workload: what is packed, by which layout; which record is read, by which layout. */
+struct work {
+    char name[32];
+    char pack_layout[CURLEW_MAX_LAYOUT + 1];
+    char read_layout[CURLEW_MAX_LAYOUT + 1];
+    uint8_t slots[CURLEW_MAX_SLOTS * CURLEW_SLOT_SIZE];
+    size_t count;
+    uint8_t area[CURLEW_MAX_AREA];
+    size_t used;
+    uint8_t record[CURLEW_MAX_RECORD];
+    size_t record_len;
+    void *tcl;
+};
+
+/* A million candidates: one layout, records of one length, side by side in one run. */
+#define CROWD_LAYOUT "a8 A20 Su Iu c6 b12 H8"
+#define CROWD_RECORD 46
+#define CROWD_FIELDS 7
+#define CROWD_NAME "Ada Lind"
+#define CROWD_STRIP "110110101100"
+#define CROWD_HEX "0badcafe"
+
+struct crowd {
+    void *(*open)(const void *with);
+    void (*pack)(void *state, size_t from, size_t to, uint8_t *records);
+    uint64_t (*read)(void *state, size_t from, size_t to, const uint8_t *records);
+    void (*close)(void *state);
+    const void *with;
+};
+
+void crowd_number(uint8_t *to, size_t candidate);
+unsigned crowd_mark(size_t candidate);
+void crowd_run(const struct crowd *crowd, unsigned threads, size_t records);
+extern const struct crowd library_crowd;
+
+/* Nanoseconds of processor time of this thread, and of the clock on the wall. */
+uint64_t used_time(void);
+uint64_t wall_time(void);
+
+void stop(const char *why);
+
+#ifndef NO_TCL
+void tcl_start(void);
+void tcl_prepare(struct work *work);
+uint64_t tcl_time_pack(struct work *work, unsigned long n);
+uint64_t tcl_time_read(struct work *work, unsigned long n);
+void tcl_show_pack(struct work *work);
+void tcl_show_read(struct work *work);
+extern const struct crowd tcl_crowd;
+#endif
+
+#endif

@@ -1,0 +1,141 @@
+"""Draws the plot of the benchmark: plot.py results.json plot.svg"""
+import json
+import sys
+from math import ceil, floor, log10
+
+WIDTH, HEIGHT = 1120, 860
+COLOURS = {"ours": "#009e73", "twin": "#e69f00", "tcl": "#0072b2", "perl": "#cc79a7", "python": "#8c8c8c"}
+INK, FAINT = "#222222", "#dddddd"
+
+
+class Canvas:
+    def __init__(self):
+        self.parts = [f'<svg xmlns="http://www.w3.org/2000/svg" viewBox="0 0 {WIDTH} {HEIGHT}" width="{WIDTH}"'
+                      f' height="{HEIGHT}" font-family="sans-serif" font-size="13">',
+                      f'<rect width="{WIDTH}" height="{HEIGHT}" fill="white"/>']
+
+    def text(self, x, y, words, anchor="start", size=13, weight="normal"):
+        words = words.replace("&", "&amp;").replace("<", "&lt;")
+        self.parts.append(f'<text x="{x:.1f}" y="{y:.1f}" text-anchor="{anchor}" font-size="{size}"'
+                          f' font-weight="{weight}" fill="{INK}">{words}</text>')
+
+    def line(self, x1, y1, x2, y2, colour=INK, width=1.0, dash=""):
+        self.parts.append(f'<line x1="{x1:.1f}" y1="{y1:.1f}" x2="{x2:.1f}" y2="{y2:.1f}" stroke="{colour}"'
+                          f' stroke-width="{width}" stroke-dasharray="{dash}"/>')
+
+    def bar(self, x, y, width, height, colour, opacity=1.0):
+        self.parts.append(f'<rect x="{x:.1f}" y="{y:.1f}" width="{width:.1f}" height="{height:.1f}"'
+                          f' fill="{colour}" fill-opacity="{opacity}"/>')
+
+    def path(self, points, colour, dash=""):
+        where = " ".join(f"{x:.1f},{y:.1f}" for x, y in points)
+        self.parts.append(f'<polyline points="{where}" fill="none" stroke="{colour}" stroke-width="2"'
+                          f' stroke-dasharray="{dash}"/>')
+
+    def save(self, path):
+        with open(path, "w", encoding="utf-8") as file:
+            file.write("\n".join(self.parts + ["</svg>"]) + "\n")
+
+
+class LogScale:
+    """Maps numbers to places, by powers of ten."""
+
+    def __init__(self, low, high, start, end):
+        self.low, self.high = log10(low), log10(high)
+        self.start, self.end = start, end
+
+    def at(self, value):
+        part = (log10(value) - self.low) / (self.high - self.low)
+        return self.start + part * (self.end - self.start)
+
+    def ticks(self):
+        return [10.0 ** k for k in range(ceil(self.low - 1e-9), floor(self.high + 1e-9) + 1)]
+
+
+def decades(values):
+    values = list(values)
+    return 10.0 ** floor(log10(min(values))), 10.0 ** ceil(log10(max(values)))
+
+
+def short(value):
+    return f"{value:g}" if value < 1000 else f"{value:,.0f}"
+
+
+def draw_legend(canvas, peers, y):
+    x = 70
+    for peer, name in peers:
+        canvas.bar(x, y - 11, 14, 14, COLOURS[peer])
+        canvas.text(x + 20, y, name)
+        x += 60 + 8 * len(name)
+
+
+def draw_ratios(canvas, peers, ratios, left, top, width, height):
+    others = [peer for peer, _ in peers if peer != "ours"]
+    shown = [row[peer] for row in ratios for peer in others if row[peer]]
+    low, high = decades(shown + [0.5, 10])
+    scale = LogScale(low, high, top + height, top)
+    canvas.text(left, top - 14, "Time of each peer, where ours is 1 (higher: the peer is slower; black tick: goal beside Tcl)",
+                size=15, weight="bold")
+    for tick in scale.ticks():
+        canvas.line(left, scale.at(tick), left + width, scale.at(tick), INK if tick == 1 else FAINT)
+        canvas.text(left - 8, scale.at(tick) + 4, short(tick), "end")
+    step = width / len(ratios)
+    thick = step * 0.8 / max(1, len(others))
+    for i, row in enumerate(ratios):
+        x = left + i * step + step * 0.1
+        canvas.text(left + (i + 0.5) * step, top + height + 18, row["name"], "middle")
+        for k, peer in enumerate(others):
+            if row[peer]:
+                y, one = scale.at(row[peer]), scale.at(1)
+                canvas.bar(x + k * thick, min(y, one), thick * 0.92, max(1, abs(one - y)), COLOURS[peer])
+            if peer == "tcl":
+                canvas.line(x + k * thick - 2, scale.at(row["goal"]), x + (k + 0.92) * thick + 2,
+                            scale.at(row["goal"]), INK, 2.5)
+
+
+def draw_growth(canvas, title, lines, left, top, width, height):
+    places = [x for points in lines.values() for x, _ in points]
+    across = LogScale(min(places), max(places), left, left + width)
+    up = LogScale(*decades(y for points in lines.values() for _, y in points), top + height, top)
+    canvas.text(left, top - 30, title, size=15, weight="bold")
+    canvas.text(left, top - 12, "ns a call; solid: pack, dashed: read", size=12)
+    for tick in up.ticks():
+        canvas.line(left, up.at(tick), left + width, up.at(tick), FAINT)
+        canvas.text(left - 6, up.at(tick) + 4, short(tick), "end", 12)
+    for x in sorted(set(places)):
+        canvas.line(across.at(x), top + height, across.at(x), top + height + 5)
+        canvas.text(across.at(x), top + height + 20, short(x), "middle", 12)
+    for name, points in lines.items():
+        peer, call = name.split()
+        canvas.path([(across.at(x), up.at(y)) for x, y in points], COLOURS[peer], "" if call == "pack" else "6 4")
+
+
+def draw_crowd(canvas, names, crowd, left, top, width, height):
+    largest = max(max(packing, reading) for _, _, packing, reading in crowd)
+    canvas.text(left - 95, top - 30, "Candidates' records, millions a second", size=15, weight="bold")
+    canvas.text(left - 95, top - 12, "full: packed, pale: read", size=12)
+    step = height / len(crowd)
+    for i, (peer, threads, packing, reading) in enumerate(crowd):
+        y = top + i * step
+        canvas.text(left - 8, y + step * 0.55, f"{names[peer]}, {threads} thr.", "end", 12)
+        for k, rate in enumerate((packing, reading)):
+            length = rate / largest * (width - 40)
+            canvas.bar(left, y + step * (0.1 + 0.4 * k), length, step * 0.36, COLOURS[peer], 1.0 if k == 0 else 0.5)
+            canvas.text(left + length + 4, y + step * (0.1 + 0.4 * k) + step * 0.18 + 4, f"{rate / 1e6:.2f}", size=11)
+    canvas.line(left, top, left, top + height)
+
+
+def main():
+    kept, target = sys.argv[1:]
+    with open(kept, encoding="utf-8") as file:
+        results = json.load(file)
+    canvas = Canvas()
+    draw_legend(canvas, results["peers"], 28)
+    draw_ratios(canvas, results["peers"], results["ratios"], 70, 72, 1020, 330)
+    draw_growth(canvas, "Growth by fields of c", results["growth"]["f"], 70, 510, 270, 300)
+    draw_growth(canvas, "Growth by bytes of an s field", results["growth"]["b"], 430, 510, 270, 300)
+    draw_crowd(canvas, dict(results["peers"]), results["crowd"], 850, 510, 250, 300)
+    canvas.save(target)
+
+
+main()

@@ -1,0 +1,81 @@
+"""The workloads: what is packed and read, for ours and Tcl by `pack` and `read`, for Perl by templates of its own."""
+import random
+import struct
+
+FIELD_COUNTS = (1, 2, 4, 8, 16, 32, 64)
+BYTE_COUNTS = (16, 64, 256, 1024, 4096)
+CALLS = ("pack", "read")
+
+
+class Work:
+    def __init__(self, name, pack, values, perl, plain=None, read=None, perl_read=None, record=None):
+        self.name, self.pack, self.values, self.perl = name, pack, values, perl
+        self.read, self.perl_read = read or pack, perl_read or perl
+        self.plain = plain and struct.Struct(plain)
+        self.record = record or self.packed()
+
+    def flat(self):
+        items = []
+        for value in self.values:
+            items += [value.encode()] if isinstance(value, str) else value
+        return items
+
+    def packed(self):
+        return self.plain.pack(*self.flat()) if self.plain else pack_mark_record(*self.values)
+
+    def lines(self):
+        """The workload as orders to a peer."""
+        yield f"work {self.name}"
+        yield f"pack {self.pack}"
+        yield f"read {self.read}"
+        yield f"perlpack {self.perl}"
+        yield f"perlread {self.perl_read}"
+        for value in self.values:
+            yield f"text {value}" if isinstance(value, str) else "list " + " ".join(map(str, value))
+        yield f"record {self.record.hex()}"
+        yield "end"
+
+
+MARK_RECORD = struct.Struct(">8s20sHI6b2s4s")
+
+
+def pack_mark_record(number, name, mark, running, legs, strip, digits):
+    return MARK_RECORD.pack(number.encode(), name.encode().ljust(20), mark[0], running[0], *legs,
+                            pack_digits(strip, 2), bytes.fromhex(digits))
+
+
+def pack_digits(digits, size):
+    return int(digits[::-1], 2).to_bytes(size, "little")
+
+
+def main_workloads():
+    dice = random.Random(417)
+    strip = "".join(dice.choice("01") for _ in range(4096))
+    letters = "".join(dice.choice("abcdefghijklmnopqrstuvwxyz") for _ in range(4096))
+    return [
+        Work("w1", "a8 A20 Su Iu c6 b12 H8",
+             ["00417042", "Ada Lind", [417], [1234567], [61, 0, 88, -7, 100, 3], "110110101100", "0badcafe"],
+             "a8 A20 n N c6 b12 H8"),
+        Work("w2", "b4096", [strip], "b4096", read="b*", perl_read="b*", record=dice.randbytes(4096)),
+        Work("w3", "s2000", [[dice.randint(-32768, 32767) for _ in range(2000)]], "s<2000", "<2000h"),
+        Work("w4", "a4096", [letters], "a4096", "4096s"),
+        Work("w5", "c" * 64, [[dice.randint(-128, 127)] for _ in range(64)], "c" * 64, "b" * 64),
+    ]
+
+
+def growth_workloads():
+    dice = random.Random(418)
+    for count in FIELD_COUNTS:
+        yield Work(f"f{count}", "c" * count, [[dice.randint(-128, 127)] for _ in range(count)], "c" * count, "b" * count)
+    for size in BYTE_COUNTS:
+        items = size // 2
+        yield Work(f"b{size}", f"s{items}", [[dice.randint(-32768, 32767) for _ in range(items)]],
+                   f"s<{items}", f"<{items}h")
+
+
+def workloads():
+    return main_workloads() + list(growth_workloads())
+
+
+def crowd_sum(records):
+    return sum(i % 1001 + i for i in range(records))

@@ -1,0 +1,142 @@
+-- What each way out of a call leaves is what the definition gives.
+use Prim.Native.Nat.{ℕ, _*_, _/_, _%_, _≤_, _<_}
+use native.Mathlib.Omega.{arith}
+use mathlib.Core.Path.{_≡_, refl, sym, ap, _∙_}
+use mathlib.Core.Bool.{Bool, true, false, _&&_}
+use mathlib.Core.List.{List}
+use borrow.Author.Tests.{le-leb, lt-leb, leb-true, eq-eqb, ne-eqb, eqb-true}
+use lib.Dec.{eqb, leb}
+use lib.ListN.{length, take}
+use lib.Seq.{length-take-le}
+use Rattle.layout.specs.declared.Refusal.the-variants.{BadSize}
+use Rattle.layout.specs.Refusals.{if_then_else_, numberOf}
+use Rattle.layout.specs.Layout.{maxLayout}
+use Rattle.record.specs.declared.Answer.{Answer}
+use Rattle.record.specs.Table.{maxSlots, slotWidth}
+use Rattle.record.specs.Geometry.{sizesFit}
+use Rattle.record.specs.Packing.{refusal, Packed, packs, pack}
+use Rattle.record.specs.Reading.{Read, reads, read}
+use Rattle.record.proofs.Fields.{split}
+use Rattle.curlew.specs.Boundary.{numberSize, slotSize, replySize, numbersIn, bytesOf, replyOf, guarded, slotsFit, PackCall, packCall, curlewPack, ReadCall, readCall, curlewRead}
+use Rattle.curlew.proofs.NumberLaws.{length-numbersIn}
+
+-- ---- the sizes of the runs
+
+and-true : (a b : Bool) → a && b ≡ true → (a ≡ true) × (b ≡ true)
+and-true true b h = (refl, h)
+and-true false b h = let z : _≡_ {A = ℕ} 0 1 = cc in absurd (omega arith)
+
+and-false : (a : Bool) → a && false ≡ false
+and-false true = refl
+and-false false = refl
+
+-- slot bytes that are served
+pub record Fit (size : ℕ) : Type 0 where
+  pub few : size ≤ slotSize * maxSlots
+  pub whole : size % slotSize ≡ 0
+
+pub fit : (size : ℕ) → slotsFit size ≡ true → Fit size
+fit size h =
+    let (few, whole) = and-true (leb size (slotSize * maxSlots)) (eqb (size % slotSize) 0) h in
+    record { few = leb-true size (slotSize * maxSlots) few; whole = eqb-true (size % slotSize) 0 whole }
+
+-- the numbers of such a run fill the part of a longer one that is lent for them
+pub room-for : {size : ℕ} (room : List ℕ) → Fit size → size / numberSize ≤ length room → size ≡ length (take (size / numberSize) room) * numberSize
+room-for {size} room f h = rw (length-take-le (size / numberSize) room h) (omega (arith, f .whole))
+
+-- whole slots that are not served are too many
+too-many : (size : ℕ) → slotsFit size ≡ false → eqb (size % slotSize) 0 ≡ true → slotWidth * maxSlots < size / numberSize
+too-many size bad whole =
+    split size (slotSize * maxSlots)
+    (λ few. let no-way : true ≡ false = rw (le-leb size (slotSize * maxSlots) few, whole) at bad in
+    let z : _≡_ {A = ℕ} 0 1 = cc in
+    absurd (omega arith))
+    (λ over. omega (arith, eqb-true (size % slotSize) 0 whole))
+
+-- slots over their number are line 1 of the table
+module _ (layout ns bs area : List ℕ) (many : slotWidth * maxSlots < length ns) where
+  sizes-many : sizesFit layout ns bs area ≡ false
+  sizes-many = rw (lt-leb (length ns) (slotWidth * maxSlots) many, and-false (leb (length layout) maxLayout))
+
+  pack-many : record { answer = refusal BadSize 0; output = bs } ≡ pack layout ns area bs
+  unfolding pack packs
+  pack-many = rw sizes-many
+
+  read-many : (mark : ℕ) → record { answer = refusal BadSize 0; slots = ns; area = area } ≡ read layout bs ns area mark
+  unfolding read reads
+  read-many mark = rw sizes-many
+
+-- ---- what both calls share
+
+otherwise : {A : Type 0} (b : Bool) {refused served : A} → (b ≡ true → refused ≡ served) → refused ≡ (if b then served else refused)
+otherwise true e = e refl
+otherwise false e = refl
+
+module _ {A : Type 0} (reply slots : List ℕ) (unwritten refused served : A) where
+  guarded-unwritten : (length reply ≡ replySize → ⊥) → unwritten ≡ guarded reply slots unwritten refused served
+  guarded-unwritten h = rw (ne-eqb (length reply) replySize h)
+
+  module _ (sized : length reply ≡ replySize) where
+    guarded-refused : slotsFit (length slots) ≡ false → (slotWidth * maxSlots < length (numbersIn slots) → refused ≡ served) → refused ≡ guarded reply slots unwritten refused served
+    guarded-refused bad many =
+        rw (eq-eqb (length reply) replySize sized)
+        (otherwise (eqb (length slots % slotSize) 0) (λ whole. many (rw length-numbersIn (too-many (length slots) bad whole))))
+
+    guarded-served : Fit (length slots) → served ≡ guarded reply slots unwritten refused served
+    guarded-served f = rw (eq-eqb (length reply) replySize sized, eq-eqb (length slots % slotSize) 0 (f .whole))
+
+-- ---- packing
+
+module _ (layout slots area out : List ℕ) where
+  -- the call on numbers, and the reply
+  pub pack-replied : {ns out′ reply′ : List ℕ} {a : Answer} {r : ℕ} → ns ≡ numbersIn slots → record { answer = a; output = out′ } ≡ pack layout ns area out → (r ≡ a .number) × (reply′ ≡ replyOf a)
+      → record { returned = r; output = out′; reply = reply′ } ≡ packCall (pack layout (numbersIn slots) area out)
+  unfolding packCall
+  pack-replied e p q = rw (← e, ← p, q .0, q .1)
+
+  module _ (reply : List ℕ) where
+    pub pack-unwritten : (length reply ≡ replySize → ⊥) → record { returned = numberOf BadSize; output = out; reply = reply } ≡ curlewPack layout slots area out reply
+    unfolding curlewPack
+    pack-unwritten h = guarded-unwritten reply slots _ _ _ h
+
+    module _ (sized : length reply ≡ replySize) where
+      pub pack-refused : {a : Answer} {r : ℕ} {reply′ : List ℕ} → slotsFit (length slots) ≡ false → a ≡ refusal BadSize 0 → (r ≡ a .number) × (reply′ ≡ replyOf a)
+          → record { returned = r; output = out; reply = reply′ } ≡ curlewPack layout slots area out reply
+      unfolding curlewPack packCall
+      pack-refused {a} {r} {reply′} bad e q =
+          let here : record { returned = r; output = out; reply = reply′ } ≡ packCall (record { answer = refusal BadSize 0; output = out }) = rw (q .0, q .1, e) in
+          here ∙ guarded-refused reply slots _ _ _ sized bad (λ many. ap packCall (pack-many layout (numbersIn slots) out area many))
+
+      pub pack-served : {k : PackCall} → Fit (length slots) → k ≡ packCall (pack layout (numbersIn slots) area out) → k ≡ curlewPack layout slots area out reply
+      unfolding curlewPack
+      pack-served f e = e ∙ guarded-served reply slots _ _ _ sized f
+
+-- ---- reading
+
+module _ (layout bytes slots area : List ℕ) (mark : ℕ) where
+  module _ {ns ns′ area′ reply′ : List ℕ} {a : Answer} {r : ℕ} (e : ns ≡ numbersIn slots) (p : record { answer = a; slots = ns′; area = area′ } ≡ read layout bytes ns area mark) (q : (r ≡ a .number) × (reply′ ≡ replyOf a)) where
+    -- the call on numbers, and the reply: a refusal leaves the slots
+    pub read-left : (a .number ≡ 0 → ⊥) → record { returned = r; slots = slots; area = area′; reply = reply′ } ≡ readCall slots (read layout bytes (numbersIn slots) area mark)
+    unfolding readCall
+    read-left h = rw (← e, ← p, ne-eqb (a .number) 0 h, q .0, q .1)
+
+    pub read-set : {slots′ : List ℕ} → a .number ≡ 0 → slots′ ≡ bytesOf ns′ → record { returned = r; slots = slots′; area = area′; reply = reply′ } ≡ readCall slots (read layout bytes (numbersIn slots) area mark)
+    unfolding readCall
+    read-set h s = rw (← e, ← p, eq-eqb (a .number) 0 h, s, q .0, q .1)
+
+  module _ (reply : List ℕ) where
+    pub read-unwritten : (length reply ≡ replySize → ⊥) → record { returned = numberOf BadSize; slots = slots; area = area; reply = reply } ≡ curlewRead layout bytes slots area mark reply
+    unfolding curlewRead
+    read-unwritten h = guarded-unwritten reply slots _ _ _ h
+
+    module _ (sized : length reply ≡ replySize) where
+      pub read-refused : {a : Answer} {r : ℕ} {reply′ : List ℕ} → slotsFit (length slots) ≡ false → a ≡ refusal BadSize 0 → (r ≡ a .number) × (reply′ ≡ replyOf a)
+          → record { returned = r; slots = slots; area = area; reply = reply′ } ≡ curlewRead layout bytes slots area mark reply
+      unfolding curlewRead readCall
+      read-refused {a} {r} {reply′} bad e q =
+          let here : record { returned = r; slots = slots; area = area; reply = reply′ } ≡ readCall slots (record { answer = refusal BadSize 0; slots = numbersIn slots; area = area }) = rw (q .0, q .1, e) in
+          here ∙ guarded-refused reply slots _ _ _ sized bad (λ many. ap (readCall slots) (read-many layout (numbersIn slots) bytes area many mark))
+
+      pub read-served : {k : ReadCall} → Fit (length slots) → k ≡ readCall slots (read layout bytes (numbersIn slots) area mark) → k ≡ curlewRead layout bytes slots area mark reply
+      unfolding curlewRead
+      read-served f e = e ∙ guarded-served reply slots _ _ _ sized f

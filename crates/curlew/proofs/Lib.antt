@@ -1,0 +1,3 @@
+-- Laws of the calls for a C host.
+mod NumberLaws
+mod Calls

@@ -1,0 +1,74 @@
+-- Each way out is one law of the definition; what was tested on the way is its premise.
+use native.Mathlib.Omega.{arith}
+use mathlib.Core.Path.{sym, _∙_}
+use borrow.Author.Tests.{not-true, not-false}
+use lib.ListN.{length}
+use lib.Seq.{length-take-le}
+use Rattle.curlew.proofs.Calls.{Fit, fit, room-for, pack-unwritten, pack-refused, pack-served}
+use borrow.Author.Needs.{needs}
+use Rattle.curlew.proofs.curlew_pack.Statement.{statement}
+use Rattle.curlew.proofs.curlew_pack.Tie as tie
+
+returns : tie.Need-returns
+returns c = pack-unwritten _ _ _ _ _ (c .if1 .taken)
+
+slots-fit-requires : tie.Need-slots-fit-requires
+slots-fit-requires c κs = search needs
+
+refused-requires : tie.Need-refused-requires
+refused-requires c κs = search needs
+
+reply-with-requires : tie.Need-reply-with-requires
+reply-with-requires c κs = search needs
+
+same-length : tie.Need-same-length
+same-length c = search needs
+
+returns-2 : tie.Need-returns-2
+returns-2 c = 
+    let replied = c .before .before in
+    let tested = replied .before .before .before in
+    pack-refused _ _ _ _ _ (tested .before .before .if1 .left) (sym (tested .before .slots-fit .ensures) ∙ not-true _ (tested .if2 .taken)) (replied .before .refused .ensures) (replied .reply-with .ensures)
+
+served : (c : tie.Else2) → Fit (length (c .before .before .before .before .before .before .before .before .args .slots .now))
+served c = fit _ (sym (c .before .slots-fit .ensures) ∙ not-false _ (c .if2 .left))
+
+array-borrow-prefix-room : tie.Need-array-borrow-prefix-room
+array-borrow-prefix-room c = let k = served (c .before .before) in omega (arith, k .few)
+
+slice-aggregate-pack-by : tie.Need-slice-aggregate-pack-by
+slice-aggregate-pack-by c = sym (length-take-le _ _ (array-borrow-prefix-room (c .before)))
+
+pack-by-requires : tie.Need-pack-by-requires
+pack-by-requires c κs = 
+    let tested = c .before .before .before in
+    (tested .before .before .if1 .left, room-for _ (served tested) (array-borrow-prefix-room (c .before)))
+
+same-length-2 : tie.Need-same-length-2
+same-length-2 c = search needs
+
+same-length-3 : tie.Need-same-length-3
+same-length-3 c = search needs
+
+returns-3 : tie.Need-returns-3
+returns-3 c = 
+    let called = c .before .before .before .before .before in
+    let tested = called .before .before .before .before in
+    pack-served _ _ _ _ _ (tested .before .before .if1 .left) (served tested) (called .pack-by .ensures)
+
+pub curlew-pack-spec : {M : Type 1} → statement M
+curlew-pack-spec =
+    tie.close
+    (tie.spec
+    returns
+    slots-fit-requires
+    refused-requires
+    reply-with-requires
+    same-length
+    returns-2
+    array-borrow-prefix-room
+    slice-aggregate-pack-by
+    pack-by-requires
+    same-length-2
+    same-length-3
+    returns-3)

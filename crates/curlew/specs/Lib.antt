@@ -1,0 +1,2 @@
+-- What the calls for a C host mean.
+pub mod Boundary

@@ -1,0 +1,368 @@
+/*
+ * curlew.h - packed mark records
+ *
+ * Two calls. curlew_pack turns values into the bytes of a record, curlew_read turns the bytes of a record
+ * back into values. A short text, the layout, says what the record holds and in which order. The layout
+ * language is that of Tcl's `binary format` and `binary scan`, within the types listed below.
+ *
+ * Link with libcurlew.a; no other library is needed. The header serves C99 and C++.
+ *
+ *
+ * VALUES: SLOTS AND THE AREA
+ *
+ * Values live in two runs of bytes that you own:
+ *
+ *   the area    a run of bytes that holds the values themselves, in any order, with or without gaps;
+ *   the slots   a run of slots. A slot is CURLEW_SLOT_SIZE (12) bytes: three big-endian 32-bit numbers,
+ *               kind, start and length, which say what the value is and where in the area it lies.
+ *
+ *   kind                  the value
+ *   CURLEW_UNSET     0    there is none; start and length mean nothing
+ *   CURLEW_STRING    1    `length` bytes of the area, from byte `start` on
+ *   CURLEW_SIGNED    2    `length` integers from byte `start` on, each CURLEW_ITEM_SIZE (8) bytes:
+ *                         a big-endian 64-bit number in two's complement
+ *   CURLEW_UNSIGNED  3    the same, unsigned
+ *
+ * For integers, `length` counts integers and not bytes. Bytes, slots and places count from 0. A slot of
+ * twelve zero bytes is not set, so memset(slots, 0, sizeof slots) clears a table. The helpers at the end of
+ * this header put and get slots, integers and answers.
+ *
+ *
+ * LAYOUTS
+ *
+ * A layout is a row of fields. A field is a type character, perhaps the flag `u`, and perhaps a count: decimal
+ * digits or `*`. No space may stand inside a field; any number of spaces may stand before each field and
+ * after the last. `a8 A20 Su Iu c6` is a layout of five fields; the empty layout has none. It needs no zero
+ * byte at its end: its length is given.
+ *
+ *   type   value         packing stores                           reading gives
+ *   a      string        count bytes, cut or padded with zeros    count bytes
+ *   A      string        the same, padded with spaces             the same without the spaces and zero
+ *                                                                 bytes at its end
+ *   b      digits 0 1    count digits, the first in the low bit   count digits
+ *   B      digits 0 1    count digits, the first in the high bit  count digits
+ *   h      hex digits    count digits, low half first             count digits, in lower case
+ *   H      hex digits    count digits, high half first            count digits, in lower case
+ *   c      integers      count items of 1 byte                    count integers
+ *   s S    integers      count items of 2 bytes                   count integers
+ *   i I    integers      count items of 4 bytes                   count integers
+ *   w W    integers      count items of 8 bytes                   count integers
+ *   x      no slot       count zero bytes, over old bytes too     nothing; moves forward, at most to the end
+ *   X      no slot       nothing; moves back, at most to 0        the same
+ *   @      no slot       nothing; moves to byte `count`           the same, at most to the end
+ *
+ * Every field but x X @ takes the next slot. Strings and digits are strings of bytes (CURLEW_STRING).
+ *
+ * Integers: a small letter is little-endian, a capital big-endian. Packing keeps the low-order bits of each
+ * integer and takes both integer kinds. Reading gives CURLEW_SIGNED or, with the flag `u`, CURLEW_UNSIGNED.
+ * The flag may follow c s S i I w W only, and packing ignores it.
+ *
+ * Digits: a field fills whole bytes, count/8 (b B) or count/2 (h H) rounded up. Digits that are missing are
+ * stored as 0, spare bits are 0 and are skipped in reading, and digits past the count are not looked at.
+ *
+ * Counts:
+ *   none     1, and for integers in packing: the slot holds exactly one. `@` must have a count.
+ *   number   at most CURLEW_MAX_COUNT; leading zeros are allowed. Integers in packing: the slot holds at least
+ *            that many, and the first ones are stored.
+ *   *        packing: all of the value. Reading: all that remains of the record, in whole items.
+ *            `X*` goes to 0. `@*` goes to the highest position so far in packing, to the end in reading.
+ *            `x*` goes to the end in reading and is refused in packing.
+ *
+ * The result of packing is as long as the highest position reached; bytes in it that nothing stored are zero.
+ *
+ *
+ * READING: THE MARK, AND RECORDS THAT ARE TOO SHORT
+ *
+ * The mark is the place in the area where the first value goes. The values follow one another from there
+ * without gaps, in the order of the fields, and the slot of each gets its kind, start and length. The bytes
+ * below the mark and after the last value stay as they were. To read several records into one area, give the
+ * place that one reading answers as the mark of the next.
+ *
+ * A field that needs more bytes than the record still has ends the reading: its slot and all later ones stay
+ * as they were. It is no error. Clear the slots before you read, and a slot that is still CURLEW_UNSET
+ * afterwards was not in the record. It never becomes a 0. Slots beyond those of the layout stay as well.
+ *
+ * A layout without X, @, `*` and counts of 0 may therefore grow: put new fields behind the old ones, and old
+ * records can be read by the new layout and new records by the old one. A record may also lose its end: what is
+ * left of it gives the values of the fields that are still whole.
+ *
+ *
+ * ANSWERS
+ *
+ * Both calls return a number and write three big-endian 32-bit numbers into the reply, the same one first:
+ *
+ *   packed     CURLEW_OK, length of the result, 0
+ *   read       CURLEW_OK, how many slots were set, place in the area after the last value
+ *   refused    the number of the refusal, the place of the fault, 0
+ *
+ *   no.  constant            refused because                                        place
+ *    1   CURLEW_BAD_SIZE     a run is over its size, the slots are no multiple      0
+ *                            of CURLEW_SLOT_SIZE, or the mark lies above the
+ *                            area's length
+ *    2   CURLEW_BAD_TYPE     the layout has an unknown type                         its byte in the layout
+ *    3   CURLEW_BAD_COUNT    a count is over CURLEW_MAX_COUNT                       byte of the type character
+ *    4   CURLEW_BAD_MOVE     `@` has no count, or packing met `x*`                  byte of the type character
+ *    5   CURLEW_BAD_SLOTS    packing: not one slot for each field that takes one;   0
+ *                            reading: too few slots
+ *    6   CURLEW_NOT_SET      packing: the slot is not set                           the slot
+ *    7   CURLEW_BAD_SLOT     packing: the slot's kind is above 3, or its value      the slot
+ *                            does not lie inside the area
+ *    8   CURLEW_WRONG_KIND   packing: a string where integers are due, or the       the slot
+ *                            reverse
+ *    9   CURLEW_BAD_LIST     packing: too few integers, or not exactly one where    the slot
+ *                            the field has no count
+ *   10   CURLEW_BAD_DIGIT    packing: a digit that counts is not a digit            the slot
+ *   11   CURLEW_NO_ROOM      the result is longer than the output run, or the       0
+ *                            values are longer than the area after the mark
+ *
+ * The checks are made in this order: 1; then 2, 3 and 4 together, field by field from the left; then 5; then
+ * 6 to 10 slot by slot, in this order within a slot; then 11. All are made before anything is written: a
+ * refusal writes the reply and nothing else. A reply of a wrong size makes the call return 1 and write nothing
+ * at all.
+ *
+ * After a packing that was accepted, the bytes of the output run behind the result stay as they were.
+ *
+ *
+ * SIZES
+ *
+ *   layout                  at most CURLEW_MAX_LAYOUT    256 bytes
+ *   slots                   at most CURLEW_MAX_SLOTS      64 slots, CURLEW_SLOT_SIZE bytes each
+ *   record, output run      at most CURLEW_MAX_RECORD  4,096 bytes
+ *   area                    at most CURLEW_MAX_AREA   65,536 bytes
+ *   count in a layout       at most CURLEW_MAX_COUNT   4,096
+ *   reply                   exactly CURLEW_PACK_REPLY or CURLEW_READ_REPLY bytes
+ *
+ * The limits are on the lengths that you give to a call. The output run must be no larger than a record may
+ * be, even where the result is short. A run of length 0 may be a null pointer.
+ *
+ *
+ * YOUR DUTY
+ *
+ * - Every pointer leads to as many bytes as the length beside it says.
+ * - No run that a call writes (out and reply in packing; slots, area and reply in reading) overlaps any other
+ *   run given to the same call. Runs that are only read may overlap one another.
+ * - Nobody else writes any of these runs until the call returns.
+ *
+ * All that this header promises rests on these three.
+ *
+ *
+ * THREADS
+ *
+ * The library holds no state. Any number of threads may call both functions at once, as long as each call
+ * keeps the duties above. Threads may share runs that nobody writes, such as layouts.
+ *
+ *
+ * EXAMPLE
+ *
+ * Packs a name and two marks, then reads the record by a layout that knows a third mark as well.
+ * Prints: Ada, 2 marks: 17 0, third not marked
+ *
+ *   #include <stdio.h>
+ *   #include <string.h>
+ *   #include "curlew.h"
+ *
+ *   static const char old_layout[] = "A8 S2";
+ *   static const char new_layout[] = "A8 S2 S";
+ *
+ *   int main(void)
+ *   {
+ *       uint8_t slots[3 * CURLEW_SLOT_SIZE], area[64], record[64];
+ *       uint8_t packed[CURLEW_PACK_REPLY], reply[CURLEW_READ_REPLY];
+ *       struct curlew_slot name, marks, third;
+ *
+ *       memcpy(area, "Ada", 3);
+ *       curlew_put_int(area + 3, 17);
+ *       curlew_put_int(area + 11, 0);
+ *       curlew_put_slot(slots, 0, CURLEW_STRING, 0, 3);
+ *       curlew_put_slot(slots, 1, CURLEW_SIGNED, 3, 2);
+ *       if (curlew_pack((const uint8_t *)old_layout, strlen(old_layout), slots, 2 * CURLEW_SLOT_SIZE,
+ *                       area, sizeof area, record, sizeof record, packed, sizeof packed) != CURLEW_OK)
+ *           return 1;
+ *
+ *       memset(slots, 0, sizeof slots);
+ *       if (curlew_read((const uint8_t *)new_layout, strlen(new_layout),
+ *                       record, curlew_get_answer(packed).first, slots, sizeof slots,
+ *                       area, sizeof area, 0, reply, sizeof reply) != CURLEW_OK)
+ *           return 1;
+ *       name = curlew_get_slot(slots, 0);
+ *       marks = curlew_get_slot(slots, 1);
+ *       third = curlew_get_slot(slots, 2);
+ *       printf("%.*s, %u marks: %d %d, third %s\n", (int)name.length, (const char *)area + name.start,
+ *              (unsigned)marks.length, (int)curlew_get_int(area + marks.start),
+ *              (int)curlew_get_int(area + marks.start + CURLEW_ITEM_SIZE),
+ *              third.kind == CURLEW_UNSET ? "not marked" : "marked");
+ *       return 0;
+ *   }
+ */
+#ifndef CURLEW_H
+#define CURLEW_H
+
+#include <stddef.h>
+#include <stdint.h>
+
+/* Sizes in bytes of the things that have a fixed size. */
+#define CURLEW_SLOT_SIZE 12
+#define CURLEW_ITEM_SIZE 8
+#define CURLEW_PACK_REPLY 12
+#define CURLEW_READ_REPLY 12
+
+/* Limits. */
+#define CURLEW_MAX_LAYOUT 256
+#define CURLEW_MAX_SLOTS 64
+#define CURLEW_MAX_RECORD 4096
+#define CURLEW_MAX_AREA 65536
+#define CURLEW_MAX_COUNT 4096
+
+/* Kinds of a slot. */
+#define CURLEW_UNSET 0
+#define CURLEW_STRING 1
+#define CURLEW_SIGNED 2
+#define CURLEW_UNSIGNED 3
+
+/* Numbers that come back. */
+#define CURLEW_OK 0
+#define CURLEW_BAD_SIZE 1
+#define CURLEW_BAD_TYPE 2
+#define CURLEW_BAD_COUNT 3
+#define CURLEW_BAD_MOVE 4
+#define CURLEW_BAD_SLOTS 5
+#define CURLEW_NOT_SET 6
+#define CURLEW_BAD_SLOT 7
+#define CURLEW_WRONG_KIND 8
+#define CURLEW_BAD_LIST 9
+#define CURLEW_BAD_DIGIT 10
+#define CURLEW_NO_ROOM 11
+
+#ifdef __cplusplus
+extern "C" {
+#endif
+
+/* Packs the values in slots and area by the layout into out. Writes out and reply. */
+uint32_t curlew_pack(const uint8_t *layout, size_t layout_len,
+                     const uint8_t *slots, size_t slots_len,
+                     const uint8_t *area, size_t area_len,
+                     uint8_t *out, size_t out_len,
+                     uint8_t *reply, size_t reply_len);
+
+/* Reads the record by the layout into slots and, from the mark on, into area. Writes slots, area and reply. */
+uint32_t curlew_read(const uint8_t *layout, size_t layout_len,
+                     const uint8_t *record, size_t record_len,
+                     uint8_t *slots, size_t slots_len,
+                     uint8_t *area, size_t area_len,
+                     size_t mark,
+                     uint8_t *reply, size_t reply_len);
+
+#ifdef __cplusplus
+}
+#endif
+
+/* A slot's three numbers. */
+struct curlew_slot {
+    uint32_t kind;
+    uint32_t start;
+    uint32_t length;
+};
+
+/* An answer's three numbers: the number itself, then the two whose meaning depends on it. */
+struct curlew_answer {
+    uint32_t number;
+    uint32_t first;
+    uint32_t second;
+};
+
+/* Puts a big-endian 32-bit number at `to`. */
+static inline void curlew_put_number(uint8_t *to, uint32_t number)
+{
+    to[0] = (uint8_t)(number >> 24);
+    to[1] = (uint8_t)(number >> 16 & 255);
+    to[2] = (uint8_t)(number >> 8 & 255);
+    to[3] = (uint8_t)(number & 255);
+}
+
+/* The big-endian 32-bit number at `from`. */
+static inline uint32_t curlew_get_number(const uint8_t *from)
+{
+    return (uint32_t)from[0] << 24 | (uint32_t)from[1] << 16 | (uint32_t)from[2] << 8 | (uint32_t)from[3];
+}
+
+/* Puts an unsigned integer, 8 bytes big-endian, at `to`. */
+static inline void curlew_put_uint(uint8_t *to, uint64_t value)
+{
+    curlew_put_number(to, (uint32_t)(value >> 32));
+    curlew_put_number(to + 4, (uint32_t)(value & 0xffffffffu));
+}
+
+/* The unsigned integer, 8 bytes big-endian, at `from`. */
+static inline uint64_t curlew_get_uint(const uint8_t *from)
+{
+    return (uint64_t)curlew_get_number(from) << 32 | curlew_get_number(from + 4);
+}
+
+/* Puts a signed integer, 8 bytes big-endian in two's complement, at `to`. */
+static inline void curlew_put_int(uint8_t *to, int64_t value)
+{
+    curlew_put_uint(to, (uint64_t)value);
+}
+
+/* The signed integer, 8 bytes big-endian in two's complement, at `from`. */
+static inline int64_t curlew_get_int(const uint8_t *from)
+{
+    uint64_t value = curlew_get_uint(from);
+
+    return value >> 63 ? -(int64_t)~value - 1 : (int64_t)value;
+}
+
+/* Puts the three numbers of slot `index` of a run of slots. */
+static inline void curlew_put_slot(uint8_t *slots, size_t index, uint32_t kind, uint32_t start, uint32_t length)
+{
+    uint8_t *slot = slots + index * CURLEW_SLOT_SIZE;
+
+    curlew_put_number(slot, kind);
+    curlew_put_number(slot + 4, start);
+    curlew_put_number(slot + 8, length);
+}
+
+/* The three numbers of slot `index` of a run of slots. */
+static inline struct curlew_slot curlew_get_slot(const uint8_t *slots, size_t index)
+{
+    const uint8_t *from = slots + index * CURLEW_SLOT_SIZE;
+    struct curlew_slot slot;
+
+    slot.kind = curlew_get_number(from);
+    slot.start = curlew_get_number(from + 4);
+    slot.length = curlew_get_number(from + 8);
+    return slot;
+}
+
+/* The three numbers of a reply. */
+static inline struct curlew_answer curlew_get_answer(const uint8_t *reply)
+{
+    struct curlew_answer answer;
+
+    answer.number = curlew_get_number(reply);
+    answer.first = curlew_get_number(reply + 4);
+    answer.second = curlew_get_number(reply + 8);
+    return answer;
+}
+
+/* A text for a number that came back. */
+static inline const char *curlew_refusal(uint32_t number)
+{
+    switch (number) {
+    case CURLEW_OK: return "accepted";
+    case CURLEW_BAD_SIZE: return "a run has a wrong size, or the mark lies above the area";
+    case CURLEW_BAD_TYPE: return "the layout has an unknown type";
+    case CURLEW_BAD_COUNT: return "a count in the layout is too large";
+    case CURLEW_BAD_MOVE: return "the layout has an @ without a count, or an x* in packing";
+    case CURLEW_BAD_SLOTS: return "the number of slots does not suit the layout";
+    case CURLEW_NOT_SET: return "the slot is not set";
+    case CURLEW_BAD_SLOT: return "the slot has an unknown kind, or its value lies outside the area";
+    case CURLEW_WRONG_KIND: return "the slot holds a string where integers are due, or the reverse";
+    case CURLEW_BAD_LIST: return "the slot holds too few integers, or not exactly one";
+    case CURLEW_BAD_DIGIT: return "the slot's string has a character that is not a digit";
+    case CURLEW_NO_ROOM: return "the result does not fit the run that is to hold it";
+    default: return "unknown number";
+    }
+}
+
+#endif

@@ -1,0 +1,89 @@
+"""Both calls from Python, by ctypes, over a shared object made from the archive: shared.py libcurlew.so"""
+import ctypes
+import struct
+import sys
+
+BYTES, SIZE = ctypes.c_char_p, ctypes.c_size_t
+RUN = [BYTES, SIZE]
+OWN = [ctypes.c_void_p, SIZE]
+
+
+def load(path):
+    lib = ctypes.CDLL(path)
+    lib.curlew_pack.argtypes = RUN + RUN + RUN + OWN + OWN
+    lib.curlew_read.argtypes = RUN + RUN + OWN + OWN + [SIZE] + OWN
+    lib.curlew_pack.restype = lib.curlew_read.restype = ctypes.c_uint32
+    return lib
+
+
+def lent(data):
+    return data, len(data)
+
+
+def table(values):
+    """Slots and area of a list of values: bytes, or lists of integers."""
+    slots = area = b""
+    for value in values:
+        if isinstance(value, bytes):
+            slots += struct.pack(">3I", 1, len(area), len(value))
+            area += value
+        else:
+            slots += struct.pack(">3I", 2, len(area), len(value))
+            area += struct.pack(f">{len(value)}q", *value)
+    return slots, area
+
+
+def pack(lib, layout, values, room=4096):
+    slots, area = table(values)
+    out, reply = ctypes.create_string_buffer(room), ctypes.create_string_buffer(12)
+    number = lib.curlew_pack(*lent(layout), *lent(slots), *lent(area), out, room, reply, 12)
+    answer = struct.unpack(">3I", reply.raw)
+    assert number == answer[0]
+    return answer, out.raw[:answer[1]] if number == 0 else None
+
+
+def shown(slot, area):
+    kind, start, length = slot
+    if kind == 0:
+        return None
+    if kind == 1:
+        return area[start:start + length]
+    return list(struct.unpack_from(f">{length}{'q' if kind == 2 else 'Q'}", area, start))
+
+
+def read(lib, layout, record, slots, room=65536):
+    lent_slots, area = ctypes.create_string_buffer(12 * slots), ctypes.create_string_buffer(room)
+    reply = ctypes.create_string_buffer(12)
+    number = lib.curlew_read(*lent(layout), *lent(record), lent_slots, 12 * slots, area, room, 0, reply, 12)
+    answer = struct.unpack(">3I", reply.raw)
+    assert number == answer[0]
+    return answer, [shown(slot, area.raw) for slot in struct.iter_unpack(">3I", lent_slots.raw)]
+
+
+def equal(got, expected):
+    if got != expected:
+        sys.exit(f"failed: got {got}, expected {expected}")
+
+
+def main():
+    lib = load(sys.argv[1])
+    values = [b"Ada", [61, 0], b"11011", b"BEEF", [-1]]
+    answer, record = pack(lib, b"A5 S2 b8 H4 c", values)
+    equal((answer, record), ((0, 13, 0), b"Ada  \x00\x3d\x00\x00\x1b\xbe\xef\xff"))
+    equal(read(lib, b"A5 Su2 b8 H4 cu c", record, 7),
+          ((0, 5, 3 + 16 + 8 + 4 + 8), [b"Ada", [61, 0], b"11011000", b"beef", [255], None, None]))
+    equal(read(lib, b"A5 S2 b8", record[:8], 3), ((0, 1, 3), [b"Ada", None, None]))
+    for width, order in ((1, "c"), (2, "sS"), (4, "iI"), (8, "wW")):
+        for letter in order:
+            expected = (-2 % 256 ** width).to_bytes(width, "little" if letter.islower() else "big")
+            equal(pack(lib, letter.encode(), [[-2]]), ((0, width, 0), expected))
+            equal(read(lib, letter.encode(), expected, 1), ((0, 1, 8), [[-2]]))
+    equal(pack(lib, b"c t", [[1]])[0], (2, 2, 0))
+    equal(pack(lib, b"b3", [b"012"])[0], (10, 0, 0))
+    equal(pack(lib, b"a9", [b""], 8)[0], (11, 0, 0))
+    equal(read(lib, b"c4097", b"", 1)[0], (3, 0, 0))
+    equal(pack(lib, b"", []), ((0, 0, 0), b""))
+    equal(lib.curlew_pack(None, 0, None, 0, None, 0, None, 0, None, 0), 1)
+
+
+main()

@@ -1,0 +1,347 @@
+//! Random calls: most are accepted or refused late, some are damaged in one place.
+
+use crate::call::{numbers, words, Call, Judge, Which};
+use crate::dice::Dice;
+use crate::evolution;
+use crate::layouts::{random_arguments, random_specs, spelled, Spec};
+use crate::twin;
+use crate::values::Value;
+
+/// Room in which a call is tried out to learn how much it needs.
+pub struct Scratch {
+    record: Vec<u8>,
+    slots: Vec<u8>,
+    area: Vec<u8>,
+}
+
+impl Scratch {
+    pub fn new() -> Scratch {
+        Scratch {
+            record: vec![0; twin::RECORD_MAX],
+            slots: vec![0; twin::SLOTS_MAX * twin::SLOT_BYTES],
+            area: vec![0; twin::AREA_MAX],
+        }
+    }
+
+    /// The length of the packing's result; none if it is refused anyway.
+    fn packed_length(&mut self, call: &Call) -> Option<usize> {
+        let answer = twin::pack(&call.layout, &call.slots, &call.area, &mut self.record);
+        if answer.number == 0 {
+            Some(answer.first as usize)
+        } else {
+            None
+        }
+    }
+
+    /// The bytes of all values of the reading; none if it is refused anyway.
+    fn value_bytes(&mut self, layout: &[u8], record: &[u8]) -> Option<usize> {
+        let answer = twin::read(layout, record, &mut self.slots, &mut self.area, 0);
+        if answer.number == 0 {
+            Some(answer.second as usize)
+        } else {
+            None
+        }
+    }
+}
+
+/// A table with the values in any order, with gaps between them.
+fn scattered(dice: &mut Dice, values: &[Value]) -> (Vec<u8>, Vec<u8>) {
+    let mut slots = vec![0; values.len() * 3];
+    let mut area = Vec::new();
+    let backwards = dice.once_in(3);
+    for step in 0..values.len() {
+        let at = if backwards {
+            values.len() - 1 - step
+        } else {
+            step
+        };
+        if dice.once_in(4) {
+            let gap = dice.below(6);
+            area.extend(dice.bytes(gap));
+        }
+        let slot = [
+            values[at].kind(),
+            area.len() as u32,
+            values[at].items() as u32,
+        ];
+        slots[at * 3..at * 3 + 3].copy_from_slice(&slot);
+        area.extend(values[at].bytes());
+    }
+    if dice.once_in(3) {
+        let rest = dice.below(9);
+        area.extend(dice.bytes(rest));
+    }
+    (words(&slots), area)
+}
+
+/// Lets some `a` or `A` field take its string from anywhere in the area.
+fn share_area(dice: &mut Dice, specs: &[Spec], slots: &mut [u8], area_len: usize) {
+    let takers = specs.iter().filter(|s| s.takes_slot());
+    for (spec, slot) in takers.zip(slots.chunks_exact_mut(12)) {
+        if b"aA".contains(&spec.letter) && dice.once_in(8) {
+            let start = dice.between(0, area_len);
+            let length = dice.between(0, area_len - start);
+            slot.copy_from_slice(&words(&[1, start as u32, length as u32]));
+        }
+    }
+}
+
+fn one_in(dice: &mut Dice, len: usize) -> Option<usize> {
+    if len == 0 {
+        None
+    } else {
+        Some(dice.below(len))
+    }
+}
+
+fn damage_text(dice: &mut Dice, text: &mut Vec<u8>) {
+    let byte = dice.pick(b"aAbBhHcsSiIwWxX@u*0123456789999  tqf\0\xff");
+    let at = dice.between(0, text.len());
+    match (dice.below(3), at < text.len()) {
+        (0, true) => text[at] = byte,
+        (1, true) => {
+            text.remove(at);
+        }
+        _ => text.insert(at, byte),
+    }
+}
+
+fn damage_slot(dice: &mut Dice, slots: &mut Vec<u8>, area_len: usize) {
+    let mut all = numbers(slots);
+    if let Some(at) = one_in(dice, all.len()) {
+        let old = all[at];
+        let end = area_len as u32;
+        let bit = 1 << dice.below(32);
+        all[at] = match at % 3 {
+            0 => dice.pick(&[0, 1, 2, 3, 4, 256, 0x0100_0001, u32::MAX]),
+            _ => dice.pick(&[
+                old.wrapping_add(1),
+                old.wrapping_sub(1),
+                0,
+                end,
+                end + 1,
+                end.wrapping_sub(old),
+                u32::MAX,
+                old ^ bit,
+                old.wrapping_add(0x2000_0000),
+            ]),
+        };
+    }
+    *slots = words(&all);
+}
+
+fn damage_bytes(dice: &mut Dice, bytes: &mut [u8]) {
+    for _ in 0..dice.between(1, 4) {
+        if let Some(at) = one_in(dice, bytes.len()) {
+            bytes[at] = dice.pick(b"\0 2gG:/@`\xff1a");
+        }
+    }
+}
+
+fn damage_slot_run(dice: &mut Dice, slots: &mut Vec<u8>) {
+    let len = match dice.below(4) {
+        0 => slots.len().saturating_sub(12),
+        1 => slots.len() + 12,
+        2 => slots.len() + dice.between(1, 11),
+        _ => dice.pick(&[768, 769, 780, 4]),
+    };
+    slots.resize(len, 1);
+}
+
+fn damage_sizes(dice: &mut Dice, call: &mut Call) {
+    match dice.below(6) {
+        0 => call.layout.resize(256, b' '),
+        1 => call.layout.resize(257, b' '),
+        2 => call.area.resize(65536, 7),
+        3 => call.area.resize(65537, 7),
+        4 => call.record.resize(4096, 0x20),
+        _ => call.record.resize(4097, 0x20),
+    }
+}
+
+fn damage(dice: &mut Dice, call: &mut Call) {
+    let area_len = call.area.len();
+    match dice.below(16) {
+        0..=3 => damage_text(dice, &mut call.layout),
+        4..=8 => damage_slot(dice, &mut call.slots, area_len),
+        9..=11 => damage_bytes(dice, &mut call.area),
+        12 | 13 => damage_slot_run(dice, &mut call.slots),
+        14 => damage_sizes(dice, call),
+        _ => call.reply.resize(dice.pick(&[0, 4, 11, 13]), 9),
+    }
+}
+
+fn random_pack(dice: &mut Dice, scratch: &mut Scratch) -> Call {
+    let mut specs = random_specs(dice, true);
+    let layout = spelled(dice, &mut specs);
+    let values = random_arguments(dice, &specs);
+    let (mut slots, area) = scattered(dice, &values);
+    share_area(dice, &specs, &mut slots, area.len());
+    let mut call = Call {
+        which: Which::Pack,
+        layout,
+        record: Vec::new(),
+        slots,
+        area,
+        mark: 0,
+        reply: dice.bytes(12),
+        null: dice.once_in(2),
+    };
+    let length = scratch.packed_length(&call).unwrap_or(100);
+    let room = match dice.below(8) {
+        0 => length.saturating_sub(1),
+        1 | 2 => length + dice.below(20),
+        3 => dice.pick(&[0, 10, 4096, 4096]),
+        _ => length,
+    };
+    call.record = dice.bytes(room.min(4096));
+    if dice.once_in(3) {
+        damage(dice, &mut call);
+    }
+    call
+}
+
+/// A record that some layout packed, or just bytes.
+fn random_record(dice: &mut Dice, specs: &[Spec], scratch: &mut Scratch) -> Vec<u8> {
+    let mut specs: Vec<Spec> = specs.to_vec();
+    specs.retain(|s| s.letter != b'x' || s.or_all(5000) <= 4096);
+    let layout = spelled(dice, &mut specs);
+    let arguments = random_arguments(dice, &specs);
+    let (slots, area) = scattered(dice, &arguments);
+    let answer = twin::pack(&layout, &slots, &area, &mut scratch.record);
+    if answer.number == 0 && !dice.once_in(5) {
+        return scratch.record[..answer.first as usize].to_vec();
+    }
+    let len = match dice.below(20) {
+        0 => dice.pick(&[4095, 4096, 1000]),
+        1..=4 => dice.below(300),
+        _ => dice.below(40),
+    };
+    let mut bytes = dice.bytes(len);
+    for byte in bytes.iter_mut() {
+        if dice.once_in(4) {
+            *byte = dice.pick(&[0, b' ', 0x7f, 0x80, 0xff]);
+        }
+    }
+    bytes
+}
+
+/// A mark and an area length around what the values need.
+fn random_room(dice: &mut Dice, need: usize) -> (usize, usize) {
+    let mark = match dice.below(8) {
+        0 => 0,
+        1 => dice.below(300),
+        2 => 65536usize.saturating_sub(need),
+        _ => dice.below(20),
+    };
+    let end = mark + need;
+    let area = match dice.below(12) {
+        0 => end.saturating_sub(1),
+        1 => end + dice.below(200),
+        2 => end + 1,
+        3 => mark,
+        _ => end,
+    };
+    let mark = match dice.below(60) {
+        0 => area + 1,
+        1 => dice.pick(&[usize::MAX, 1 << 32, 65537]),
+        2 => area,
+        _ => mark,
+    };
+    (mark, area.min(65536))
+}
+
+fn random_slots(dice: &mut Dice, count: usize) -> Vec<u8> {
+    let mut slots = dice.bytes(count * 12);
+    if dice.once_in(2) {
+        slots
+            .iter_mut()
+            .enumerate()
+            .for_each(|(at, b)| *b &= if at % 4 == 3 { 3 } else { 0 });
+    }
+    slots
+}
+
+/// A reading of the record with room for its values, or nearly so.
+fn reading(
+    dice: &mut Dice,
+    scratch: &mut Scratch,
+    layout: &[u8],
+    record: &[u8],
+    takers: usize,
+) -> Call {
+    let need = scratch.value_bytes(layout, record).unwrap_or(50);
+    let (mark, area_len) = random_room(dice, need);
+    let surplus = dice.pick(&[0, 0, 0, 1, 3]);
+    Call {
+        which: Which::Read,
+        layout: layout.to_vec(),
+        record: record.to_vec(),
+        slots: random_slots(
+            dice,
+            if takers <= 64 {
+                (takers + surplus).min(64)
+            } else {
+                takers
+            },
+        ),
+        area: dice.bytes(area_len),
+        mark,
+        reply: dice.bytes(12),
+        null: dice.once_in(2),
+    }
+}
+
+fn count_takers(specs: &[Spec]) -> usize {
+    specs.iter().filter(|s| s.takes_slot()).count()
+}
+
+fn random_read(dice: &mut Dice, scratch: &mut Scratch) -> Call {
+    let mut specs = random_specs(dice, false);
+    let layout = spelled(dice, &mut specs);
+    let mut record = random_record(dice, &specs, scratch);
+    if dice.once_in(3) {
+        record.truncate(dice.below(record.len() + 1));
+    }
+    let mut call = reading(dice, scratch, &layout, &record, count_takers(&specs));
+    if dice.once_in(6) {
+        damage(dice, &mut call);
+    }
+    call
+}
+
+/// Packs a record and reads every cut of it, by its own layout and by another.
+fn every_cut(dice: &mut Dice, scratch: &mut Scratch, judge: &mut dyn Judge) {
+    let mut specs = random_specs(dice, true);
+    let layout = spelled(dice, &mut specs);
+    let record = random_record(dice, &specs, scratch);
+    let mut others = random_specs(dice, false);
+    let other = spelled(dice, &mut others);
+    let step = 1 + record.len() / 150;
+    let first = dice.below(step);
+    for cut in (first..=record.len())
+        .step_by(step)
+        .chain(Some(record.len()))
+    {
+        let call = reading(dice, scratch, &layout, &record[..cut], count_takers(&specs));
+        judge.compare("every cut", &call);
+        if cut % 4 == 0 {
+            let call = reading(dice, scratch, &other, &record[..cut], count_takers(&others));
+            judge.compare("every cut, other layout", &call);
+        }
+    }
+}
+
+/// Some calls of every sort.
+pub fn round(dice: &mut Dice, scratch: &mut Scratch, judge: &mut dyn Judge) {
+    for _ in 0..100 {
+        let call = random_pack(dice, scratch);
+        judge.compare("random packing", &call);
+        let call = random_read(dice, scratch);
+        judge.compare("random reading", &call);
+    }
+    for _ in 0..2 {
+        every_cut(dice, scratch, judge);
+        evolution::round(dice, judge);
+    }
+}

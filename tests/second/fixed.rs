@@ -1,0 +1,758 @@
+//! Calls whose outcome is written out by hand: the examples of the papers and the edges.
+
+use crate::call::{words, After, Call, Judge, Which};
+use crate::values::{ints, table, text, uints, Value};
+
+const OLD_OUT: u8 = 0xee;
+const OLD_SLOT: u8 = 0xbb;
+const OLD_AREA: u8 = 0xcc;
+const OLD_REPLY: u8 = 0xdd;
+const MARK: usize = 3;
+const ROOM: usize = 4;
+
+pub fn packing(layout: impl AsRef<[u8]>, values: &[Value]) -> Call {
+    let (slots, area) = table(values, 0);
+    Call {
+        which: Which::Pack,
+        layout: layout.as_ref().to_vec(),
+        record: vec![OLD_OUT; 4096],
+        slots,
+        area,
+        mark: 0,
+        reply: vec![OLD_REPLY; 12],
+        null: false,
+    }
+}
+
+pub fn reading(layout: impl AsRef<[u8]>, record: impl AsRef<[u8]>, slots: usize) -> Call {
+    Call {
+        which: Which::Read,
+        layout: layout.as_ref().to_vec(),
+        record: record.as_ref().to_vec(),
+        slots: vec![OLD_SLOT; slots * 12],
+        area: vec![OLD_AREA; 200],
+        mark: MARK,
+        reply: vec![OLD_REPLY; 12],
+        null: false,
+    }
+}
+
+/// What an accepted packing leaves behind.
+pub fn packed(call: &Call, bytes: &[u8]) -> After {
+    let mut after = call.answered([0, bytes.len() as u32, 0]);
+    after.record[..bytes.len()].copy_from_slice(bytes);
+    after
+}
+
+/// What a reading that set these values leaves behind.
+pub fn was_read(call: &Call, values: &[Value]) -> After {
+    let (slots, area) = table(values, call.mark);
+    let end = call.mark + area.len();
+    let mut after = call.answered([0, values.len() as u32, end as u32]);
+    after.slots[..slots.len()].copy_from_slice(&slots);
+    after.area[call.mark..end].copy_from_slice(&area);
+    after
+}
+
+fn accepts(t: &mut dyn Judge, call: Call, bytes: impl AsRef<[u8]>) {
+    let after = packed(&call, bytes.as_ref());
+    t.expect("packing", &call, &after);
+}
+
+fn refuses(t: &mut dyn Judge, call: Call, number: u32, place: u32) {
+    let after = call.answered([number, place, 0]);
+    t.expect("refusal", &call, &after);
+}
+
+fn packs(t: &mut dyn Judge, layout: &str, values: &[Value], bytes: impl AsRef<[u8]>) {
+    accepts(t, packing(layout, values), bytes);
+}
+
+fn pack_refused(t: &mut dyn Judge, layout: &str, values: &[Value], number: u32, place: u32) {
+    refuses(t, packing(layout, values), number, place);
+}
+
+/// Reads with an area that has just `ROOM` bytes too many, and `kept` slots more than are set.
+fn reads(t: &mut dyn Judge, layout: &str, record: impl AsRef<[u8]>, values: &[Value], kept: usize) {
+    let mut call = reading(layout, record, values.len() + kept);
+    let size: usize = values.iter().map(|v| v.bytes().len()).sum();
+    call.area = vec![OLD_AREA; MARK + size + ROOM];
+    let after = was_read(&call, values);
+    t.expect("reading", &call, &after);
+}
+
+fn read_refused(t: &mut dyn Judge, layout: &str, slots: usize, number: u32, place: u32) {
+    refuses(t, reading(layout, "abcdef", slots), number, place);
+}
+
+/// Replaces one of the three numbers of a slot.
+fn with_slot(mut call: Call, slot: usize, numbers: [u32; 3]) -> Call {
+    call.slots[slot * 12..slot * 12 + 12].copy_from_slice(&words(&numbers));
+    call
+}
+
+fn checked_packings(t: &mut dyn Judge) {
+    let binary = [text("11100"), text("111000011010")];
+    packs(t, "b5b*", &binary, [0x07, 0x87, 0x05]);
+    packs(t, "B5B*", &binary, [0xe0, 0xe1, 0xa0]);
+    let hex = [text("ab"), text("DEF"), text("987")];
+    packs(t, "H3H*H2", &hex, [0xab, 0x00, 0xde, 0xf0, 0x98]);
+    let hex = [text("AB"), text("def"), text("987")];
+    packs(t, "h3h*h2", &hex, [0xba, 0x00, 0xed, 0x0f, 0x89]);
+    let lists = [ints(&[3, -3, 128, 1]), ints(&[260]), ints(&[2, 5])];
+    packs(t, "c3cc*", &lists, [0x03, 0xfd, 0x80, 0x04, 0x02, 0x05]);
+    let three = [text("abc"), text("def"), text("ghi")];
+    packs(t, "a3X*a3X2a3", &three, "dghi");
+    let four = [text("abcde"), text("f"), text("ghi"), text("j")];
+    packs(t, "a5@2a1@*a3@10a1", &four, "abfdeghi\0\0j");
+}
+
+fn checked_readings(t: &mut dyn Judge) {
+    let bits = [text("11100"), text("1110000110100000")];
+    reads(t, "b5b*", [0x07, 0x87, 0x05], &bits, 0);
+    reads(
+        t,
+        "s2s*",
+        [5, 0, 7, 0, 0xf0, 0xff],
+        &[ints(&[5, 7]), ints(&[-16])],
+        0,
+    );
+    reads(t, "s3s", "abcdefg", &[ints(&[25185, 25699, 26213])], 1);
+    reads(t, "su", [0x00, 0x80], &[uints(&[32768])], 0);
+    reads(t, "s", [0x00, 0x80], &[ints(&[-32768])], 0);
+    reads(t, "s*", [0x41], &[ints(&[])], 0);
+    reads(t, "c", [], &[], 1);
+    reads(t, "a0", [], &[text("")], 0);
+}
+
+fn other_packings(t: &mut dyn Judge) {
+    let words = [text("alpha"), text("bravo"), text("charlie")];
+    packs(t, "a7a*a", &words, "alpha\0\0bravoc");
+    packs(t, "A6A*A", &words, "alpha bravoc");
+    packs(t, "a*", &[text([0xe2, 0x82, 0xac])], [0xe2, 0x82, 0xac]);
+    packs(t, "a*", &[text([0xa4])], [0xa4]);
+    packs(
+        t,
+        "h3h*",
+        &[text("AB"), text("def")],
+        [0xba, 0x00, 0xed, 0x0f],
+    );
+    packs(
+        t,
+        "H3H*",
+        &[text("ab"), text("DEF")],
+        [0xab, 0x00, 0xde, 0xf0],
+    );
+    pack_refused(t, "c", &[ints(&[2, 5])], 9, 0);
+    let shorts = [ints(&[3, -3, 258, 1])];
+    packs(t, "s3", &shorts, [3, 0, 0xfd, 0xff, 2, 1]);
+    packs(t, "S3", &shorts, [0, 3, 0xff, 0xfd, 1, 2]);
+    let longs = [ints(&[3, -3, 65536, 1])];
+    packs(
+        t,
+        "i3",
+        &longs,
+        [3, 0, 0, 0, 0xfd, 0xff, 0xff, 0xff, 0, 0, 1, 0],
+    );
+    packs(
+        t,
+        "I3",
+        &longs,
+        [0, 0, 0, 3, 0xff, 0xff, 0xff, 0xfd, 0, 1, 0, 0],
+    );
+    packs(t, "w", &[ints(&[7810179016327718216])], "HelloTcl");
+    packs(
+        t,
+        "Wc",
+        &[ints(&[4785469626960341345]), ints(&[110])],
+        "BigEndian",
+    );
+    let three = [text("abc"), text("def"), text("ghi")];
+    packs(t, "a3xa3x2a3", &three, "abc\0def\0\0ghi");
+    packs(t, "s1", &[ints(&[0x8000])], [0x00, 0x80]);
+    packs(t, "Ia*", &[ints(&[5]), text("hello")], "\0\0\0\x05hello");
+}
+
+fn other_readings(t: &mut dyn Judge) {
+    reads(t, "s1", [0x00, 0x80], &[ints(&[-32768])], 0);
+    reads(t, "su1", [0x00, 0x80], &[uints(&[32768])], 0);
+    reads(t, "a6a10", "abcde\0fghi", &[text("abcde\0")], 1);
+    reads(t, "a*", [0xe2, 0x82, 0xac], &[text([0xe2, 0x82, 0xac])], 0);
+    reads(t, "A*", "abc efghi  \0", &[text("abc efghi")], 0);
+    let bits = [text("01110"), text("1000011100000101")];
+    reads(t, "B5B*", [0x70, 0x87, 0x05], &bits, 0);
+    let record = [0x07, 0xc6, 0x05, 0x1f, 0x34];
+    reads(t, "H3H*", record, &[text("07c"), text("051f34")], 0);
+    let record = [0x07, 0x86, 0x05, 0x12, 0x34];
+    reads(t, "h3h*", record, &[text("706"), text("502143")], 0);
+    reads(t, "h3h*", &record[..3], &[text("706"), text("50")], 0);
+    reads(t, "H3H*", &record[..3], &[text("078"), text("05")], 0);
+    reads(t, "c2c*", &record[..3], &[ints(&[7, -122]), ints(&[5])], 0);
+    let pair = [ints(&[5, 7]), ints(&[-16])];
+    reads(t, "S2S*", [0, 5, 0, 7, 0xff, 0xf0], &pair, 0);
+    let little = [5, 0, 0, 0, 7, 0, 0, 0, 0xf0, 0xff, 0xff, 0xff];
+    reads(t, "i2i*", little, &pair, 0);
+    reads(t, "wi*", little, &[ints(&[30064771077]), ints(&[-16])], 0);
+    let big = [0, 0, 0, 5, 0, 0, 0, 7, 0xff, 0xff, 0xff, 0xf0];
+    reads(t, "I2I*", big, &pair, 0);
+    reads(t, "WI*", big, &[ints(&[21474836487]), ints(&[-16])], 0);
+    reads(t, "x2H*", [1, 2, 3, 4], &[text("0304")], 0);
+    reads(
+        t,
+        "c2XH*",
+        [1, 2, 3, 4],
+        &[ints(&[1, 2]), text("020304")],
+        0,
+    );
+    reads(
+        t,
+        "c2@1H*",
+        [1, 2, 3, 4],
+        &[ints(&[1, 2]), text("020304")],
+        0,
+    );
+    reads(t, "I", [0, 0, 0], &[], 1);
+    reads(t, "I", [0, 0, 0, 9], &[ints(&[9])], 0);
+}
+
+fn layout_texts(t: &mut dyn Judge) {
+    packs(t, "", &[], []);
+    packs(t, "   ", &[], []);
+    packs(t, " c  c ", &[ints(&[1]), ints(&[2])], [1, 2]);
+    reads(t, "   ", "abc", &[], 2);
+    pack_refused(t, "c 3", &[ints(&[1])], 2, 2);
+    pack_refused(t, "c*5", &[ints(&[1])], 2, 2);
+    pack_refused(t, "c5*", &[ints(&[1])], 2, 2);
+    pack_refused(t, "c**", &[ints(&[1])], 2, 2);
+    pack_refused(t, "cu u", &[ints(&[1])], 2, 3);
+    pack_refused(t, "cuu", &[ints(&[1])], 2, 2);
+    pack_refused(t, "c1u", &[ints(&[1])], 2, 2);
+    pack_refused(t, "c u", &[ints(&[1])], 2, 2);
+    pack_refused(t, "5", &[], 2, 0);
+    pack_refused(t, "*", &[], 2, 0);
+    pack_refused(t, "u", &[], 2, 0);
+    pack_refused(t, " \tc", &[], 2, 1);
+    pack_refused(t, "c-1", &[ints(&[1])], 2, 1);
+    pack_refused(t, "c+1", &[ints(&[1])], 2, 1);
+    pack_refused(t, "c\0", &[ints(&[1])], 2, 1);
+    for letter in ["a", "A", "b", "B", "h", "H", "x", "X"] {
+        let layout = format!("{}u", letter);
+        pack_refused(t, &layout, &[text("1")], 2, 1);
+        read_refused(t, &layout, 1, 2, 1);
+    }
+    for letter in "tnmfdrRqQ".chars() {
+        pack_refused(t, &letter.to_string(), &[], 2, 0);
+        read_refused(t, &letter.to_string(), 1, 2, 0);
+    }
+    for letter in ["c", "s", "S", "i", "I", "w", "W"] {
+        packs(t, &format!("{}u0", letter), &[ints(&[])], []);
+        reads(t, &format!("{}u0", letter), "ab", &[uints(&[])], 0);
+        reads(t, &format!("{}0", letter), "ab", &[ints(&[])], 0);
+    }
+    every_single_byte(t);
+    leading_zeros(t);
+}
+
+/// Each byte alone as a layout: sixteen types, the space, and unknown types.
+fn every_single_byte(t: &mut dyn Judge) {
+    for byte in 0..=255u8 {
+        let call = packing([byte], &[]);
+        match byte {
+            b' ' | b'X' => accepts(t, call, []),
+            b'x' => accepts(t, call, [0]),
+            b'@' => refuses(t, call, 4, 0),
+            _ if b"aAbBhHcsSiIwW".contains(&byte) => refuses(t, call, 5, 0),
+            _ => refuses(t, call, 2, 0),
+        }
+    }
+}
+
+fn leading_zeros(t: &mut dyn Judge) {
+    packs(t, "c03", &[ints(&[1, 2, 3])], [1, 2, 3]);
+    packs(t, "c00", &[ints(&[])], []);
+    let zeros = "0".repeat(254);
+    packs(t, &format!("a{}2", zeros), &[text("xyz")], "xy");
+    reads(t, &format!("a{}2", zeros), "xyz", &[text("xy")], 0);
+    packs(t, &format!("a{}", "0".repeat(255)), &[text("xyz")], "");
+    pack_refused(t, &format!("a{}", "9".repeat(255)), &[text("xyz")], 3, 0);
+    let zeros = "0".repeat(251);
+    packs(t, &format!("x{}4096", zeros), &[], [0; 4096]);
+    pack_refused(t, &format!("x{}4097", zeros), &[], 3, 0);
+    for large in [
+        "4097",
+        "4294967295",
+        "4294967296",
+        "18446744073709551616",
+        "65536",
+        "65537",
+    ] {
+        pack_refused(t, &format!("a{}", large), &[text("")], 3, 0);
+        read_refused(t, &format!(" c a{}", large), 2, 3, 3);
+    }
+}
+
+fn moves(t: &mut dyn Judge) {
+    pack_refused(t, "@", &[], 4, 0);
+    read_refused(t, "@", 0, 4, 0);
+    pack_refused(t, "@u5", &[], 4, 0);
+    read_refused(t, "@u5", 0, 4, 0);
+    pack_refused(t, "@ 5", &[], 4, 0);
+    pack_refused(t, "@5u", &[], 2, 2);
+    pack_refused(t, "x*", &[], 4, 0);
+    pack_refused(t, "x*u", &[], 4, 0);
+    read_refused(t, "x*u", 0, 2, 2);
+    pack_refused(t, "xu", &[], 2, 1);
+    reads(t, "x*", "abc", &[], 0);
+    reads(t, "x*a0", "abc", &[text("")], 0);
+    reads(t, "x*a", "abc", &[], 1);
+    reads(t, "x9a*", "abc", &[text("")], 0);
+    reads(t, "x9X a", "abc", &[text("c")], 0);
+    reads(t, "@9X2a", "abc", &[text("b")], 0);
+    reads(t, "@*Xa", "abc", &[text("c")], 0);
+    reads(
+        t,
+        "a3X*aX9a",
+        "abc",
+        &[text("abc"), text("a"), text("a")],
+        0,
+    );
+    reads(t, "a2X0a", "abc", &[text("ab"), text("c")], 0);
+    reads(t, "xa", "abc", &[text("b")], 0);
+    reads(t, "x0a", "abc", &[text("a")], 0);
+    packs(t, "@4", &[], [0; 4]);
+    packs(t, "@4@2", &[], [0; 4]);
+    packs(t, "@4X9", &[], [0; 4]);
+    packs(t, "a4@1@*a", &[text("abcd"), text("e")], "abcde");
+    packs(
+        t,
+        "a4X3a@*a",
+        &[text("abcd"), text("e"), text("f")],
+        "aecdf",
+    );
+    packs(t, "a4X3x2", &[text("abcd")], "a\0\0d");
+    packs(t, "a4X3x0", &[text("abcd")], "abcd");
+    packs(t, "a4X3a0", &[text("abcd"), text("x")], "abcd");
+    packs(t, "a4X0a", &[text("abcd"), text("e")], "abcde");
+    packs(t, "a4X3A2", &[text("abcd"), text("")], "a  d");
+    packs(t, "a2X2b8", &[text("ab"), text("1")], "\x01b");
+    packs(t, "a2X2b9", &[text("ab"), text("1")], "\x01\0");
+    packs(t, "a2X2H3", &[text("ab"), text("1")], "\x10\0");
+    packs(t, "X", &[], []);
+    packs(t, "X*", &[], []);
+    packs(t, "@*", &[], []);
+    packs(t, "@0", &[], []);
+}
+
+fn fields_in_packing(t: &mut dyn Judge) {
+    packs(t, "a", &[text("")], "\0");
+    packs(t, "A", &[text("")], " ");
+    packs(t, "a*", &[text("")], "");
+    packs(t, "b", &[text("")], "\0");
+    packs(t, "B", &[text("1")], [0x80]);
+    packs(t, "b", &[text("11")], [0x01]);
+    packs(t, "b", &[text("1x")], [0x01]);
+    packs(t, "b0", &[text("x")], []);
+    packs(t, "H0", &[text("g")], []);
+    packs(t, "b3", &[text("101z")], [0x05]);
+    packs(t, "b3", &[text("1")], [0x01]);
+    pack_refused(t, "b3", &[text("10z")], 10, 0);
+    pack_refused(t, "b*", &[text("10z")], 10, 0);
+    pack_refused(t, "b", &[text("2")], 10, 0);
+    pack_refused(t, "B", &[text("a")], 10, 0);
+    packs(t, "H", &[text("f")], [0xf0]);
+    packs(t, "h", &[text("F")], [0x0f]);
+    packs(t, "H1", &[text("fg")], [0xf0]);
+    pack_refused(t, "H2", &[text("fg")], 10, 0);
+    for bad in ["/", ":", "@", "G", "`", "g", " ", "\0"] {
+        pack_refused(t, "H", &[text(bad)], 10, 0);
+        pack_refused(t, "h", &[text(bad)], 10, 0);
+        pack_refused(t, "b", &[text(bad)], 10, 0);
+    }
+    packs(t, "c0", &[ints(&[])], []);
+    packs(t, "c*", &[ints(&[])], []);
+    packs(t, "c1", &[ints(&[7, 8])], [7]);
+    packs(t, "c", &[uints(&[u64::MAX])], [0xff]);
+    packs(t, "cu", &[ints(&[-1])], [0xff]);
+    packs(t, "W", &[ints(&[i64::MIN])], [0x80, 0, 0, 0, 0, 0, 0, 0]);
+    packs(
+        t,
+        "w",
+        &[uints(&[u64::MAX - 1])],
+        [0xfe, 255, 255, 255, 255, 255, 255, 255],
+    );
+    pack_refused(t, "c", &[ints(&[])], 9, 0);
+    pack_refused(t, "c1", &[ints(&[])], 9, 0);
+    pack_refused(t, "c2", &[ints(&[1])], 9, 0);
+}
+
+fn fields_in_reading(t: &mut dyn Judge) {
+    reads(t, "a", "abc", &[text("a")], 0);
+    reads(t, "aa", "a", &[text("a")], 1);
+    reads(t, "a2a", "a", &[], 2);
+    reads(t, "a4a0", "abc", &[], 2);
+    reads(t, "a3a0a", "abc", &[text("abc"), text("")], 1);
+    reads(t, "A3a", "a \0b", &[text("a"), text("b")], 0);
+    reads(t, "A3a", "  \0b", &[text(""), text("b")], 0);
+    reads(t, "A*", "\0a \0\0 ", &[text("\0a")], 0);
+    reads(t, "A0", "a", &[text("")], 0);
+    reads(t, "A3", "ab", &[], 1);
+    reads(t, "b5b3", [0xff, 0x01], &[text("11111"), text("100")], 0);
+    reads(t, "b5b3", [0xff], &[text("11111")], 1);
+    reads(t, "B0", [0xff], &[text("")], 0);
+    reads(t, "b*b*", [0x03], &[text("11000000"), text("")], 0);
+    reads(t, "b9", [0xff], &[], 1);
+    reads(t, "b8", [0x81], &[text("10000001")], 0);
+    reads(t, "b", [0x81], &[text("1")], 0);
+    reads(t, "B", [0x7f], &[text("0")], 0);
+    reads(t, "H", [0xab], &[text("a")], 0);
+    reads(t, "h", [0xab], &[text("b")], 0);
+    reads(t, "H3", [0xab], &[], 1);
+    reads(t, "s*a*", "abc", &[ints(&[0x6261]), text("c")], 0);
+    reads(t, "i*a*", "abc", &[ints(&[]), text("abc")], 0);
+    reads(t, "c", [0x80], &[ints(&[-128])], 0);
+    reads(t, "cu", [0x80], &[uints(&[128])], 0);
+    reads(t, "w", [255; 8], &[ints(&[-1])], 0);
+    reads(t, "wu", [255; 8], &[uints(&[u64::MAX])], 0);
+    reads(
+        t,
+        "Wu*",
+        [0x80, 0, 0, 0, 0, 0, 0, 1, 9],
+        &[uints(&[(1 << 63) + 1])],
+        0,
+    );
+    reads(t, "Iu", [255, 255, 255, 254], &[uints(&[0xffff_fffe])], 0);
+    reads(t, "I", [255, 255, 255, 254], &[ints(&[-2])], 0);
+}
+
+fn size_limits(t: &mut dyn Judge) {
+    packs(t, &" ".repeat(256), &[], []);
+    pack_refused(t, &" ".repeat(257), &[], 1, 0);
+    pack_refused(t, &"q".repeat(257), &[], 1, 0);
+    refuses(t, reading(" ".repeat(257), "", 0), 1, 0);
+    packs(t, &"x".repeat(256), &[], [0; 256]);
+    let many: Vec<Value> = (0..65).map(|n| ints(&[n])).collect();
+    let bytes: Vec<u8> = (0..65).collect();
+    packs(t, &"c".repeat(64), &many[..64], &bytes[..64]);
+    pack_refused(t, &"c".repeat(64), &many, 1, 0);
+    pack_refused(t, &"c".repeat(65), &many, 1, 0);
+    pack_refused(t, &"c".repeat(65), &many[..64], 5, 0);
+    refuses(t, reading("c".repeat(65), &bytes, 65), 1, 0);
+    refuses(t, reading("c".repeat(65), &bytes, 64), 5, 0);
+    reads_many(t, &bytes, &many);
+    odd_slot_runs(t);
+    record_sizes(t);
+    area_sizes(t);
+    marks(t);
+    replies(t);
+    null_runs(t);
+}
+
+fn reads_many(t: &mut dyn Judge, bytes: &[u8], many: &[Value]) {
+    let mut call = reading("c".repeat(64), bytes, 64);
+    call.area = vec![OLD_AREA; MARK + 64 * 8];
+    let after = was_read(&call, &many[..64]);
+    t.expect("64 slots", &call, &after);
+    call.area.pop();
+    refuses(t, call, 11, 0);
+}
+
+fn odd_slot_runs(t: &mut dyn Judge) {
+    for length in [1, 4, 8, 11, 13, 767, 769, 780, 1200] {
+        let mut call = packing("c", &[ints(&[1])]);
+        call.slots.resize(length, 0);
+        refuses(t, call, 1, 0);
+        let mut call = reading("", "", 0);
+        call.slots.resize(length, 0);
+        refuses(t, call, 1, 0);
+    }
+}
+
+fn record_sizes(t: &mut dyn Judge) {
+    let full = vec![b'r'; 4097];
+    let mut call = packing("a*", &[text(&full[..4096])]);
+    accepts(t, call.clone(), &full[..4096]);
+    call.record.pop();
+    refuses(t, call.clone(), 11, 0);
+    call.record = vec![OLD_OUT; 4097];
+    refuses(t, call, 1, 0);
+    pack_refused(t, "a*", &[text(&full)], 11, 0);
+    packs(t, "a4096", &[text("")], [0; 4096]);
+    packs(t, "@4096", &[], [0; 4096]);
+    packs(t, "@4096X*", &[], [0; 4096]);
+    packs(t, "b4096", &[text("")], [0; 512]);
+    packs(t, "H4096", &[text("")], [0; 2048]);
+    pack_refused(t, "x4096x", &[], 11, 0);
+    pack_refused(t, "x4096xX*", &[], 11, 0);
+    packs(t, "x4096x0X*", &[], [0; 4096]);
+    pack_refused(t, &"x4096".repeat(51), &[], 11, 0);
+    let items = vec![0x0101_0101_0101_0101; 4097];
+    packs(t, "c4096", &[ints(&items)], [1; 4096]);
+    packs(t, "w512", &[ints(&items)], [1; 4096]);
+    pack_refused(t, "w513", &[ints(&items)], 11, 0);
+    pack_refused(t, "c*", &[ints(&items)], 11, 0);
+    pack_refused(t, "c4097", &[ints(&items)], 3, 0);
+    let mut call = packing("a", &[text("q")]);
+    call.record.clear();
+    refuses(t, call, 11, 0);
+    let mut call = packing("a0", &[text("q")]);
+    call.record.clear();
+    accepts(t, call, []);
+    refuses(t, reading("a", &full, 1), 1, 0);
+    full_record_readings(t, &full[..4096]);
+}
+
+fn full_record_readings(t: &mut dyn Judge, full: &[u8]) {
+    let layouts = ["a*", "a4096", "A*"];
+    for layout in layouts {
+        reads(t, layout, full, &[text(full)], 0);
+    }
+    reads(t, "c4096", full, &[ints(&[b'r' as i64; 4096])], 0);
+    reads(t, "cu*", full, &[uints(&[b'r' as u64; 4096])], 0);
+    reads(t, "b*", full, &[text("01001110".repeat(4096))], 0);
+    reads(t, "b4096", full, &[text("01001110".repeat(512))], 0);
+    reads(t, "H*", full, &[text("72".repeat(4096))], 0);
+    reads(t, "a4096", &full[1..], &[], 1);
+}
+
+fn area_sizes(t: &mut dyn Judge) {
+    let mut call = packing("a2", &[text("xy")]);
+    call.area.resize(65536, 1);
+    accepts(t, call.clone(), "xy");
+    call.area.push(1);
+    refuses(t, call, 1, 0);
+    let mut call = packing("a2", &[text("xy")]);
+    call.area = [vec![1; 65534], b"xy".to_vec()].concat();
+    accepts(t, with_slot(call.clone(), 0, [1, 65534, 2]), "xy");
+    refuses(t, with_slot(call.clone(), 0, [1, 65534, 3]), 7, 0);
+    refuses(t, with_slot(call, 0, [1, 65535, 2]), 7, 0);
+    let mut call = reading("a2", "xyz", 1);
+    call.area = vec![OLD_AREA; 65536];
+    call.mark = 65534;
+    let after = was_read(&call, &[text("xy")]);
+    t.expect("area of 65536 bytes", &call, &after);
+    call.mark = 65535;
+    refuses(t, call.clone(), 11, 0);
+    call.area.push(OLD_AREA);
+    refuses(t, call, 1, 0);
+}
+
+fn marks(t: &mut dyn Judge) {
+    for length in [0, 1, 200, 65536] {
+        let mut call = reading("a0c", "", 3);
+        call.area = vec![OLD_AREA; length];
+        call.mark = length;
+        let after = was_read(&call, &[text("")]);
+        t.expect("mark at the end", &call, &after);
+        for mark in [length + 1, 1 << 31, 1 << 32, (1 << 32) + length, usize::MAX] {
+            call.mark = mark;
+            refuses(t, call.clone(), 1, 0);
+        }
+    }
+    let mut call = reading("", "abc", 0);
+    call.mark = 7;
+    let after = was_read(&call, &[]);
+    t.expect("no fields", &call, &after);
+}
+
+fn replies(t: &mut dyn Judge) {
+    for length in [0, 1, 4, 11, 13, 24] {
+        let mut call = packing("a", &[text("q")]);
+        call.reply = vec![OLD_REPLY; length];
+        t.expect("reply of another size", &call, &call.untouched(1));
+        call.layout = b"q".to_vec();
+        t.expect("reply of another size", &call, &call.untouched(1));
+        call.slots.pop();
+        t.expect("reply of another size", &call, &call.untouched(1));
+        let mut call = reading("a", "q", 1);
+        call.reply = vec![OLD_REPLY; length];
+        t.expect("reply of another size", &call, &call.untouched(1));
+        call.mark = 201;
+        t.expect("reply of another size", &call, &call.untouched(1));
+    }
+}
+
+fn null_runs(t: &mut dyn Judge) {
+    let mut call = packing("", &[]);
+    call.record.clear();
+    call.null = true;
+    accepts(t, call.clone(), []);
+    call.layout = b"a0".to_vec();
+    call.slots = words(&[1, 0, 0]);
+    accepts(t, call.clone(), []);
+    call.reply.clear();
+    t.expect("null reply", &call, &call.untouched(1));
+    let mut call = reading("", "", 0);
+    call.area.clear();
+    call.mark = 0;
+    call.null = true;
+    let after = was_read(&call, &[]);
+    t.expect("null runs", &call, &after);
+    call.layout = b"a*c*".to_vec();
+    refuses(t, call.clone(), 5, 0);
+    call.slots = vec![OLD_SLOT; 24];
+    let after = was_read(&call, &[text(""), ints(&[])]);
+    t.expect("null runs", &call, &after);
+}
+
+fn argument_refusals(t: &mut dyn Judge) {
+    let pair = || packing("a2c", &[text("xy"), ints(&[1])]);
+    accepts(t, pair(), "xy\x01");
+    for slot in 0..2 {
+        let (text_slot, place) = (slot == 0, slot as u32);
+        refuses(t, with_slot(pair(), slot, [0, 0, 0]), 6, place);
+        refuses(
+            t,
+            with_slot(pair(), slot, [0, u32::MAX, u32::MAX]),
+            6,
+            place,
+        );
+        for kind in [4, 5, 255, 256, 0x0100_0000, u32::MAX] {
+            refuses(t, with_slot(pair(), slot, [kind, 0, 0]), 7, place);
+        }
+        for kind in 1..4 {
+            refuses(t, with_slot(pair(), slot, [kind, 11, 0]), 7, place);
+            refuses(
+                t,
+                with_slot(pair(), slot, [kind, u32::MAX, u32::MAX]),
+                7,
+                place,
+            );
+            refuses(t, with_slot(pair(), slot, [kind, u32::MAX, 1]), 7, place);
+            refuses(t, with_slot(pair(), slot, [kind, 0, 0x2000_0000]), 7, place);
+            refuses(t, with_slot(pair(), slot, [kind, 0, 0x4000_0001]), 7, place);
+            refuses(t, with_slot(pair(), slot, [kind, 10, 1]), 7, place);
+        }
+        let (wrong, right) = if text_slot { (2, 1) } else { (1, 2) };
+        refuses(t, with_slot(pair(), slot, [wrong, 10, 0]), 8, place);
+        let empty = with_slot(pair(), slot, [right, 10, 0]);
+        match text_slot {
+            true => accepts(t, empty, "\0\0\x01"),
+            false => refuses(t, empty, 9, 1),
+        }
+    }
+    refuses(t, with_slot(pair(), 1, [3, 3, 1]), 7, 1);
+    accepts(t, with_slot(pair(), 1, [3, 2, 1]), "xy\x01");
+    counted_as_none(t);
+    slot_counts(t);
+}
+
+/// A count of 0 still has its argument checked.
+fn counted_as_none(t: &mut dyn Judge) {
+    for letter in ["a0", "A0", "b0", "B0", "h0", "H0"] {
+        refuses(
+            t,
+            with_slot(packing(letter, &[text("z")]), 0, [0, 0, 0]),
+            6,
+            0,
+        );
+        refuses(
+            t,
+            with_slot(packing(letter, &[text("z")]), 0, [1, 2, 0]),
+            7,
+            0,
+        );
+        pack_refused(t, letter, &[ints(&[])], 8, 0);
+        pack_refused(t, letter, &[uints(&[])], 8, 0);
+        packs(t, letter, &[text("z")], []);
+    }
+    for letter in ["c0", "s0", "S0", "i0", "I0", "w0", "W0", "c*", "su*", "Wu0"] {
+        refuses(
+            t,
+            with_slot(packing(letter, &[ints(&[])]), 0, [0, 0, 0]),
+            6,
+            0,
+        );
+        refuses(
+            t,
+            with_slot(packing(letter, &[ints(&[])]), 0, [2, 1, 0]),
+            7,
+            0,
+        );
+        pack_refused(t, letter, &[text("")], 8, 0);
+        packs(t, letter, &[uints(&[])], []);
+    }
+}
+
+fn slot_counts(t: &mut dyn Judge) {
+    pack_refused(t, "a", &[], 5, 0);
+    pack_refused(t, "", &[text("a")], 5, 0);
+    pack_refused(t, "xX@0", &[text("a")], 5, 0);
+    pack_refused(t, "aa", &[text("a"), text("b"), text("c")], 5, 0);
+    read_refused(t, "a", 0, 5, 0);
+    read_refused(t, "aaa", 2, 5, 0);
+    read_refused(t, "a9aa", 2, 5, 0);
+    reads(t, "a", "a", &[text("a")], 63);
+    reads(t, "", "a", &[], 64);
+}
+
+/// Of two reasons the earlier one counts.
+fn order_of_refusals(t: &mut dyn Judge) {
+    let unset = |layout: &str| with_slot(packing(layout, &[text("z")]), 0, [0, 0, 0]);
+    let mut call = unset("q");
+    call.slots.push(0);
+    refuses(t, call, 1, 0);
+    pack_refused(t, "a4097q", &[], 3, 0);
+    pack_refused(t, "qa4097", &[], 2, 0);
+    pack_refused(t, "@a4097", &[], 4, 0);
+    pack_refused(t, "x*@", &[], 4, 0);
+    pack_refused(t, "a4097x*", &[], 3, 0);
+    pack_refused(t, "aax*", &[], 4, 2);
+    pack_refused(t, "x4097", &[], 3, 0);
+    pack_refused(t, "@4097", &[], 3, 0);
+    pack_refused(t, "X4097", &[], 3, 0);
+    refuses(t, unset("aa"), 5, 0);
+    refuses(t, unset("ax4096x"), 6, 0);
+    refuses(t, with_slot(packing("a", &[text("z")]), 0, [2, 9, 0]), 7, 0);
+    let bad = [text("z"), text("z")];
+    pack_refused(t, "bc", &bad, 10, 0);
+    pack_refused(t, "cb", &bad, 8, 0);
+    pack_refused(t, "ac", &bad, 8, 1);
+    refuses(t, with_slot(packing("bb", &bad), 1, [0, 0, 0]), 10, 0);
+    refuses(t, with_slot(packing("ab", &bad), 1, [9, 0, 0]), 7, 1);
+    refuses(
+        t,
+        with_slot(packing("cb", &[ints(&[]), text("z")]), 1, [0, 0, 0]),
+        9,
+        0,
+    );
+    pack_refused(t, "x4096xb", &[text("z")], 10, 0);
+    pack_refused(t, "x4096xb", &[text("1")], 11, 0);
+    let mut call = reading("a3a9q", "abc", 0);
+    refuses(t, call.clone(), 2, 4);
+    call.layout = b"a3a9".to_vec();
+    refuses(t, call.clone(), 5, 0);
+    call.slots = vec![OLD_SLOT; 24];
+    call.mark = 198;
+    refuses(t, call.clone(), 11, 0);
+    call.mark = 201;
+    refuses(t, call.clone(), 1, 0);
+    call.mark = 197;
+    let after = was_read(&call, &[text("abc")]);
+    t.expect("only values that are set need room", &call, &after);
+    refuses(t, reading("a9@", "abc", 1), 4, 2);
+    refuses(t, reading("a9a4097", "abc", 2), 3, 2);
+}
+
+/// What lies below the mark or in an unset slot stays as it was.
+fn old_values(t: &mut dyn Judge) {
+    let mut call = reading("ca9", "abc", 2);
+    call.slots = words(&[7, 8, 9, 1, 0, 3]);
+    let mut after = was_read(&call, &[ints(&[97])]);
+    after.slots[12..].copy_from_slice(&words(&[1, 0, 3]));
+    t.expect("old slot", &call, &after);
+}
+
+pub fn run(t: &mut dyn Judge) {
+    checked_packings(t);
+    checked_readings(t);
+    other_packings(t);
+    other_readings(t);
+    layout_texts(t);
+    moves(t);
+    fields_in_packing(t);
+    fields_in_reading(t);
+    size_limits(t);
+    argument_refusals(t);
+    order_of_refusals(t);
+    old_values(t);
+}

@@ -1,0 +1,248 @@
+//! Random layouts and arguments that suit them.
+
+use crate::dice::Dice;
+use crate::values::Value;
+
+#[derive(Clone, Copy, PartialEq, Eq, Debug)]
+pub enum Count {
+    Absent,
+    All,
+    Number(usize),
+}
+
+/// One field of a layout.
+#[derive(Clone, Copy, PartialEq, Eq, Debug)]
+pub struct Spec {
+    pub letter: u8,
+    pub flag: bool,
+    pub count: Count,
+}
+
+impl Spec {
+    pub fn takes_slot(&self) -> bool {
+        !b"xX@".contains(&self.letter)
+    }
+
+    /// The bytes of one integer, for the integer types.
+    pub fn width(&self) -> Option<usize> {
+        match self.letter {
+            b'c' => Some(1),
+            b's' | b'S' => Some(2),
+            b'i' | b'I' => Some(4),
+            b'w' | b'W' => Some(8),
+            _ => None,
+        }
+    }
+
+    /// The count as a number, `all` for `*`.
+    pub fn or_all(&self, all: usize) -> usize {
+        match self.count {
+            Count::Absent => 1,
+            Count::All => all,
+            Count::Number(n) => n,
+        }
+    }
+}
+
+const TAKERS: &[u8] = b"aAbBhHcsSiIwW";
+const MOVES: &[u8] = b"xxX@";
+
+fn random_number(dice: &mut Dice) -> usize {
+    match dice.below(100) {
+        0..=54 => dice.below(10),
+        55..=84 => dice.below(40),
+        85..=94 => dice.below(200),
+        95..=97 => dice.below(1500),
+        98 => dice.pick(&[4090, 4095, 4096]),
+        _ => dice.between(0, 4096),
+    }
+}
+
+/// A count that may be refused.
+fn wild_count(dice: &mut Dice) -> Count {
+    match dice.below(3) {
+        0 => Count::Absent,
+        1 => Count::All,
+        _ => Count::Number(dice.pick(&[4097, 4098, 5000, 10000, 1 << 32, 1 << 62])),
+    }
+}
+
+fn random_count(dice: &mut Dice, letter: u8, packing: bool) -> Count {
+    if dice.once_in(150) {
+        return wild_count(dice);
+    }
+    match dice.below(10) {
+        0..=2 if letter != b'@' => Count::Absent,
+        3 if letter != b'x' || !packing => Count::All,
+        _ => Count::Number(random_number(dice)),
+    }
+}
+
+pub fn random_spec(dice: &mut Dice, packing: bool) -> Spec {
+    let letter = if dice.once_in(4) {
+        dice.pick(MOVES)
+    } else {
+        dice.pick(TAKERS)
+    };
+    let count = random_count(dice, letter, packing);
+    let spec = Spec {
+        letter,
+        flag: false,
+        count,
+    };
+    Spec {
+        flag: spec.width().is_some() && dice.once_in(3),
+        ..spec
+    }
+}
+
+/// A field without `*`, `X` or `@`.
+pub fn plain_spec(dice: &mut Dice) -> Spec {
+    loop {
+        let spec = random_spec(dice, true);
+        if !b"X@".contains(&spec.letter) && spec.or_all(usize::MAX) <= 4096 {
+            return spec;
+        }
+    }
+}
+
+pub fn random_specs(dice: &mut Dice, packing: bool) -> Vec<Spec> {
+    let len = match dice.below(100) {
+        0..=3 => 0,
+        4..=54 => dice.between(1, 4),
+        55..=89 => dice.between(5, 12),
+        90..=97 => dice.between(13, 64),
+        _ => dice.between(60, 100),
+    };
+    (0..len).map(|_| random_spec(dice, packing)).collect()
+}
+
+fn spell(dice: &mut Dice, spec: &Spec, text: &mut Vec<u8>) {
+    if dice.once_in(5) {
+        let spaces = dice.between(1, 3);
+        text.resize(text.len() + spaces, b' ');
+    }
+    text.push(spec.letter);
+    if spec.flag {
+        text.push(b'u');
+    }
+    match spec.count {
+        Count::Absent => {}
+        Count::All => text.push(b'*'),
+        Count::Number(n) => {
+            let zeros = match dice.below(40) {
+                0 => dice.below(200),
+                1..=4 => dice.below(3),
+                _ => 0,
+            };
+            text.resize(text.len() + zeros, b'0');
+            text.extend(n.to_string().bytes());
+        }
+    }
+}
+
+/// The layout text of as many of the fields as fit into 256 bytes; the others are dropped.
+pub fn spelled(dice: &mut Dice, specs: &mut Vec<Spec>) -> Vec<u8> {
+    let mut text = Vec::new();
+    for at in 0..specs.len() {
+        let before = text.len();
+        spell(dice, &specs[at], &mut text);
+        if text.len() > 256 {
+            text.truncate(before);
+            specs.truncate(at);
+            break;
+        }
+    }
+    match dice.below(20) {
+        0 => text.resize(256, b' '),
+        1 => text.resize((text.len() + 2).min(256), b' '),
+        _ => {}
+    }
+    text
+}
+
+fn length_near(dice: &mut Dice, count: usize) -> usize {
+    match dice.below(6) {
+        0 => count + dice.between(1, 9),
+        1 => count.saturating_sub(dice.between(1, 9)),
+        2 => dice.below(12),
+        _ => count,
+    }
+}
+
+fn random_text(dice: &mut Dice, len: usize) -> Vec<u8> {
+    let mut bytes = dice.bytes(len);
+    if dice.once_in(2) {
+        for byte in bytes.iter_mut() {
+            *byte = dice.pick(b"ab  \0\0z\xff");
+        }
+    }
+    bytes
+}
+
+/// Digits, of which those from `count` on may be anything.
+fn random_digits(dice: &mut Dice, digits: &[u8], len: usize, count: usize) -> Vec<u8> {
+    let wild = dice.once_in(3);
+    let digit = |at| {
+        if wild && at >= count {
+            dice.byte()
+        } else {
+            dice.pick(digits)
+        }
+    };
+    (0..len).map(digit).collect()
+}
+
+fn random_integer(dice: &mut Dice) -> u64 {
+    let whole = dice.next();
+    match dice.below(4) {
+        0 => whole,
+        1 => (whole as i64 >> dice.below(64)) as u64,
+        2 => dice.pick(&[0, 1, 127, 128, 255, 256, 0x7fff, 0x8000, 0xffff, 0x1_0000]),
+        _ => {
+            let edges = [
+                1 << 31,
+                1 << 32,
+                1 << 63,
+                u64::MAX,
+                (1 << 31) - 1,
+                (1 << 63) - 1,
+            ];
+            dice.pick(&edges)
+        }
+    }
+}
+
+/// An argument that the field accepts.
+pub fn random_argument(dice: &mut Dice, spec: &Spec) -> Value {
+    if spec.width().is_some() {
+        let surplus = dice.pick(&[0, 0, 0, 1, 3]);
+        let len = match spec.count {
+            Count::Absent => 1,
+            Count::All => dice.below(9),
+            Count::Number(n) => n.min(5000) + surplus,
+        };
+        let items: Vec<u64> = (0..len).map(|_| random_integer(dice)).collect();
+        return match dice.once_in(2) {
+            true => Value::Unsigned(items),
+            false => Value::Signed(items.iter().map(|&n| n as i64).collect()),
+        };
+    }
+    let all = dice.below(30);
+    let count = spec.or_all(all).min(5000);
+    let len = if spec.count == Count::All {
+        all
+    } else {
+        length_near(dice, count)
+    };
+    Value::Text(match spec.letter {
+        b'a' | b'A' => random_text(dice, len),
+        b'b' | b'B' => random_digits(dice, b"01", len, count),
+        _ => random_digits(dice, b"0123456789abcdefABCDEF", len, count),
+    })
+}
+
+pub fn random_arguments(dice: &mut Dice, specs: &[Spec]) -> Vec<Value> {
+    let takers = specs.iter().filter(|s| s.takes_slot());
+    takers.map(|s| random_argument(dice, s)).collect()
+}

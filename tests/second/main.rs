@@ -1,0 +1,59 @@
+//! Compares the library with the twin, call by call: `second [seconds] [seed] [trace]`.
+//!
+//! With `trace` each call is shown before it is made, to find one that crashes.
+
+mod call;
+mod calls;
+mod dice;
+mod evolution;
+mod fixed;
+mod layouts;
+mod library;
+mod tally;
+mod twin;
+mod values;
+
+use calls::{round, Scratch};
+use dice::Dice;
+use std::process::exit;
+use std::time::{Duration, Instant};
+use tally::Tally;
+
+const SECONDS: u64 = 20;
+const SEED: u64 = 20260101;
+
+fn argument(place: usize, otherwise: u64) -> u64 {
+    match std::env::args().nth(place) {
+        None => otherwise,
+        Some(text) => text.parse().unwrap_or_else(|_| {
+            eprintln!("usage: second [seconds] [seed] [trace]");
+            exit(2)
+        }),
+    }
+}
+
+fn main() {
+    let seconds = argument(1, SECONDS);
+    let seed = argument(2, SEED);
+    println!("seed {}, {} seconds", seed, seconds);
+    let trace = std::env::args()
+        .nth(3)
+        .map_or(false, |word| word == "trace");
+    let mut tally = Tally {
+        trace,
+        ..Tally::default()
+    };
+    fixed::run(&mut tally);
+    println!(
+        "fixed calls: {} passed, {} failed",
+        tally.passed, tally.failed
+    );
+    let mut dice = Dice::new(seed);
+    let mut scratch = Scratch::new();
+    let begin = Instant::now();
+    while begin.elapsed() < Duration::from_secs(seconds) {
+        round(&mut dice, &mut scratch, &mut tally);
+    }
+    tally.print();
+    exit((tally.failed > 0) as i32);
+}
