@@ -10,7 +10,7 @@ use lib.ListN.{length}
 use Rattle.layout.specs.declared.Field.{Field}
 use Rattle.layout.specs.declared.Refusal.{Refusal}
 use Rattle.layout.specs.declared.Refusal.the-variants.{BadSize, WrongSlots, NoRoom}
-use Rattle.layout.specs.Refusals.{ok, refused}
+use Rattle.layout.specs.Refusals.{ok, refused, _>>=_}
 use Rattle.layout.specs.Layout.{maxLayout, fieldsOf, slotCount}
 use Rattle.record.specs.declared.Answer.{Answer}
 use Rattle.record.specs.Table.{slotWidth, maxSlots, maxRecord, maxArea, slotsOf, valueBytes}

@@ -7,10 +7,10 @@ use layout::Parsed;
 use layout::Refusal;
 use record::Answer;
 
-pub mod measure;
-pub mod run;
-pub mod table;
-pub mod value;
+mod measure;
+mod run;
+mod table;
+mod value;
 
 // No line 1: what is lent keeps to its size, the slots are whole, and the mark lies in the area.
 fn sizes_fit(layout: usize, slots: usize, bytes: usize, area: usize, mark: usize) -> bool

@@ -25,7 +25,7 @@ same-length : tie.Need-same-length
 same-length c = search needs
 
 returns-2 : tie.Need-returns-2
-returns-2 c = 
+returns-2 c =
     let replied = c .before .before in
     let tested = replied .before .before .before in
     pack-refused _ _ _ _ _ (tested .before .before .if1 .left) (sym (tested .before .slots-fit .ensures) ∙ not-true _ (tested .if2 .taken)) (replied .before .refused .ensures) (replied .reply-with .ensures)
@@ -40,7 +40,7 @@ slice-aggregate-pack-by : tie.Need-slice-aggregate-pack-by
 slice-aggregate-pack-by c = sym (length-take-le _ _ (array-borrow-prefix-room (c .before)))
 
 pack-by-requires : tie.Need-pack-by-requires
-pack-by-requires c κs = 
+pack-by-requires c κs =
     let tested = c .before .before .before in
     (tested .before .before .if1 .left, room-for _ (served tested) (array-borrow-prefix-room (c .before)))
 
@@ -51,7 +51,7 @@ same-length-3 : tie.Need-same-length-3
 same-length-3 c = search needs
 
 returns-3 : tie.Need-returns-3
-returns-3 c = 
+returns-3 c =
     let called = c .before .before .before .before .before in
     let tested = called .before .before .before .before in
     pack-served _ _ _ _ _ (tested .before .before .if1 .left) (served tested) (called .pack-by .ensures)

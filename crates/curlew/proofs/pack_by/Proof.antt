@@ -23,7 +23,7 @@ same-length-3 : tie.Need-same-length-3
 same-length-3 c = search needs
 
 returns : tie.Need-returns
-returns c = 
+returns c =
     let replied = c .before .before in
     let packed = replied .before .before .before .before in
     pack-replied _ _ _ _ (packed .before .before .before .before .before .decode .ensures) (packed .pack .ensures) (replied .reply-with .ensures)

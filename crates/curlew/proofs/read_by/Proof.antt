@@ -26,7 +26,7 @@ same-length-4 : tie.Need-same-length-4
 same-length-4 c = search needs
 
 returns : tie.Need-returns
-returns c = 
+returns c =
     let replied = c .before .before in
     let tested = replied .before .before in
     let called = tested .before .before .before .before .before .before in
@@ -51,7 +51,7 @@ same-length-8 : tie.Need-same-length-8
 same-length-8 c = search needs
 
 returns-2 : tie.Need-returns-2
-returns-2 c = 
+returns-2 c =
     let replied = c .before .before in
     let encoded = replied .before .before .before .before in
     let tested = encoded .before .before .before in

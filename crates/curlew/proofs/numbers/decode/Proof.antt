@@ -36,7 +36,7 @@ loop-less : tie.Need-loop-less Inv-loop μ-loop
 loop-less c = omega arith
 
 loop-again : tie.Need-loop-again Inv-loop μ-loop
-loop-again c = 
+loop-again c =
     let turn = c .before .before in
     let start = turn .before .before .before in
     (omega arith, decoded-more (start .args .bytes .now) (turn .loop .inv .1) (start .pre) (omega arith) (c .number-at .ensures))

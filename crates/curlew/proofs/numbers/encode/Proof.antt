@@ -36,7 +36,7 @@ loop-less : tie.Need-loop-less Inv-loop μ-loop
 loop-less c = omega arith
 
 loop-again : tie.Need-loop-again Inv-loop μ-loop
-loop-again c = 
+loop-again c =
     let called = c .before .before in
     let loop = called .before .before .before .before in
     (omega arith, wrote-more {to = loop .loop .i * numberSize} numberSize (λ k. length-bytesFor numberSize _) (loop .loop .inv .1) (omega arith) (omega arith) (called .put-number .ensures))

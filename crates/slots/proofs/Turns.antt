@@ -1,0 +1,35 @@
+-- The numbers of a loop over slots: at turn i of c, of n slots of 12 bytes each.
+use mathlib.Core.Path.{_≡_, sym, ap, subst, _∙_}
+use Prim.Native.Nat.{ℕ, zero, suc, _+_, _*_, _-_, _<_, _≤_, _^_}
+use native.Mathlib.Nat.{add-zero, add-suc, le-antisymm}
+use native.Mathlib.Omega.{arith}
+use mathlib.Core.Bool.{Bool, true, false, not}
+use lib.Dec.{T as Holds, ltb, ltb→lt, nltb→le}
+
+pub bytes-fit : (i n : ℕ) → i < n → n * 12 < 2 ^ 63 → i * 12 < 2 ^ 64
+bytes-fit i n l g = omega arith
+
+pub place-fits : (i n : ℕ) → i < n → n * 12 < 2 ^ 63 → i * 3 < 2 ^ 64
+place-fits i n l g = omega arith
+
+pub next-fits : (i c : ℕ) → i < c → c < 2 ^ 64 → i + 1 < 2 ^ 64
+next-fits i c l g = omega arith
+
+pub numbers-fit : (c m : ℕ) → c ≤ 64 → 192 ≤ m → c * 3 ≤ m
+numbers-fit c m l g = omega arith
+
+pub three-more : (i c m : ℕ) → i < c → c * 3 ≤ m → i * 3 + 3 ≤ m
+three-more i c m l g = omega arith
+
+pub less-left : (i c : ℕ) → i < c → c - suc i < c - i
+less-left i c l = omega arith
+
+pub one-more : (i : ℕ) → i + 1 ≡ suc i
+one-more i = add-suc i zero ∙ ap suc (add-zero i)
+
+-- what the loop's test says
+pub held : (i c : ℕ) → ltb i c ≡ true → i < c
+held i c e = ltb→lt i c (subst Holds (sym e) tt)
+
+pub over : (i c : ℕ) → i ≤ c → ltb i c ≡ false → i ≡ c
+over i c l e = le-antisymm l (nltb→le i c (subst (λ (t : Bool). Holds (not t)) (sym e) tt))

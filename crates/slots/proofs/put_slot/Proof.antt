@@ -1,0 +1,61 @@
+-- Three stores, each within the numbers, which stay as many.
+use Prim.Native.Nat.{ℕ, _+_, _<_, _≤_}
+use native.Mathlib.Omega.{arith}
+use mathlib.Core.List.{List}
+use lib.ListN.{length, set}
+use borrow.Author.Needs.{below-set}
+use Rattle.slots.proofs.Runs.{length-put}
+use borrow.Author.Needs.{needs}
+use Rattle.slots.proofs.put_slot.Statement.{statement}
+use Rattle.slots.proofs.put_slot.Tie as tie
+
+second : (ns : List ℕ) (k a : ℕ) → k + 3 ≤ length ns → k + 1 < length (set ns k a)
+second ns k a l = below-set ℕ ns (k + 1) k a (omega arith)
+
+third : (ns : List ℕ) (k a b : ℕ) → k + 3 ≤ length ns → k + 2 < length (set (set ns k a) (k + 1) b)
+third ns k a b l = below-set ℕ (set ns k a) (k + 2) (k + 1) b (below-set ℕ ns (k + 2) k a (omega arith))
+
+mul-numbers : tie.Need-mul-numbers
+mul-numbers c = search needs
+
+slice-write-numbers : tie.Need-slice-write-numbers
+slice-write-numbers c = search needs
+
+add-numbers : tie.Need-add-numbers
+add-numbers c = search needs
+
+mul-numbers-2 : tie.Need-mul-numbers-2
+mul-numbers-2 c = search needs
+
+slice-write-numbers-2 : tie.Need-slice-write-numbers-2
+slice-write-numbers-2 c = second (c .args .numbers .now) (c .args .at) (c .args .slot .kind) (search needs)
+
+add-numbers-2 : tie.Need-add-numbers-2
+add-numbers-2 c = search needs
+
+mul-numbers-3 : tie.Need-mul-numbers-3
+mul-numbers-3 c = search needs
+
+slice-write-numbers-3 : tie.Need-slice-write-numbers-3
+slice-write-numbers-3 c = third (c .args .numbers .now) (c .args .at) (c .args .slot .kind) (c .args .slot .start) (search needs)
+
+same-length : tie.Need-same-length
+same-length c = length-put (c .args .numbers .now) (c .args .at) (c .args .slot)
+
+returns : tie.Need-returns
+returns c = search needs
+
+pub put-slot-spec : {M : Type 1} → statement M
+put-slot-spec =
+    tie.close
+    (tie.spec
+    mul-numbers
+    slice-write-numbers
+    add-numbers
+    mul-numbers-2
+    slice-write-numbers-2
+    add-numbers-2
+    mul-numbers-3
+    slice-write-numbers-3
+    same-length
+    returns)

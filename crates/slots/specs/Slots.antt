@@ -1,0 +1,65 @@
+-- The calls over a lent run of slot records: THE EFFECT OF A CALL is `pack` of the slots' numbers, and `readSlots`.
+use Prim.Native.Nat.{ℕ, _+_, _*_}
+use mathlib.Core.List.{List, [], _∷_}
+use lib.ListN.{getD, set, take}
+use lib.Dec.{leb}
+use Rattle.layout.specs.declared.Refusal.the-variants.{BadSize}
+use Rattle.layout.specs.Refusals.{if_then_else_, refused}
+use Rattle.record.specs.declared.Answer.{Answer}
+use Rattle.record.specs.Table.{maxSlots}
+use Rattle.record.specs.Packing.{Packed, pack, packEffect}
+use Rattle.record.specs.Reading.{Read, read, readEffect}
+use Rattle.slots.specs.declared.Slot.{Slot}
+
+-- ---- slots and numbers
+
+-- "A slot is three 32-bit numbers: kind, start, length"
+unfoldable pub numbersOf : List Slot → List ℕ
+numbersOf [] = []
+numbersOf (s ∷ ss) = s .kind ∷ s .start ∷ s .length ∷ numbersOf ss
+
+-- the slots that a run of numbers makes, three to a slot
+unfoldable pub slotsFrom : List ℕ → List Slot
+slotsFrom [] = []
+slotsFrom (k ∷ []) = []
+slotsFrom (k ∷ s ∷ []) = []
+slotsFrom (k ∷ s ∷ n ∷ rest) = record { kind = k; start = s; length = n } ∷ slotsFrom rest
+
+-- ---- the reader's call
+
+-- all that a call of the reader leaves: its answer, the slots and the area
+pub record ReadSlots : Type 0 where
+  pub answer : Answer
+  pub slots : List Slot
+  pub area : List ℕ
+
+-- the same with its slots put together
+abbrev pub withSlots : Read → ReadSlots
+withSlots e = record { answer = e .answer; slots = slotsFrom (e .slots); area = e .area }
+
+unfoldable pub readSlots : List ℕ → List ℕ → List Slot → List ℕ → ℕ → ReadSlots
+unfolding numbersOf slotsFrom read
+readSlots layout bs slots area mark = withSlots (read layout bs (numbersOf slots) area mark)
+
+-- ---- the steps of a call
+
+-- the slot at a place in the numbers
+abbrev pub slotAt : List ℕ → ℕ → Slot
+slotAt ns at = record { kind = getD ns at 0; start = getD ns (at + 1) 0; length = getD ns (at + 2) 0 }
+
+-- a slot's numbers, stored at a place
+abbrev pub putAt : List ℕ → ℕ → Slot → List ℕ
+putAt ns at s = set (set (set ns at (s .kind)) (at + 1) (s .start)) (at + 2) (s .length)
+
+-- how many of so many slots are taken apart: line 1 refuses more than 64
+unfoldable pub taken : ℕ → ℕ
+taken n = if leb n maxSlots then n else 0
+
+-- the calls on the numbers of the first n slots
+unfoldable pub packFirst : List ℕ → List ℕ → ℕ → List ℕ → List ℕ → Packed
+unfolding pack
+packFirst layout ns n area output = if leb n maxSlots then pack layout (take (n * 3) ns) area output else packEffect output (refused BadSize 0)
+
+unfoldable pub readFirst : List ℕ → List ℕ → List ℕ → ℕ → List ℕ → ℕ → Read
+unfolding read
+readFirst layout bs ns n area mark = if leb n maxSlots then read layout bs (take (n * 3) ns) area mark else readEffect (take (n * 3) ns) area mark (refused BadSize 0)

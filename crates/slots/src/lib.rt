@@ -1,0 +1,138 @@
+// Both calls over a lent run of slot records: the slots are taken apart into numbers, the call is made over the numbers,
+// and after a reading the slots are put together again. The functions over slots are few and thin: proved by hand.
+ghost use mathlib.Core.Path.{_≡_};
+ghost use mathlib.Core.List.{_++_};
+ghost use Prim.Native.Nat.{_+_, _*_, _≤_};
+ghost use lib.ListN.{length, take, drop};
+ghost use Rattle.record.specs.Table.{maxSlots, slotWidth};
+ghost use Rattle.record.specs.Packing.{pack};
+ghost use Rattle.slots.specs.Slots.{numbersOf, slotsFrom, slotAt, putAt, taken, packFirst, readFirst, readSlots};
+use layout::Refusal;
+use record::Answer;
+
+pub struct Slot {
+    pub kind: u32,
+    pub start: u32,
+    pub length: u32,
+}
+
+// The slot that three numbers make.
+fn slot_at(numbers: &[u32], at: usize) -> Slot
+    requires { ⌜ at + 3 ≤ length (now numbers) ⌝ }
+    ensures { λ r. ⌜ r ≡ slotAt (now (numbers .entry)) at ⌝ }
+{
+    let kind = numbers[at];
+    let start = numbers[at + 1];
+    let len = numbers[at + 2];
+    Slot {
+        kind: kind,
+        start: start,
+        length: len,
+    }
+}
+
+// The three numbers of a slot.
+fn put_slot(numbers: &mut [u32], at: usize, slot: Slot)
+    requires { ⌜ at + 3 ≤ length (now numbers) ⌝ }
+    ensures { λ _. ⌜ now (numbers .exit) ≡ putAt (now (numbers .entry)) at slot ⌝ }
+{
+    numbers[at] = slot.kind;
+    numbers[at + 1] = slot.start;
+    numbers[at + 2] = slot.length;
+}
+
+// How many slots are taken apart: all of them, and none where there are more than a table may have.
+fn taken(count: usize) -> usize
+    ensures { λ r. ⌜ r ≡ taken count ⌝ }
+{
+    if count <= 64 { count } else { 0 }
+}
+
+// Takes the slots apart into numbers, and tells how many.
+fn load(slots: &[Slot], numbers: &mut [u32]) -> usize
+    requires { ⌜ slotWidth * maxSlots ≤ length (now numbers) ⌝ }
+    ensures { λ r. ⌜ (r ≡ taken (length (now (slots .entry)))) × (now (numbers .exit) ≡ numbersOf (take r (now (slots .entry))) ++ drop (r * 3) (now (numbers .entry))) ⌝ }
+{
+    let count = taken(slots.len());
+    let mut i = 0;
+    while i < count {
+        put_slot(numbers, i * 3, slots[i]);
+        i = i + 1;
+    }
+    count
+}
+
+// Puts so many slots together out of their numbers.
+fn save(slots: &mut [Slot], numbers: &[u32], count: usize)
+    requires { ⌜ (count ≤ length (now slots)) × (count * 3 ≤ length (now numbers)) ⌝ }
+    ensures { λ _. ⌜ now (slots .exit) ≡ slotsFrom (take (count * 3) (now (numbers .entry))) ++ drop count (now (slots .entry)) ⌝ }
+{
+    let mut i = 0;
+    while i < count {
+        slots[i] = slot_at(numbers, i * 3);
+        i = i + 1;
+    }
+}
+
+// The packer over the numbers of so many slots.
+fn pack_first(
+    layout: &[u8],
+    numbers: &[u32],
+    count: usize,
+    area: &[u8],
+    output: &mut [u8],
+) -> Answer
+    requires { ⌜ slotWidth * maxSlots ≤ length (now numbers) ⌝ }
+    ensures { λ r. ⌜ record { answer = r; output = now (output .exit) } ≡ packFirst (now (layout .entry)) (now (numbers .entry)) count (now (area .entry)) (now (output .entry)) ⌝ }
+{
+    if 64 < count {
+        return Answer::refused(Refusal::BadSize, 0);
+    }
+    let end = count * 3;
+    packer::pack(layout, &numbers[..end], area, output)
+}
+
+// The reader over the numbers of so many slots.
+fn read_first(
+    layout: &[u8],
+    bytes: &[u8],
+    numbers: &mut [u32],
+    count: usize,
+    area: &mut [u8],
+    mark: usize,
+) -> Answer
+    requires { ⌜ slotWidth * maxSlots ≤ length (now numbers) ⌝ }
+    ensures { λ r. ⌜ record { answer = r; slots = take (count * 3) (now (numbers .exit)); area = now (area .exit) } ≡ readFirst (now (layout .entry)) (now (bytes .entry)) (now (numbers .entry)) count (now (area .entry)) mark ⌝ }
+{
+    if 64 < count {
+        return Answer::refused(Refusal::BadSize, 0);
+    }
+    let end = count * 3;
+    reader::read(layout, bytes, &mut numbers[..end], area, mark)
+}
+
+// Packs the arguments into the output by the layout. A refusal changes nothing.
+pub fn pack_slots(layout: &[u8], slots: &[Slot], area: &[u8], output: &mut [u8]) -> Answer
+    ensures { λ r. ⌜ record { answer = r; output = now (output .exit) } ≡ pack (now (layout .entry)) (numbersOf (now (slots .entry))) (now (area .entry)) (now (output .entry)) ⌝ }
+{
+    let mut numbers = [0; 192];
+    load(slots, &mut numbers);
+    pack_first(layout, &numbers, slots.len(), area, output)
+}
+
+// Reads a record by a layout: sets slots from the first on, and puts their values into the area from the mark on. A refusal changes nothing.
+pub fn read_slots(
+    layout: &[u8],
+    bytes: &[u8],
+    slots: &mut [Slot],
+    area: &mut [u8],
+    mark: usize,
+) -> Answer
+    ensures { λ r. ⌜ record { answer = r; slots = now (slots .exit); area = now (area .exit) } ≡ readSlots (now (layout .entry)) (now (bytes .entry)) (now (slots .entry)) (now (area .entry)) mark ⌝ }
+{
+    let mut numbers = [0; 192];
+    let count = load(slots, &mut numbers);
+    let answer = read_first(layout, bytes, &mut numbers, slots.len(), area, mark);
+    save(slots, &numbers, count);
+    answer
+}
