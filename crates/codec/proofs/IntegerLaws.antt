@@ -4,7 +4,7 @@ use native.Mathlib.Nat.{suc-mul, zero-mul, add-sub-cancel, not-suc-le-zero}
 use native.Mathlib.Omega.{arith}
 use mathlib.Core.Path.{_≡_, refl, sym, ap, _∙_}
 use mathlib.Core.Bool.{Bool, true, false, not}
-use mathlib.Core.List.{List, [], _∷_, _++_, map, reverse, reverse-cons, reverse-append, reverse-reverse, append-assoc, append-nil}
+use mathlib.Core.List.{List, [], _∷_, _++_, map, reverse, reverse-cons, reverse-append, reverse-reverse}
 use lib.ListN.{length, take, drop, getD, replicate, length-drop, length-reverse, length-map, length-replicate, take-append-drop}
 use lib.Seq.{take-at, take-all, take-take, drop-drop}
 use Rattle.layout.specs.declared.Shape.the-variants.{Integers}
@@ -12,12 +12,12 @@ use Rattle.record.specs.Bytes.{part, storeAt, pieces, join, digits, number, ord
 use Rattle.record.specs.Table.{integerBytes, integersIn}
 use Rattle.record.specs.Packing.{stored, lowBytes}
 use Rattle.record.specs.Reading.{loaded, widened}
-use Rattle.record.proofs.Bytes.{All, all-take, all-drop, all-ordered, all-below, length-pieces, length-digits, length-ordered}
+use Rattle.record.proofs.Bytes.{All, all-take, all-drop, all-ordered, all-below, length-pieces, length-digits, length-ordered, part-at, drop-take}
 use Rattle.record.proofs.Fields.{item}
-use Rattle.record.proofs.Stores.{runs, length-part, getD-reverse}
+use Rattle.record.proofs.Stores.{runs, runs-first, length-part, getD-reverse}
 use Rattle.record.proofs.Widening.{low-digits, filler, widened-digits, sign-test}
 use Rattle.codec.specs.Items.{itemBytes, fillerOf}
-use Rattle.codec.proofs.ByteLaws.{part-at, drop-take, store-both}
+use Rattle.codec.proofs.ByteLaws.{store-both}
 
 -- ---- order and parts
 
@@ -112,11 +112,6 @@ runs-same : (n : ℕ) (f g : ℕ → List ℕ) → ((i : ℕ) → f i ≡ g i) �
 unfolding runs
 runs-same zero f g h = refl
 runs-same (suc n) f g h = rw (runs-same n f g h, h n)
-
-runs-first : (n : ℕ) (f : ℕ → List ℕ) → runs (suc n) f ≡ f 0 ++ runs n (λ i. f (suc i))
-unfolding runs
-runs-first zero f = sym (append-nil (f 0))
-runs-first (suc n) f = rw (runs-first n f, append-assoc (f 0) (runs n (λ i. f (suc i))) (f (suc n)))
 
 -- what is made of the pieces of a run, one after the other
 module _ (g : ℕ → List ℕ) (h : List ℕ → ℕ) (k : ℕ) (xs : List ℕ) where

@@ -1,7 +1,7 @@
 -- What each way out of a call leaves is what the definition gives.
 use Prim.Native.Nat.{ℕ, _*_, _/_, _%_, _≤_, _<_}
 use native.Mathlib.Omega.{arith}
-use mathlib.Core.Path.{_≡_, refl, sym, ap, _∙_}
+use mathlib.Core.Path.{_≡_, refl, ap, _∙_}
 use mathlib.Core.Bool.{Bool, true, false, _&&_}
 use mathlib.Core.List.{List}
 use borrow.Author.Tests.{le-leb, lt-leb, leb-true, eq-eqb, ne-eqb, eqb-true}
@@ -12,19 +12,17 @@ use Rattle.layout.specs.declared.Refusal.the-variants.{BadSize}
 use Rattle.layout.specs.Refusals.{if_then_else_, numberOf}
 use Rattle.layout.specs.Layout.{maxLayout}
 use Rattle.record.specs.declared.Answer.{Answer}
+use Rattle.record.proofs.Bytes.{and-true}
 use Rattle.record.specs.Table.{maxSlots, slotWidth}
 use Rattle.record.specs.Geometry.{sizesFit}
-use Rattle.record.specs.Packing.{refusal, Packed, packs, pack}
-use Rattle.record.specs.Reading.{Read, reads, read}
+use Rattle.record.specs.Packing.{refusal, packs, pack}
+use Rattle.record.specs.Reading.{reads, read}
 use Rattle.record.proofs.Fields.{split}
-use Rattle.curlew.specs.Boundary.{numberSize, slotSize, replySize, numbersIn, bytesOf, replyOf, guarded, slotsFit, PackCall, packCall, curlewPack, ReadCall, readCall, curlewRead}
+use Rattle.curlew.specs.Boundary.{numberSize, slotSize, replySize, numbersIn, bytesOf, replyOf, guarded, packCall, curlewPack, readCall, curlewRead}
+use Rattle.curlew.specs.Steps.{slotsFit}
 use Rattle.curlew.proofs.NumberLaws.{length-numbersIn}
 
 -- ---- the sizes of the runs
-
-and-true : (a b : Bool) → a && b ≡ true → (a ≡ true) × (b ≡ true)
-and-true true b h = (refl, h)
-and-true false b h = let z : _≡_ {A = ℕ} 0 1 = cc in absurd (omega arith)
 
 and-false : (a : Bool) → a && false ≡ false
 and-false true = refl
@@ -73,17 +71,17 @@ otherwise true e = e refl
 otherwise false e = refl
 
 module _ {A : Type 0} (reply slots : List ℕ) (unwritten refused served : A) where
-  guarded-unwritten : (length reply ≡ replySize → ⊥) → unwritten ≡ guarded reply slots unwritten refused served
-  guarded-unwritten h = rw (ne-eqb (length reply) replySize h)
+  guarded-unwritten : eqb (length reply) replySize ≡ false → unwritten ≡ guarded reply slots unwritten refused served
+  guarded-unwritten h = rw h
 
-  module _ (sized : length reply ≡ replySize) where
+  module _ (sized : eqb (length reply) replySize ≡ true) where
     guarded-refused : slotsFit (length slots) ≡ false → (slotWidth * maxSlots < length (numbersIn slots) → refused ≡ served) → refused ≡ guarded reply slots unwritten refused served
     guarded-refused bad many =
-        rw (eq-eqb (length reply) replySize sized)
+        rw sized
         (otherwise (eqb (length slots % slotSize) 0) (λ whole. many (rw length-numbersIn (too-many (length slots) bad whole))))
 
     guarded-served : Fit (length slots) → served ≡ guarded reply slots unwritten refused served
-    guarded-served f = rw (eq-eqb (length reply) replySize sized, eq-eqb (length slots % slotSize) 0 (f .whole))
+    guarded-served f = rw (sized, eq-eqb (length slots % slotSize) 0 (f .whole))
 
 -- ---- packing
 
@@ -95,11 +93,11 @@ module _ (layout slots area out : List ℕ) where
   pack-replied e p q = rw (← e, ← p, q .0, q .1)
 
   module _ (reply : List ℕ) where
-    pub pack-unwritten : (length reply ≡ replySize → ⊥) → record { returned = numberOf BadSize; output = out; reply = reply } ≡ curlewPack layout slots area out reply
+    pub pack-unwritten : eqb (length reply) replySize ≡ false → record { returned = numberOf BadSize; output = out; reply = reply } ≡ curlewPack layout slots area out reply
     unfolding curlewPack
     pack-unwritten h = guarded-unwritten reply slots _ _ _ h
 
-    module _ (sized : length reply ≡ replySize) where
+    module _ (sized : eqb (length reply) replySize ≡ true) where
       pub pack-refused : {a : Answer} {r : ℕ} {reply′ : List ℕ} → slotsFit (length slots) ≡ false → a ≡ refusal BadSize 0 → (r ≡ a .number) × (reply′ ≡ replyOf a)
           → record { returned = r; output = out; reply = reply′ } ≡ curlewPack layout slots area out reply
       unfolding curlewPack packCall
@@ -107,9 +105,9 @@ module _ (layout slots area out : List ℕ) where
           let here : record { returned = r; output = out; reply = reply′ } ≡ packCall (record { answer = refusal BadSize 0; output = out }) = rw (q .0, q .1, e) in
           here ∙ guarded-refused reply slots _ _ _ sized bad (λ many. ap packCall (pack-many layout (numbersIn slots) out area many))
 
-      pub pack-served : {k : PackCall} → Fit (length slots) → k ≡ packCall (pack layout (numbersIn slots) area out) → k ≡ curlewPack layout slots area out reply
+      pub pack-served : Fit (length slots) → packCall (pack layout (numbersIn slots) area out) ≡ curlewPack layout slots area out reply
       unfolding curlewPack
-      pack-served f e = e ∙ guarded-served reply slots _ _ _ sized f
+      pack-served f = guarded-served reply slots _ _ _ sized f
 
 -- ---- reading
 
@@ -125,11 +123,11 @@ module _ (layout bytes slots area : List ℕ) (mark : ℕ) where
     read-set h s = rw (← e, ← p, eq-eqb (a .number) 0 h, s, q .0, q .1)
 
   module _ (reply : List ℕ) where
-    pub read-unwritten : (length reply ≡ replySize → ⊥) → record { returned = numberOf BadSize; slots = slots; area = area; reply = reply } ≡ curlewRead layout bytes slots area mark reply
+    pub read-unwritten : eqb (length reply) replySize ≡ false → record { returned = numberOf BadSize; slots = slots; area = area; reply = reply } ≡ curlewRead layout bytes slots area mark reply
     unfolding curlewRead
     read-unwritten h = guarded-unwritten reply slots _ _ _ h
 
-    module _ (sized : length reply ≡ replySize) where
+    module _ (sized : eqb (length reply) replySize ≡ true) where
       pub read-refused : {a : Answer} {r : ℕ} {reply′ : List ℕ} → slotsFit (length slots) ≡ false → a ≡ refusal BadSize 0 → (r ≡ a .number) × (reply′ ≡ replyOf a)
           → record { returned = r; slots = slots; area = area; reply = reply′ } ≡ curlewRead layout bytes slots area mark reply
       unfolding curlewRead readCall
@@ -137,6 +135,6 @@ module _ (layout bytes slots area : List ℕ) (mark : ℕ) where
           let here : record { returned = r; slots = slots; area = area; reply = reply′ } ≡ readCall slots (record { answer = refusal BadSize 0; slots = numbersIn slots; area = area }) = rw (q .0, q .1, e) in
           here ∙ guarded-refused reply slots _ _ _ sized bad (λ many. ap (readCall slots) (read-many layout (numbersIn slots) bytes area many mark))
 
-      pub read-served : {k : ReadCall} → Fit (length slots) → k ≡ readCall slots (read layout bytes (numbersIn slots) area mark) → k ≡ curlewRead layout bytes slots area mark reply
+      pub read-served : Fit (length slots) → readCall slots (read layout bytes (numbersIn slots) area mark) ≡ curlewRead layout bytes slots area mark reply
       unfolding curlewRead
-      read-served f e = e ∙ guarded-served reply slots _ _ _ sized f
+      read-served f = guarded-served reply slots _ _ _ sized f

@@ -3,13 +3,14 @@ use Prim.Native.Nat.{ℕ, zero, suc, _+_, _-_, _*_, _/_, _%_, _^_, _≤_, _<_}
 use native.Mathlib.Nat.{add-zero, zero-add, zero-mul, suc-mul, add-comm, pow-zero, pow-succ', div-one, div-div-eq-div-mul, not-suc-le-zero, le-of-suc-le-suc}
 use native.Mathlib.Omega.{arith}
 use mathlib.Core.Path.{_≡_, refl, sym, ap, _∙_}
-use mathlib.Core.List.{List, [], _∷_, _++_, map, reverse-append, append-assoc, append-nil}
-use lib.ListN.{length, take, drop, getD, set, length-drop, length-map, length-reverse, drop-of-length-le}
+use mathlib.Core.List.{List, [], _∷_, _++_, map, reverse-append, append-nil}
+use lib.ListN.{length, drop, getD, set, length-drop, length-map, length-reverse, drop-of-length-le}
 use lib.Seq.{take-suc, getD-drop, drop-drop}
 use Rattle.record.specs.Bytes.{storeAt, pieces, join, digits, number}
 use Rattle.record.proofs.Bytes.{length-digits, length-pieces, length-join}
-use Rattle.record.proofs.Stores.{getD-reverse, runs, Put, put-none, put-more, put-done, Wrote}
-use Rattle.curlew.specs.Boundary.{bytesFor, numberAt, bigEndian, bigEndianIn, numberSize, numbersIn, bytesOf}
+use Rattle.record.proofs.Stores.{runs-first, getD-reverse, runs, Put, put-none, put-more, put-done, Wrote}
+use Rattle.curlew.specs.Boundary.{numberBytes, bigEndian, bigEndianIn, numberSize, numbersIn, bytesOf}
+use Rattle.curlew.specs.Steps.{numberAt}
 
 -- ---- a number out of its bytes
 
@@ -35,9 +36,9 @@ number-sum bs at h =
 
 -- ---- a number's bytes
 
-pub length-bytesFor : (w x : ℕ) → length (bytesFor w x) ≡ w
-unfolding bytesFor
-length-bytesFor w x = length-reverse (digits 256 w x) ∙ length-digits 256 w x
+pub length-numberBytes : (w x : ℕ) → length (numberBytes w x) ≡ w
+unfolding numberBytes
+length-numberBytes w x = length-reverse (digits 256 w x) ∙ length-digits 256 w x
 
 digit-at : (w x j : ℕ) → j < w → getD (digits 256 w x) j 0 ≡ x / 256 ^ j % 256
 unfolding digits
@@ -45,16 +46,16 @@ digit-at zero x j h = absurd (not-suc-le-zero h)
 digit-at (suc w) x zero h = rw (pow-zero, div-one)
 digit-at (suc w) x (suc j) h = digit-at w (x / 256) j (le-of-suc-le-suc h) ∙ rw (div-div-eq-div-mul x 256 (256 ^ j), pow-succ' 256 j)
 
-byte-at : (w x j : ℕ) → j < w → getD (bytesFor w x) j 0 ≡ x / 256 ^ (w - 1 - j) % 256
-unfolding bytesFor
+byte-at : (w x j : ℕ) → j < w → getD (numberBytes w x) j 0 ≡ x / 256 ^ (w - 1 - j) % 256
+unfolding numberBytes
 byte-at w x j h = getD-reverse (digits 256 w x) j (rw length-digits h) ∙ rw length-digits (digit-at w x (w - 1 - j) (omega arith))
 
 -- the four stores of the code
 pub number-stored : (d : List ℕ) (at x : ℕ) → at + numberSize ≤ length d
-    → set (set (set (set d at (x / 16777216 % 256)) (at + 1) (x / 65536 % 256)) (at + 2) (x / 256 % 256)) (at + 3) (x % 256) ≡ storeAt d at (bytesFor numberSize x)
+    → set (set (set (set d at (x / 16777216 % 256)) (at + 1) (x / 65536 % 256)) (at + 2) (x / 256 % 256)) (at + 3) (x % 256) ≡ storeAt d at (numberBytes numberSize x)
 number-stored d at x h =
-    let s : List ℕ = bytesFor numberSize x in
-    let long : length s ≡ 4 = length-bytesFor 4 x in
+    let s : List ℕ = numberBytes numberSize x in
+    let long : length s ≡ 4 = length-numberBytes 4 x in
     let last : x % 256 ≡ getD s 3 0 = rw div-one at (sym (byte-at 4 x 3 (omega arith))) in
     let one : Put d at s (set d at (x / 16777216 % 256)) 1 = rw add-zero at (put-more {at = at} {v = x / 16777216 % 256} (put-none {d = d} {s = s} {at = at}) (omega arith) (omega arith) (sym (byte-at 4 x 0 (omega arith)))) in
     put-done (put-more (put-more (put-more one (omega arith) (omega arith) (sym (byte-at 4 x 1 (omega arith)))) (omega arith) (omega arith) (sym (byte-at 4 x 2 (omega arith)))) (omega arith) (omega arith) last) long
@@ -64,11 +65,6 @@ number-stored d at x h =
 store-whole : (d s : List ℕ) → length s ≡ length d → storeAt d 0 s ≡ s
 store-whole d s e = let none : drop (0 + length s) d ≡ [] = let past : length d ≤ 0 + length s = omega arith in drop-of-length-le d past in rw none (append-nil s)
 
-runs-first : (n : ℕ) (f : ℕ → List ℕ) → runs (suc n) f ≡ f 0 ++ runs n (λ i. f (suc i))
-unfolding runs
-runs-first zero f = sym (append-nil (f 0))
-runs-first (suc n) f = rw (runs-first n f, append-assoc (f 0) (runs n (λ i. f (suc i))) (f (suc n)))
-
 join-runs : (g : ℕ → List ℕ) (xs : List ℕ) → runs (length xs) (λ i. g (getD xs i 0)) ≡ join (map g xs)
 unfolding join runs
 join-runs g [] = refl
@@ -76,13 +72,13 @@ join-runs g (x ∷ xs) = runs-first (length xs) (λ i. g (getD (x ∷ xs) i 0)) 
 
 -- number i of a run, as bytes
 abbrev pub encodedAt : List ℕ → ℕ → List ℕ
-encodedAt xs i = bytesFor numberSize (getD xs i 0)
+encodedAt xs i = numberBytes numberSize (getD xs i 0)
 
 pub encoded : {d₀ d : List ℕ} (xs : List ℕ) {i : ℕ} → Wrote d₀ 0 (encodedAt xs) d i → i ≡ length xs → length d₀ ≡ length xs * numberSize → d ≡ bytesOf xs
 unfolding bytesOf bigEndian
 encoded {d₀} {d} xs {i} w all size =
-    let long : length (join (map (bytesFor numberSize) xs)) ≡ length d₀ = length-join (bytesFor numberSize) numberSize (length-bytesFor numberSize) xs ∙ sym size in
-    let runs-all : runs i (encodedAt xs) ≡ join (map (bytesFor numberSize) xs) = rw all (join-runs (bytesFor numberSize) xs) in
+    let long : length (join (map (numberBytes numberSize) xs)) ≡ length d₀ = length-join (numberBytes numberSize) numberSize (length-numberBytes numberSize) xs ∙ sym size in
+    let runs-all : runs i (encodedAt xs) ≡ join (map (numberBytes numberSize) xs) = rw all (join-runs (numberBytes numberSize) xs) in
     w .is ∙ ap (storeAt d₀ 0) runs-all ∙ store-whole d₀ _ long
 
 number-in : (w n : ℕ) (bs : List ℕ) (i : ℕ) → i < n → getD (bigEndianIn w n bs) i 0 ≡ numberAt w bs (i * w)

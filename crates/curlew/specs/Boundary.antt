@@ -1,33 +1,29 @@
 -- The calls for a C host (document 01, "Slot tables"): slots and replies are runs of bytes, each number four of them, big-endian.
 -- THE EFFECT OF A CALL is `curlewPack` and `curlewRead`, at the end.
-use Prim.Native.Nat.{ℕ, _*_, _/_, _%_, _≤_}
-use mathlib.Core.Bool.{Bool, true, false, _&&_}
+use Prim.Native.Nat.{ℕ, _*_, _/_, _%_}
+use mathlib.Core.Bool.{true}
 use mathlib.Core.List.{List, [], _∷_, map}
 use lib.ListN.{length}
-use lib.Dec.{eqb, leb}
+use lib.Dec.{eqb}
 use Rattle.layout.specs.declared.Refusal.the-variants.{BadSize}
 use Rattle.layout.specs.Refusals.{if_then_else_, numberOf}
 use Rattle.record.specs.declared.Answer.{Answer}
-use Rattle.record.specs.Bytes.{part, pieces, join, digits, number, ordered}
-use Rattle.record.specs.Table.{maxSlots, slotWidth}
+use Rattle.record.specs.Bytes.{pieces, join, digits, number, ordered}
+use Rattle.record.specs.Table.{slotWidth}
 use Rattle.record.specs.Packing.{refusal, Packed, pack}
 use Rattle.record.specs.Reading.{Read, read}
 
 -- ---- numbers as bytes
 
--- the w bytes of a number, the highest first; and the number that the w bytes from the place `at` on make
-unfoldable pub bytesFor : ℕ → ℕ → List ℕ
+-- the w bytes of a number, the highest first
+unfoldable pub numberBytes : ℕ → ℕ → List ℕ
 unfolding digits
-bytesFor w x = ordered true (digits 256 w x)
-
-unfoldable pub numberAt : ℕ → List ℕ → ℕ → ℕ
-unfolding number
-numberAt w bs at = number 256 (ordered true (part bs at w))
+numberBytes w x = ordered true (digits 256 w x)
 
 -- numbers of w bytes each, one after the other; and the n numbers that stand at the front of bs
 unfoldable pub bigEndian : ℕ → List ℕ → List ℕ
-unfolding join bytesFor
-bigEndian w xs = join (map (bytesFor w) xs)
+unfolding join numberBytes
+bigEndian w xs = join (map (numberBytes w) xs)
 
 unfoldable pub bigEndianIn : ℕ → ℕ → List ℕ → List ℕ
 unfolding pieces number
@@ -59,14 +55,11 @@ replyOf a = bytesOf (a .number ∷ a .first ∷ a .second ∷ [])
 
 -- ---- what both calls share
 
--- "A reply run of another size gives 1 and nothing is written"; "a run that isn't a multiple of 12 gives 1"; else the call is served.
+-- "A reply run of another size gives 1 and nothing is written"; "a run that isn't a multiple of 12 gives 1"; else the call is
+-- served on the numbers that the bytes make. (More slots than a call may be lent give 1 there.)
 abbrev pub guarded : {A : Type 0} → List ℕ → List ℕ → A → A → A → A
 guarded reply slots unwritten refused served =
     if eqb (length reply) replySize then (if eqb (length slots % slotSize) 0 then served else refused) else unwritten
-
--- a run of slot bytes, as long as this, that is served by the call on numbers: the slots are whole, and not too many
-abbrev pub slotsFit : ℕ → Bool
-slotsFit size = leb size (slotSize * maxSlots) && eqb (size % slotSize) 0
 
 -- ---- packing
 

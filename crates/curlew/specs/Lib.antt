@@ -1,2 +1,3 @@
 -- What the calls for a C host mean.
 pub mod Boundary
+pub mod Steps

@@ -1,23 +1,41 @@
 // The calls for a C host: slots are lent, and replies written, as runs of bytes, each number four of them, big-endian.
 ghost use mathlib.Core.Path.{_≡_};
 ghost use Prim.Native.Nat.{_*_};
+ghost use lib.Dec.{eqb};
 ghost use lib.ListN.{length};
 ghost use Rattle.record.specs.Packing.{pack};
 ghost use Rattle.record.specs.Reading.{read};
-ghost use Rattle.curlew.specs.Boundary.{numberSize, replySize, slotsFit, numbersIn, replyOf, packCall, curlewPack, readCall, curlewRead};
+ghost use Rattle.curlew.specs.Boundary.{numberSize, replySize, numbersIn, replyOf, packCall, curlewPack, readCall, curlewRead};
+ghost use Rattle.curlew.specs.Steps.{slotsFit};
 use layout::Refusal;
 use record::Answer;
 
 pub mod numbers;
 
+// The bytes of a number, of a slot and of a reply; the numbers of the slots that a call may be lent.
+const NUMBER_SIZE: usize = 4;
+
+const SLOT_SIZE: usize = 12;
+
+const REPLY_SIZE: usize = 12;
+
+const MAX_NUMBERS: usize = 192;
+
+// A reply that is written.
+fn reply_fits(size: usize) -> bool
+    ensures { λ r. ⌜ r ≡ eqb size replySize ⌝ }
+{
+    size == REPLY_SIZE
+}
+
 // A run of slot bytes that is served: whole slots, at most 64.
 fn slots_fit(size: usize) -> bool
     ensures { λ r. ⌜ r ≡ slotsFit size ⌝ }
 {
-    if 768 < size {
+    if MAX_NUMBERS * NUMBER_SIZE < size {
         return false;
     }
-    size % 12 == 0
+    size % SLOT_SIZE == 0
 }
 
 // Writes an answer into the reply, and hands back its number.
@@ -80,14 +98,14 @@ pub extern "C" fn curlew_pack(
 ) -> u32
     ensures { λ r. ⌜ record { returned = r; output = now (out .exit); reply = now (reply .exit) } ≡ curlewPack (now (layout .entry)) (now (slots .entry)) (now (area .entry)) (now (out .entry)) (now (reply .entry)) ⌝ }
 {
-    if reply.len() != 12 {
+    if !reply_fits(reply.len()) {
         return 1;
     }
     if !slots_fit(slots.len()) {
         return reply_with(reply, Answer::refused(Refusal::BadSize, 0));
     }
-    let n = slots.len() / 4;
-    let mut room: [u32; 192] = [0; 192];
+    let n = slots.len() / NUMBER_SIZE;
+    let mut room: [u32; MAX_NUMBERS] = [0; MAX_NUMBERS];
     pack_by(layout, slots, area, out, reply, &mut room[..n])
 }
 
@@ -103,13 +121,13 @@ pub extern "C" fn curlew_read(
 ) -> u32
     ensures { λ r. ⌜ record { returned = r; slots = now (slots .exit); area = now (area .exit); reply = now (reply .exit) } ≡ curlewRead (now (layout .entry)) (now (bytes .entry)) (now (slots .entry)) (now (area .entry)) mark (now (reply .entry)) ⌝ }
 {
-    if reply.len() != 12 {
+    if !reply_fits(reply.len()) {
         return 1;
     }
     if !slots_fit(slots.len()) {
         return reply_with(reply, Answer::refused(Refusal::BadSize, 0));
     }
-    let n = slots.len() / 4;
-    let mut room: [u32; 192] = [0; 192];
+    let n = slots.len() / NUMBER_SIZE;
+    let mut room: [u32; MAX_NUMBERS] = [0; MAX_NUMBERS];
     read_by(layout, bytes, slots, area, mark, reply, &mut room[..n])
 }

@@ -3,7 +3,8 @@ ghost use mathlib.Core.Path.{_≡_};
 ghost use Prim.Native.Nat.{_+_, _*_, _≤_};
 ghost use lib.ListN.{length};
 ghost use Rattle.record.specs.Bytes.{storeAt};
-ghost use Rattle.curlew.specs.Boundary.{numberSize, numberAt, bytesFor, numbersIn, bytesOf};
+ghost use Rattle.curlew.specs.Boundary.{numberSize, numberBytes, numbersIn, bytesOf};
+ghost use Rattle.curlew.specs.Steps.{numberAt};
 
 fn number_at(bytes: &[u8], at: usize) -> u32
     requires { ⌜ at + numberSize ≤ length (now bytes) ⌝ }
@@ -18,7 +19,7 @@ fn number_at(bytes: &[u8], at: usize) -> u32
 
 fn put_number(out: &mut [u8], at: usize, x: u32)
     requires { ⌜ at + numberSize ≤ length (now out) ⌝ }
-    ensures { λ _. ⌜ now (out .exit) ≡ storeAt (now (out .entry)) at (bytesFor numberSize x) ⌝ }
+    ensures { λ _. ⌜ now (out .exit) ≡ storeAt (now (out .entry)) at (numberBytes numberSize x) ⌝ }
 {
     out[at] = (x / 16777216 % 256) as u8;
     out[at + 1] = (x / 65536 % 256) as u8;

@@ -1,6 +1,6 @@
 -- The proof of demand 3. Packing a plain layout joins the bytes of its fields, so the old record is the front of the new one; a reader that
 -- stands where the packer stood finds each field's own bytes as long as they end at or before the cut, and stops at the first that does not.
-use Prim.Native.Nat.{ℕ, zero, suc, _+_, _-_, _*_, _≤_, suc-le-suc}
+use Prim.Native.Nat.{ℕ, suc, _+_, _-_, _≤_, suc-le-suc}
 use native.Mathlib.Nat.{le-refl}
 use native.Mathlib.Omega.{arith}
 use mathlib.Core.Path.{_≡_, refl, sym, ap, _∙_, subst}
@@ -14,11 +14,12 @@ use Rattle.layout.specs.declared.Field.{Field}
 use Rattle.layout.specs.Layout.{takesSlot, fieldsOf, slotCount}
 use Rattle.layout.specs.Refusals.{if_then_else_, ok}
 use Rattle.layout.proofs.Laws.{AllSound, packed-reads}
-use Rattle.record.specs.Table.{Slot, slotsOf, shown, slotWidth, valueBytes}
+use Rattle.record.specs.Table.{slotsOf, shown, valueBytes}
 use Rattle.record.specs.Packing.{accepted, Filled, filled, argumentsFit, packed, packs, pack, packEffect, Packed}
 use Rattle.record.specs.Geometry.{sizesFit}
 use Rattle.record.specs.Reading.{Read, valuesFrom, reads, read, readEffect, putInto}
 use Rattle.evolution.specs.Claim.{plain, plainCode, plainCount, endOf, Layouts, packedBy, recordOf, textOf, outputBy, slotsBy, fieldsBy, due, cutRecord, Reading, ReadsBack}
+use Rattle.record.proofs.Tables.{slots-take}
 use Rattle.record.proofs.Bytes.{both}
 use Rattle.evolution.proofs.Run.{AllGood, joined, joined-append, length-joined, packed-joined, agree}
 use Rattle.evolution.proofs.Shown.{shows-put, set-proper}
@@ -41,20 +42,6 @@ reads-by : (text bs slots area : List ℕ) (mark : ℕ) (fs : List Field) → fi
     → reads text bs slots area mark ≡ ok (valuesFrom bs 0 fs)
 unfolding reads
 reads-by text bs slots area mark fs f s c r = rw (s, f, le-leb _ _ c, le-leb _ _ r)
-
-slots-take : (n : ℕ) (ns : List ℕ) → slotsOf (take (slotWidth * n) ns) ≡ take n (slotsOf ns)
-unfolding slotsOf
-slots-take zero ns = refl
-slots-take (suc n) ns = rw (three n) (go ns (slots-take n))
-  where
-    three : (n : ℕ) → slotWidth * suc n ≡ suc (suc (suc (slotWidth * n)))
-    three n = omega arith
-
-    go : (ns : List ℕ) → ((ms : List ℕ) → slotsOf (take (slotWidth * n) ms) ≡ take n (slotsOf ms)) → slotsOf (take (suc (suc (suc (slotWidth * n)))) ns) ≡ take (suc n) (slotsOf ns)
-    go [] ih = refl
-    go (k ∷ []) ih = refl
-    go (k ∷ s ∷ []) ih = refl
-    go (k ∷ s ∷ c ∷ rest) ih = ap (λ (r : List Slot). record { kind = k; start = s; len = c } ∷ r) (ih rest)
 
 -- ---- the front of a layout
 

@@ -1,12 +1,11 @@
 -- Packing a plain layout joins the fields' bytes; reading what is left of them after a cut shows what `setBy` says.
-use Prim.Native.Nat.{ℕ, zero, suc, _+_, _-_, _≤_, _<_, min}
-use native.Mathlib.Nat.{sub-zero, zero-sub, suc-sub-suc}
+use Prim.Native.Nat.{ℕ, _+_, _-_, _≤_, _<_, min}
 use native.Mathlib.Omega.{arith}
 use mathlib.Core.Path.{_≡_, refl, sym, ap, ap₂, _∙_}
 use mathlib.Core.Bool.{Bool}
 use mathlib.Core.List.{List, [], _∷_, _++_, append-nil, append-assoc}
 use lib.ListN.{length, take, drop, replicate, length-append, length-replicate, drop-of-length-le}
-use lib.Seq.{take-length, length-take-le, take-at, drop-at, take-take, drop-drop, take-nil}
+use lib.Seq.{take-length, length-take-le, take-at, drop-at, take-take, drop-drop}
 use borrow.Author.Tests.{le-leb, lt-leb}
 use Rattle.layout.specs.declared.Code.{Code}
 use Rattle.layout.specs.declared.Code.the-variants.{Data, Move}
@@ -19,6 +18,7 @@ use Rattle.record.specs.Geometry.{amount, bytesFor, itemsIn}
 use Rattle.record.specs.Packing.{stored, Run, store, Filled, packOne, packAll, packed}
 use Rattle.record.specs.Reading.{loaded, valuesFrom}
 use Rattle.evolution.specs.Claim.{fills, endOf, setBy}
+use Rattle.record.proofs.Bytes.{drop-take}
 use Rattle.record.proofs.Fields.{Served, length-stored, fills-some, split}
 use Rattle.evolution.proofs.Fields.{back}
 
@@ -87,12 +87,6 @@ joined-append [] gs = refl
 joined-append (a ∷ fs) gs = ap (λ (r : List ℕ). bytesOf (a .field .code) (a .field .count) (a .items) ++ r) (joined-append fs gs) ∙ sym (append-assoc (bytesOf (a .field .code) (a .field .count) (a .items)) (joined fs) (joined gs))
 
 -- ---- reading a cut
-
-drop-take : (a k : ℕ) (l : List ℕ) → drop a (take k l) ≡ take (k - a) (drop a l)
-drop-take zero k l = rw sub-zero
-drop-take (suc a) zero l = rw zero-sub
-drop-take (suc a) (suc k) [] = sym (take-nil (suc k - suc a))
-drop-take (suc a) (suc k) (x ∷ l) = drop-take a k l ∙ ap (λ (i : ℕ). take i (drop a l)) (sym (suc-sub-suc k a))
 
 -- n bytes from a on are those of the whole where they end at or before the cut
 within : (a n k : ℕ) (l : List ℕ) → a + n ≤ k → take n (drop a (take k l)) ≡ take n (drop a l)

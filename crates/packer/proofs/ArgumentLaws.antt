@@ -1,7 +1,7 @@
 -- The check of an argument, line by line, on plain values.
 use Prim.Native.Nat.{ℕ, _+_, _*_, _≤_, min}
 use native.Mathlib.Omega.{arith}
-use mathlib.Core.Path.{_≡_, refl, sym, ap, _∙_}
+use mathlib.Core.Path.{_≡_, sym, ap, _∙_}
 use mathlib.Core.Bool.{Bool, true, false, _&&_, not}
 use mathlib.Core.List.{List}
 use borrow.Author.Tests.{leb-true}
@@ -15,6 +15,7 @@ use Rattle.layout.specs.declared.Refusal.the-variants.{NotSet, BadSlot, WrongKi
 use Rattle.layout.specs.Refusals.{ok}
 use Rattle.layout.proofs.Laws.{demanded, demand-true}
 use Rattle.record.specs.Bytes.{part}
+use Rattle.record.proofs.Bytes.{and-true}
 use Rattle.record.specs.Table.{Slot, shown, itemSize}
 use Rattle.record.specs.Geometry.{amount}
 use Rattle.record.specs.Packing.{kindFits, amountFits, digitsFit, allDigits, insideArea, argumentFits}
@@ -53,10 +54,6 @@ module _ (area : List ℕ) (s : Shape) (n : Count) (k : ℕ) (a : Slot) where
           unfolding argumentFits
           all-fits e = simp (e₁, e₂, e₃, e₄, e)
 
-pub both : (a b : Bool) → a && b ≡ true → (a ≡ true) × (b ≡ true)
-both true b e = (refl, e)
-both false b e = let z : _≡_ {A = ℕ} 0 1 = cc in absurd (omega arith)
-
 -- what a field can rely on whose argument was checked
 pub record Checked (area : List ℕ) (s : Shape) (n : Count) (a : Slot) : Type 0 where
   pub inside : insideArea area a ≡ true
@@ -72,7 +69,7 @@ checked-argument area s n k a e =
     let x₃ = demanded (kindFits s (a .kind)) WrongKind k _ tt (x₂ .1) in
     let x₄ = demanded (amountFits s n (a .len)) WrongAmount k _ tt (x₃ .1) in
     record {
-      inside = both (leb (a .kind) 3) (insideArea area a) (x₂ .0) .1;
+      inside = and-true (leb (a .kind) 3) (insideArea area a) (x₂ .0) .1;
       kind = x₃ .0;
       amounts = x₄ .0;
       digits = demand-true (digitsFit s (amount n (a .len)) (shown area a .items)) BadDigit k (x₄ .1);

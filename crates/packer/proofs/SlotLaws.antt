@@ -1,30 +1,14 @@
--- Laws of `slotsOf`: the slots are the numbers three by three.
-use Prim.Native.Nat.{ℕ, zero, suc, _+_, _*_, _/_, _≤_}
+-- A slot by its number: the numbers three by three.
+use Prim.Native.Nat.{ℕ, suc, _+_, _*_, _≤_}
 use native.Mathlib.Omega.{arith}
-use mathlib.Core.Path.{_≡_, refl, sym, ap, _∙_}
-use mathlib.Core.List.{List, [], _∷_}
+use mathlib.Core.Path.{_≡_, ap, _∙_}
+use mathlib.Core.List.{List, _∷_}
 use lib.ListN.{length, getD, drop}
-use lib.Seq.{drop-nil, drop-cons}
+use lib.Seq.{drop-cons}
+use Rattle.record.proofs.Tables.{drop-slots}
 use Rattle.record.specs.Table.{slotsOf, slotWidth}
 use Rattle.record.specs.Packing.{nextSlot}
 use Rattle.packer.specs.Arguments.{slotAt}
-
-pub length-slots : (ns : List ℕ) → length (slotsOf ns) ≡ length ns / slotWidth
-unfolding slotsOf
-length-slots [] = refl
-length-slots (a ∷ []) = refl
-length-slots (a ∷ b ∷ []) = refl
-length-slots (a ∷ b ∷ d ∷ ns) = let e : length (slotsOf ns) ≡ length ns / slotWidth = length-slots ns in omega arith
-
-drop-slots : (k : ℕ) (ns : List ℕ) → drop k (slotsOf ns) ≡ slotsOf (drop (slotWidth * k) ns)
-unfolding slotsOf
-drop-slots zero ns = refl
-drop-slots (suc k) [] = simp drop-nil
-drop-slots (suc k) (a ∷ []) = let e : slotWidth * suc k ≡ suc (slotWidth * k + 2) = omega arith in let z : drop (slotWidth * suc k) (a ∷ []) ≡ [] = rw e (drop-nil (slotWidth * k + 2)) in sym (ap slotsOf z)
-drop-slots (suc k) (a ∷ b ∷ []) = let e : slotWidth * suc k ≡ suc (suc (slotWidth * k + 1)) = omega arith in let z : drop (slotWidth * suc k) (a ∷ b ∷ []) ≡ [] = rw e (drop-nil (slotWidth * k + 1)) in sym (ap slotsOf z)
-drop-slots (suc k) (a ∷ b ∷ d ∷ ns) =
-    let e : slotWidth * suc k ≡ suc (suc (suc (slotWidth * k))) = omega arith in
-    drop-slots k ns ∙ ap (λ (m : ℕ). slotsOf (drop m (a ∷ b ∷ d ∷ ns))) (sym e)
 
 three : (ns : List ℕ) (i : ℕ) → i + 3 ≤ length ns → drop i ns ≡ getD ns i 0 ∷ getD ns (i + 1) 0 ∷ getD ns (i + 2) 0 ∷ drop (i + 3) ns
 three ns i h =

@@ -20,8 +20,8 @@ use Rattle.packer.specs.declared.measure.Measured.the-variants.{Length, 
 use Rattle.packer.specs.Measure.{origin, checked, Room, measuredOf}
 use Rattle.packer.specs.Writing.{written}
 use Rattle.packer.specs.Whole.{finished}
-use Rattle.packer.proofs.SlotLaws.{length-slots}
-use Rattle.packer.proofs.ArgumentLaws.{both}
+use Rattle.record.proofs.Tables.{length-slots}
+use Rattle.record.proofs.Bytes.{and-true}
 use Rattle.packer.proofs.RunLaws.{measured-as, written-as}
 
 -- ---- the end of a call
@@ -101,10 +101,10 @@ size-limits l s o a e =
     let fits : Bool = leb l maxLayout in
     let slots : Bool = leb s (slotWidth * maxSlots) in
     let whole : Bool = eqb (s % slotWidth) 0 in
-    let (r₁, e₅) = both (fits && slots && whole && leb o maxRecord) (leb a maxArea) e in
-    let (r₂, e₄) = both (fits && slots && whole) (leb o maxRecord) r₁ in
-    let (r₃, e₃) = both (fits && slots) whole r₂ in
-    let (e₁, e₂) = both fits slots r₃ in
+    let (r₁, e₅) = and-true (fits && slots && whole && leb o maxRecord) (leb a maxArea) e in
+    let (r₂, e₄) = and-true (fits && slots && whole) (leb o maxRecord) r₁ in
+    let (r₃, e₃) = and-true (fits && slots) whole r₂ in
+    let (e₁, e₂) = and-true fits slots r₃ in
     record { layout = leb-true l maxLayout e₁; slots = leb-true s (slotWidth * maxSlots) e₂; output = leb-true o maxRecord e₄ }
 
 -- ---- line 5

@@ -1,9 +1,9 @@
 -- What each way out of a call leaves is what the definition gives.
 use Prim.Native.Nat.{ℕ, _+_, _-_, _*_, _/_, _%_, _≤_, _<_}
 use native.Mathlib.Omega.{arith}
-use mathlib.Core.Path.{_≡_, refl, _∙_}
-use mathlib.Core.Bool.{Bool, true, false, _&&_}
-use mathlib.Core.List.{List, [], _∷_}
+use mathlib.Core.Path.{_≡_, _∙_}
+use mathlib.Core.Bool.{true, false}
+use mathlib.Core.List.{List}
 use borrow.Author.Tests.{leb-true, le-leb, lt-leb}
 use lib.Dec.{eqb, leb}
 use lib.ListN.{length}
@@ -13,19 +13,14 @@ use Rattle.layout.specs.declared.Refusal.the-variants.{BadSize, WrongSlots, NoR
 use Rattle.layout.specs.Refusals.{ok, refused, _>>=_}
 use Rattle.layout.specs.Layout.{maxLayout, fieldsOf, slotCount}
 use Rattle.record.specs.declared.Answer.{Answer}
+use Rattle.record.proofs.Tables.{length-slots}
+use Rattle.record.proofs.Bytes.{and-true}
 use Rattle.record.specs.Table.{slotWidth, maxSlots, maxRecord, maxArea, slotsOf, valueBytes}
 use Rattle.record.specs.Packing.{refusal}
 use Rattle.record.specs.Reading.{valuesFrom, reads, Read, putInto, read}
 use Rattle.reader.specs.Sizes.{lentFits}
 use Rattle.reader.specs.Tables.{Room}
 use Rattle.reader.proofs.Tables.{values-few}
-
-pub slots-length : (ns : List ℕ) → length (slotsOf ns) ≡ length ns / slotWidth
-unfolding slotsOf
-slots-length [] = refl
-slots-length (k ∷ []) = refl
-slots-length (k ∷ s ∷ []) = refl
-slots-length (k ∷ s ∷ n ∷ rest) = omega (arith, slots-length rest)
 
 -- what line 1 leaves
 pub record Fit (layout slots bytes area mark : ℕ) : Type 0 where
@@ -36,16 +31,12 @@ pub record Fit (layout slots bytes area mark : ℕ) : Type 0 where
   pub limit : area ≤ maxArea
   pub start : mark ≤ area
 
-both : (a b : Bool) → a && b ≡ true → (a ≡ true) × (b ≡ true)
-both true b h = (refl, h)
-both false b h = let z : _≡_ {A = ℕ} 0 1 = cc in absurd (omega arith)
-
 pub fit : {layout slots bytes area mark : ℕ} → lentFits layout slots bytes area mark ≡ true → Fit layout slots bytes area mark
 fit {layout} {slots} {bytes} {area} {mark} h =
-    let start = both _ (leb mark area) h in
-    let limit = both _ (leb area maxArea) (start .0) in
-    let whole = both _ (leb bytes maxRecord) (limit .0) in
-    let table = both (leb layout maxLayout) (leb slots (slotWidth * maxSlots)) (both _ (eqb (slots % slotWidth) 0) (whole .0) .0) in
+    let start = and-true _ (leb mark area) h in
+    let limit = and-true _ (leb area maxArea) (start .0) in
+    let whole = and-true _ (leb bytes maxRecord) (limit .0) in
+    let table = and-true (leb layout maxLayout) (leb slots (slotWidth * maxSlots)) (and-true _ (eqb (slots % slotWidth) 0) (whole .0) .0) in
     record {
       test = h;
       text = leb-true layout maxLayout (table .0);
@@ -69,11 +60,11 @@ module _ (layout bs slots area : List ℕ) (mark : ℕ) where
     module _ {fs : List Field} (fields : fieldsOf false layout ≡ ok fs) where
       pub read-slots : {r : Answer} → length slots / slotWidth < slotCount fs → r ≡ refusal WrongSlots 0 → record { answer = r; slots = slots; area = area } ≡ read layout bs slots area mark
       unfolding read reads
-      read-slots h q = let l : length (slotsOf slots) < slotCount fs = rw slots-length h in rw (sizes .test, fields, lt-leb _ _ l, q)
+      read-slots h q = let l : length (slotsOf slots) < slotCount fs = rw length-slots h in rw (sizes .test, fields, lt-leb _ _ l, q)
 
       module _ (enough : slotCount fs ≤ length slots / slotWidth) where
         rows : leb (slotCount fs) (length (slotsOf slots)) ≡ true
-        rows = let l : slotCount fs ≤ length (slotsOf slots) = rw slots-length enough in le-leb _ _ l
+        rows = let l : slotCount fs ≤ length (slotsOf slots) = rw length-slots enough in le-leb _ _ l
 
         pub read-room : {r : Answer} → length area < mark + length (valueBytes (valuesFrom bs 0 fs)) → r ≡ refusal NoRoom 0 → record { answer = r; slots = slots; area = area } ≡ read layout bs slots area mark
         unfolding read reads

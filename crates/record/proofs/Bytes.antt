@@ -1,15 +1,15 @@
 -- Laws of `fit`, `pieces`, `join`, `digits` and `number`.
 use Prim.Native.Nat.{ℕ, zero, suc, _+_, _-_, _*_, _/_, _%_, _^_, _<_}
-use native.Mathlib.Nat.{mod-one, zero-add, zero-mul, suc-mul, add-mul-mod-self-left, add-mul-div-left, div-eq-of-lt, mod-eq-of-lt, pow-suc, pow-zero, mul-pos, suc-ne-zero}
+use native.Mathlib.Nat.{sub-zero, zero-sub, suc-sub-suc, mod-one, zero-add, zero-mul, suc-mul, add-mul-mod-self-left, add-mul-div-left, div-eq-of-lt, mod-eq-of-lt, pow-suc, pow-zero, mul-pos, suc-ne-zero}
 use native.Mathlib.Omega.{arith}
 use mathlib.Core.Path.{_≡_, refl, sym, ap, ap₂, _∙_}
 use mathlib.Core.Bool.{Bool, true, false, _&&_}
 use mathlib.Core.List.{List, [], _∷_, _++_, map, reverseAux, reverse-reverse}
 use lib.ListN.{length, getD, take, drop, replicate, length-append, length-replicate, length-take, length-reverse, length-drop, take-append-drop}
-use lib.Seq.{take-at, drop-at}
+use lib.Seq.{getD-take, getD-drop, take-nil, take-at, drop-at}
 use lib.Arith.{mod-mul}
 use lib.Dec.{T}
-use Rattle.record.specs.Bytes.{fit, pieces, join, digits, number, ordered}
+use Rattle.record.specs.Bytes.{part, fit, pieces, join, digits, number, ordered}
 
 pub length-fit : (n pad : ℕ) (xs : List ℕ) → length (fit n pad xs) ≡ n
 unfolding fit
@@ -112,3 +112,16 @@ join-pieces k (suc n) xs h = ap (λ (r : List ℕ). take k xs ++ r) (join-pieces
 pub all-below : {b : ℕ} (xs : List ℕ) → ((i : ℕ) → getD xs i 0 < b) → All (λ d. d < b) xs
 all-below [] h = tt
 all-below (x ∷ xs) h = (h 0, all-below xs (λ i. h (suc i)))
+
+pub and-true : (a b : Bool) → a && b ≡ true → (a ≡ true) × (b ≡ true)
+and-true true b h = (refl, h)
+and-true false b h = let z : _≡_ {A = ℕ} 0 1 = cc in absurd (omega arith)
+
+pub part-at : (xs : List ℕ) (start n j : ℕ) → j < n → getD (part xs start n) j 0 ≡ getD xs (start + j) 0
+part-at xs start n j h = getD-take n (drop start xs) j 0 h ∙ getD-drop start xs j 0
+
+pub drop-take : (a k : ℕ) (l : List ℕ) → drop a (take k l) ≡ take (k - a) (drop a l)
+drop-take zero k l = rw sub-zero
+drop-take (suc a) zero l = rw zero-sub
+drop-take (suc a) (suc k) [] = sym (take-nil (suc k - suc a))
+drop-take (suc a) (suc k) (x ∷ l) = drop-take a k l ∙ ap (λ (i : ℕ). take i (drop a l)) (sym (suc-sub-suc k a))

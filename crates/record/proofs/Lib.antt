@@ -2,6 +2,7 @@
 pub mod Bytes
 pub mod Bounds
 pub mod Stores
+pub mod Tables
 pub mod Fields
 pub mod Moves
 pub mod Widening

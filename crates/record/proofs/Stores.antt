@@ -72,6 +72,11 @@ unfolding runs
 length-runs k zero f h = sym (zero-mul k)
 length-runs k (suc n) f h = length-append (runs n f) (f n) ∙ rw (suc-mul, length-runs k n f (λ i l. h i (omega arith)), h n (omega arith))
 
+pub runs-first : (n : ℕ) (f : ℕ → List ℕ) → runs (suc n) f ≡ f 0 ++ runs n (λ i. f (suc i))
+unfolding runs
+runs-first zero f = sym (append-nil (f 0))
+runs-first (suc n) f = rw (runs-first n f, append-assoc (f 0) (runs n (λ i. f (suc i))) (f (suc n)))
+
 -- d is d₀ with the first i runs put in from the place `at`
 pub record Wrote (d₀ : List ℕ) (at : ℕ) (f : ℕ → List ℕ) (d : List ℕ) (i : ℕ) : Type 0 where
   pub long : length d ≡ length d₀

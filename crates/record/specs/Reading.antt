@@ -1,10 +1,9 @@
 -- The reader (document 01, "Reading", and the table of numbers): THE EFFECT OF A CALL is `read`, at the end.
-use Prim.Native.Nat.{ℕ, zero, suc, _+_, _-_, _*_, _^_}
-use mathlib.Core.Bool.{Bool, true, false, _&&_, _||_}
+use Prim.Native.Nat.{ℕ, _+_, _-_, _*_, _^_}
+use mathlib.Core.Bool.{Bool, false, _&&_, _||_}
 use mathlib.Core.List.{List, [], _∷_, _++_, map}
 use lib.ListN.{length, take, drop}
 use lib.Dec.{eqb, leb, ltb}
-use Rattle.layout.specs.declared.Code.{Code}
 use Rattle.layout.specs.declared.Code.the-variants.{Data, Move}
 use Rattle.layout.specs.declared.Shape.{Shape}
 use Rattle.layout.specs.declared.Shape.the-variants.{Text, Digits, Integers}
@@ -14,7 +13,7 @@ use Rattle.layout.specs.Refusals.{if_then_else_, Result, ok, refused, _>>=_, de
 use Rattle.layout.specs.Layout.{fieldsOf, slotCount}
 use Rattle.record.specs.declared.Answer.{Answer}
 use Rattle.record.specs.Bytes.{part, storeAt, pieces, join, digits, number, ordered}
-use Rattle.record.specs.Table.{slotsOf, Value, areaBytes, slotWidth, slotNumbers, valueBytes}
+use Rattle.record.specs.Table.{slotsOf, Value, slotWidth, slotNumbers, valueBytes}
 use Rattle.record.specs.Geometry.{amount, base, perByte, bytesFor, itemsIn, movedIn, sizesFit}
 use Rattle.record.specs.Packing.{accepted, refusal}
 

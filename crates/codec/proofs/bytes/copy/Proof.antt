@@ -4,7 +4,7 @@ use native.Mathlib.Omega.{arith}
 use mathlib.Core.Path.{sym}
 use Rattle.record.specs.Bytes.{part}
 use Rattle.record.proofs.Stores.{Put, put-none, put-more, put-done, length-part}
-use Rattle.codec.proofs.ByteLaws.{part-at}
+use Rattle.record.proofs.Bytes.{part-at}
 use Rattle.codec.proofs.bytes.copy.Statement.{statement}
 use Rattle.codec.proofs.bytes.copy.Tie as tie
 

@@ -4,7 +4,7 @@ use lib.ListN.{length}
 use native.Mathlib.Omega.{arith}
 use Rattle.record.proofs.Stores.{Wrote, wrote-none, wrote-more}
 use Rattle.curlew.specs.Boundary.{numberSize}
-use Rattle.curlew.proofs.NumberLaws.{encodedAt, length-bytesFor, encoded}
+use Rattle.curlew.proofs.NumberLaws.{encodedAt, length-numberBytes, encoded}
 use Rattle.curlew.proofs.numbers.encode.Statement.{statement}
 use Rattle.curlew.proofs.numbers.encode.Tie as tie
 
@@ -39,7 +39,7 @@ loop-again : tie.Need-loop-again Inv-loop μ-loop
 loop-again c =
     let called = c .before .before in
     let loop = called .before .before .before .before in
-    (omega arith, wrote-more {to = loop .loop .i * numberSize} numberSize (λ k. length-bytesFor numberSize _) (loop .loop .inv .1) (omega arith) (omega arith) (called .put-number .ensures))
+    (omega arith, wrote-more {to = loop .loop .i * numberSize} numberSize (λ k. length-numberBytes numberSize _) (loop .loop .inv .1) (omega arith) (omega arith) (called .put-number .ensures))
 
 same-length : tie.Need-same-length Inv-loop μ-loop
 same-length c = c .before .loop .inv .1 .long

@@ -7,7 +7,8 @@ use Rattle.record.specs.Table.{shown}
 use Rattle.record.specs.Geometry.{amount}
 use Rattle.record.specs.Packing.{kindFits, amountFits, digitsFit, insideArea}
 use Rattle.packer.specs.Arguments.{slotOf}
-use Rattle.packer.proofs.ArgumentLaws.{both, not-set, bad-slot, wrong-kind, wrong-amount, bad-digit, all-fits}
+use Rattle.packer.proofs.ArgumentLaws.{not-set, bad-slot, wrong-kind, wrong-amount, bad-digit, all-fits}
+use Rattle.record.proofs.Bytes.{and-true}
 use borrow.Author.Needs.{needs}
 use Rattle.packer.proofs.arguments.check.Statement.{statement}
 use Rattle.packer.proofs.arguments.check.Tie as tie
@@ -57,7 +58,7 @@ digits-fit-requires : tie.Need-digits-fit-requires
 digits-fit-requires c κs =
     let e₃ = c .before .before .before in
     let start = e₃ .before .before .before .before .before .before .before in
-    (kind e₃, both (leb (start .args .a .kind) 3) (insideArea (start .args .area .now) (slotOf (start .args .a))) (inside (e₃ .before .before)) .1)
+    (kind e₃, and-true (leb (start .args .a .kind) 3) (insideArea (start .args .area .now) (slotOf (start .args .a))) (inside (e₃ .before .before)) .1)
 
 returns-5 : tie.Need-returns-5
 returns-5 c =

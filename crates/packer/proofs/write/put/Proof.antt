@@ -1,4 +1,4 @@
--- A checked argument is storable, and a move has room; both are the clauses of `put`.
+-- A checked argument is storable, and a move has room; and-true are the clauses of `put`.
 use native.Mathlib.Omega.{arith}
 use lib.ListN.{length}
 use Rattle.layout.specs.declared.Code.the-variants.{Data, Move}

@@ -1,0 +1,39 @@
+-- Laws of slot tables: the slots are the numbers, so many to a slot.
+use Prim.Native.Nat.{ℕ, zero, suc, _+_, _*_, _/_}
+use native.Mathlib.Omega.{arith}
+use mathlib.Core.Path.{_≡_, refl, sym, ap, _∙_}
+use mathlib.Core.List.{List, [], _∷_}
+use lib.ListN.{length, take, drop}
+use lib.Seq.{drop-nil}
+use Rattle.record.specs.Table.{Slot, slotsOf, slotWidth}
+
+pub length-slots : (ns : List ℕ) → length (slotsOf ns) ≡ length ns / slotWidth
+unfolding slotsOf
+length-slots [] = refl
+length-slots (a ∷ []) = refl
+length-slots (a ∷ b ∷ []) = refl
+length-slots (a ∷ b ∷ d ∷ ns) = let e : length (slotsOf ns) ≡ length ns / slotWidth = length-slots ns in omega arith
+
+pub drop-slots : (k : ℕ) (ns : List ℕ) → drop k (slotsOf ns) ≡ slotsOf (drop (slotWidth * k) ns)
+unfolding slotsOf
+drop-slots zero ns = refl
+drop-slots (suc k) [] = simp drop-nil
+drop-slots (suc k) (a ∷ []) = let e : slotWidth * suc k ≡ suc (slotWidth * k + 2) = omega arith in let z : drop (slotWidth * suc k) (a ∷ []) ≡ [] = rw e (drop-nil (slotWidth * k + 2)) in sym (ap slotsOf z)
+drop-slots (suc k) (a ∷ b ∷ []) = let e : slotWidth * suc k ≡ suc (suc (slotWidth * k + 1)) = omega arith in let z : drop (slotWidth * suc k) (a ∷ b ∷ []) ≡ [] = rw e (drop-nil (slotWidth * k + 1)) in sym (ap slotsOf z)
+drop-slots (suc k) (a ∷ b ∷ d ∷ ns) =
+    let e : slotWidth * suc k ≡ suc (suc (suc (slotWidth * k))) = omega arith in
+    drop-slots k ns ∙ ap (λ (m : ℕ). slotsOf (drop m (a ∷ b ∷ d ∷ ns))) (sym e)
+
+pub slots-take : (n : ℕ) (ns : List ℕ) → slotsOf (take (slotWidth * n) ns) ≡ take n (slotsOf ns)
+unfolding slotsOf
+slots-take zero ns = refl
+slots-take (suc n) ns = rw (three n) (go ns (slots-take n))
+  where
+    three : (n : ℕ) → slotWidth * suc n ≡ suc (suc (suc (slotWidth * n)))
+    three n = omega arith
+
+    go : (ns : List ℕ) → ((ms : List ℕ) → slotsOf (take (slotWidth * n) ms) ≡ take n (slotsOf ms)) → slotsOf (take (suc (suc (suc (slotWidth * n)))) ns) ≡ take (suc n) (slotsOf ns)
+    go [] ih = refl
+    go (k ∷ []) ih = refl
+    go (k ∷ s ∷ []) ih = refl
+    go (k ∷ s ∷ c ∷ rest) ih = ap (λ (r : List Slot). record { kind = k; start = s; len = c } ∷ r) (ih rest)
