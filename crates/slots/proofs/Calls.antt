@@ -1,11 +1,11 @@
 -- Each call over slots is the core call on their numbers: of at most 64 slots it is made over the first part of the scratch, and of more it is refused.
-use mathlib.Core.Path.{_≡_, refl, sym, ap, subst, _∙_}
-use Prim.Native.Nat.{ℕ, zero, suc, _+_, _*_, _%_, _<_, _≤_}
+use mathlib.Core.Path.{_≡_, refl, sym, ap, _∙_}
+use Prim.Native.Nat.{ℕ, _+_, _*_, _%_, _<_, _≤_}
 use native.Mathlib.Nat.{lt-of-not-le}
 use native.Mathlib.Omega.{arith}
 use native.Mathlib.Decide.{decLe}
 use mathlib.Core.Bool.{Bool, true, false, _&&_}
-use mathlib.Core.List.{List, [], _∷_, _++_, append-nil}
+use mathlib.Core.List.{List, _++_, append-nil}
 use lib.ListN.{length, take, drop}
 use lib.Dec.{eqb, leb}
 use lib.Seq.{take-at, take-length, drop-length, length-take-le}
@@ -15,10 +15,10 @@ use Rattle.record.specs.declared.Answer.{Answer}
 use Rattle.layout.specs.Layout.{maxLayout}
 use Rattle.record.specs.Geometry.{sizesFit}
 use Rattle.record.specs.Table.{slotWidth, maxSlots, maxRecord, maxArea}
-use Rattle.record.specs.Packing.{Packed, pack, packs, refusal}
+use Rattle.record.specs.Packing.{pack, packs, refusal}
 use Rattle.record.specs.Reading.{Read, read, reads}
 use Rattle.slots.specs.declared.Slot.{Slot}
-use Rattle.slots.specs.Slots.{numbersOf, slotsFrom, taken, packFirst, readFirst, ReadSlots, readSlots, withSlots}
+use Rattle.slots.specs.Slots.{numbersOf, slotsFrom, taken, packFirst, readFirst, readSlots, withSlots}
 use Rattle.slots.proofs.Runs.{filled, length-numbers, slots-back}
 
 -- ---- how many are taken apart

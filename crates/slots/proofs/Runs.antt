@@ -3,7 +3,7 @@ use mathlib.Core.Path.{_≡_, refl, sym, ap, subst, _∙_}
 use Prim.Native.Nat.{ℕ, zero, suc, _+_, _*_, _<_, _≤_}
 use native.Mathlib.Omega.{arith}
 use mathlib.Core.List.{List, [], _∷_, _++_}
-use lib.ListN.{length, getD, set, take, drop, length-set, length-append}
+use lib.ListN.{length, getD, set, take, drop, length-set}
 use lib.Seq.{sets, sets-eq, take-at, take-suc, take-add, drop-cons, drop-append-add, drop-drop, length-take-le, set-at, append-snoc}
 use Rattle.slots.specs.declared.Slot.{Slot}
 use Rattle.slots.specs.Slots.{numbersOf, slotsFrom, slotAt, putAt}
@@ -50,11 +50,7 @@ length-numbers (s ∷ ss) = ap (λ (k : ℕ). suc (suc (suc k))) (length-numbers
 numbers-append : (ss ts : List Slot) → numbersOf (ss ++ ts) ≡ numbersOf ss ++ numbersOf ts
 unfolding numbersOf
 numbers-append [] ts = refl
-numbers-append (s ∷ ss) ts = ap (λ (l : List ℕ). s .kind ∷ s .start ∷ s .length ∷ l) (numbers-append ss ts)
-
-numbers-one : (s : Slot) → numbersOf (s ∷ []) ≡ three s
-unfolding numbersOf
-numbers-one s = refl
+numbers-append (s ∷ ss) ts = rw (numbers-append ss ts)
 
 put-is : (ns : List ℕ) (k : ℕ) (s : Slot) → k + 3 ≤ length ns → putAt ns k s ≡ take k ns ++ three s ++ drop (k + 3) ns
 put-is ns k s l = as-sets ∙ sets-eq (three s) ns k l

@@ -136,3 +136,39 @@ pub fn read_slots(
     save(slots, &numbers, count);
     answer
 }
+
+// Two slots by value, for callers that the borrow checker covers: an array goes in, and comes back beside the answer.
+pub struct Outcome {
+    pub answer: Answer,
+    pub slots: [Slot; 2],
+}
+
+fn together(answer: Answer, slots: [Slot; 2]) -> Outcome
+    ensures { λ r. ⌜ r ≡ record { answer = answer; slots = slots } ⌝ }
+{
+    Outcome {
+        answer: answer,
+        slots: slots,
+    }
+}
+
+pub fn pack_two(layout: &[u8], slots: [Slot; 2], area: &[u8], output: &mut [u8]) -> Answer
+    ensures { λ r. ⌜ record { answer = r; output = now (output .exit) } ≡ pack (now (layout .entry)) (numbersOf slots) (now (area .entry)) (now (output .entry)) ⌝ }
+{
+    let table = slots;
+    pack_slots(layout, &table, area, output)
+}
+
+pub fn read_two(
+    layout: &[u8],
+    bytes: &[u8],
+    slots: [Slot; 2],
+    area: &mut [u8],
+    mark: usize,
+) -> Outcome
+    ensures { λ r. ⌜ record { answer = r .answer; slots = r .slots; area = now (area .exit) } ≡ readSlots (now (layout .entry)) (now (bytes .entry)) slots (now (area .entry)) mark ⌝ }
+{
+    let mut table = slots;
+    let answer = read_slots(layout, bytes, &mut table, area, mark);
+    together(answer, table)
+}

@@ -3,9 +3,8 @@ use Prim.Native.Nat.{ℕ, _+_, _<_, _≤_}
 use native.Mathlib.Omega.{arith}
 use mathlib.Core.List.{List}
 use lib.ListN.{length, set}
-use borrow.Author.Needs.{below-set}
+use borrow.Author.Needs.{below-set, needs}
 use Rattle.slots.proofs.Runs.{length-put}
-use borrow.Author.Needs.{needs}
 use Rattle.slots.proofs.put_slot.Statement.{statement}
 use Rattle.slots.proofs.put_slot.Tie as tie
 
