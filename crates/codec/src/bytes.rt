@@ -4,8 +4,8 @@ ghost use Prim.Native.Nat.{_+_, _≤_};
 ghost use lib.ListN.{length, replicate};
 ghost use Rattle.record.specs.Bytes.{part, storeAt};
 
-// Copies n bytes.
-pub fn copy(out: &mut [u8], at: usize, from: &[u8], start: usize, n: usize)
+// Copies n bytes, one after the other.
+fn copy_each(out: &mut [u8], at: usize, from: &[u8], start: usize, n: usize)
     requires { ⌜ (at + n ≤ length (now out)) × (start + n ≤ length (now from)) ⌝ }
     ensures { λ _. ⌜ now (out .exit) ≡ storeAt (now (out .entry)) at (part (now (from .entry)) start n) ⌝ }
 {
@@ -14,6 +14,20 @@ pub fn copy(out: &mut [u8], at: usize, from: &[u8], start: usize, n: usize)
         out[at + j] = from[start + j];
         j += 1;
     }
+}
+
+// Copies n bytes. A block's worth goes by way of a local block, which can lie over neither run: of that the compiler makes one call of C's
+// memmove, and leaves the block out.
+pub fn copy(out: &mut [u8], at: usize, from: &[u8], start: usize, n: usize)
+    requires { ⌜ (at + n ≤ length (now out)) × (start + n ≤ length (now from)) ⌝ }
+    ensures { λ _. ⌜ now (out .exit) ≡ storeAt (now (out .entry)) at (part (now (from .entry)) start n) ⌝ }
+{
+    if 4096 < n {
+        return copy_each(out, at, from, start, n);
+    }
+    let mut block: [u8; 4096] = [0; 4096];
+    copy_each(&mut block, 0, from, start, n);
+    copy_each(out, at, &block, 0, n)
 }
 
 // Stores a byte n times.
