@@ -33,8 +33,8 @@ fn copy_ordered(out: &mut [u8], at: usize, from: &[u8], start: usize, n: usize, 
     }
 }
 
-// Stores the w low-order bytes of each of n integers of the area.
-pub fn store(out: &mut [u8], at: usize, area: &[u8], start: usize, n: usize, w: usize, big: bool)
+// Stores the w low-order bytes of each of n integers of the area, one after the other.
+fn store_each(out: &mut [u8], at: usize, area: &[u8], start: usize, n: usize, w: usize, big: bool)
     requires { ⌜ (w ≤ 8) × (at + n * w ≤ length (now out)) × (start + n * 8 ≤ length (now area)) ⌝ }
     ensures { λ _. ⌜ now (out .exit) ≡ storeAt (now (out .entry)) at (stored (Integers w big) n (integersIn n (drop start (now (area .entry))))) ⌝ }
 {
@@ -43,6 +43,17 @@ pub fn store(out: &mut [u8], at: usize, area: &[u8], start: usize, n: usize, w: 
         copy_ordered(out, at + i * w, area, start + i * 8 + (8 - w), w, !big);
         i += 1;
     }
+}
+
+// Stores the w low-order bytes of each of n integers of the area. One alone, the usual field, is spared the loop.
+pub fn store(out: &mut [u8], at: usize, area: &[u8], start: usize, n: usize, w: usize, big: bool)
+    requires { ⌜ (w ≤ 8) × (at + n * w ≤ length (now out)) × (start + n * 8 ≤ length (now area)) ⌝ }
+    ensures { λ _. ⌜ now (out .exit) ≡ storeAt (now (out .entry)) at (stored (Integers w big) n (integersIn n (drop start (now (area .entry))))) ⌝ }
+{
+    if n == 1 {
+        return copy_ordered(out, at, area, start + (8 - w), w, !big);
+    }
+    store_each(out, at, area, start, n, w, big)
 }
 
 // The byte that widens an integer whose highest byte is `top`.
