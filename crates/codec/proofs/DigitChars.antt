@@ -1,20 +1,21 @@
 -- Laws of reading digits: the characters of a byte, those of the bytes of a field, and what a loop keeps that stores them.
 use Prim.Native.Nat.{ℕ, zero, suc, _+_, _-_, _*_, _/_, _%_, _^_, _≤_, _<_, min}
-use native.Mathlib.Nat.{not-suc-le-zero, le-of-suc-le-suc, pow-zero, pow-suc, pow-succ', mul-suc, zero-mul, suc-mul, div-one, div-div-eq-div-mul}
+use native.Mathlib.Nat.{zero-add, suc-add, mul-zero, mod-lt, not-suc-le-zero, le-of-suc-le-suc, pow-zero, pow-suc, pow-succ', mul-suc, zero-mul, suc-mul, div-one, div-div-eq-div-mul}
 use native.Mathlib.Omega.{arith}
 use lib.Pow.{pow-add}
 use mathlib.Core.Path.{_≡_, refl, sym, ap, _∙_}
 use mathlib.Core.Bool.{Bool, true, false}
-use mathlib.Core.List.{List, [], _∷_, _++_, map, map-append}
+use mathlib.Core.List.{List, [], _∷_, _++_, map, map-append, reverse, reverse-cons, reverse-append}
 use lib.ListN.{length, take, drop, getD, length-take, length-drop, length-map}
 use lib.Seq.{getD-drop, getD-take, take-add, take-all, take-append-le, drop-append-add, length-take-le, ext-getD}
 use Rattle.layout.specs.declared.Shape.the-variants.{Digits}
-use Rattle.record.specs.Bytes.{part, storeAt, ceilDiv, join, digits, ordered}
+use Rattle.record.specs.Bytes.{part, storeAt, ceilDiv, join, digits, number, ordered}
 use Rattle.record.specs.Geometry.{base, perByte}
 use Rattle.record.specs.Reading.{digitChar, loaded}
-use Rattle.record.proofs.Bytes.{length-digits, length-ordered, length-join}
+use Rattle.record.proofs.Bytes.{All, digits-number, number-digits, length-digits, length-ordered, length-join}
 use Rattle.record.proofs.Stores.{length-part, length-storeAt, store-none, store-store}
-use Rattle.codec.specs.Numerals.{placeOf, charsOf}
+use Rattle.codec.specs.Numerals.{placeOf, charsOf, fourChars}
+use Rattle.codec.proofs.ByteLaws.{store-both}
 use Rattle.codec.proofs.DigitLaws.{ordered-at, map-at}
 
 -- ---- the digits of a byte
@@ -25,15 +26,61 @@ digit-nth b zero x q h = absurd (not-suc-le-zero h)
 digit-nth b (suc n) x zero h = rw (pow-zero b, div-one x)
 digit-nth b (suc n) x (suc q) h = digit-nth b n (x / b) q (le-of-suc-le-suc h) ∙ rw (div-div-eq-div-mul x b (b ^ q), pow-succ' b q)
 
-pow-16 : (q : ℕ) → 2 ^ (4 * q) ≡ 16 ^ q
-pow-16 zero = refl
-pow-16 (suc q) = rw (mul-suc 4 q, pow-add 2 (4 * q) 4, pow-16 q, pow-suc 16 q)
+pow-bits : (k q : ℕ) → 2 ^ (k * q) ≡ (2 ^ k) ^ q
+pow-bits k zero = rw (mul-zero k, pow-zero (2 ^ k))
+pow-bits k (suc q) = rw (mul-suc k q, pow-add 2 (k * q) k, pow-bits k q, pow-suc (2 ^ k) q)
 
 pub hex-shifted : (x q : ℕ) → q < 2 → x / 2 ^ (4 * q) % 16 ≡ getD (digits 16 2 x) q 0
-hex-shifted x q h = rw (pow-16 q) (sym (digit-nth 16 2 x q h))
+hex-shifted x q h = rw (pow-bits 4 q) (sym (digit-nth 16 2 x q h))
 
 pub binary-shifted : (x q : ℕ) → q < 8 → x / 2 ^ q % 2 ≡ getD (digits 2 8 x) q 0
 binary-shifted x q h = sym (digit-nth 2 8 x q h)
+
+-- the byte that a turn stores of the four lowest of a number
+pub byte-turn : (v j p : ℕ) (high : Bool) → j < 4 → p ≡ placeOf high 4 j → p < 4 → v / 2 ^ (8 * p) % 256 ≡ getD (ordered high (digits 256 4 v)) j 0
+byte-turn v j p high h e l =
+    rw (pow-bits 8 p) (sym (ordered-at high 4 (digits 256 4 v) j (length-digits 256 4 v) h ∙ rw (← e) (digit-nth 256 4 v p l)))
+
+digits-add : (b j k n : ℕ) → digits b (j + k) n ≡ digits b j n ++ digits b k (n / b ^ j)
+unfolding digits
+digits-add b zero k n = rw (zero-add, pow-zero b, div-one n)
+digits-add b (suc j) k n = rw (suc-add, digits-add b j k (n / b), div-div-eq-div-mul n b (b ^ j), pow-succ' b j)
+
+digits-below : (b k n : ℕ) → 0 < b → All (λ d. d < b) (digits b k n)
+unfolding digits
+digits-below b zero n h = tt
+digits-below b (suc k) n h = (mod-lt n h, digits-below b k (n / b) h)
+
+digits-low : (b k n : ℕ) → 0 < b → digits b k (n % b ^ k) ≡ digits b k n
+digits-low b k n h =
+    let back : digits b (length (digits b k n)) (number b (digits b k n)) ≡ digits b k n = digits-number b (digits b k n) (digits-below b k n h) in
+    rw (length-digits, number-digits b k n h) at back
+
+-- a byte's binary digits are those of its lower half, and then those of its upper one
+halves : (b : ℕ) → digits 2 8 b ≡ digits 2 4 (b % 16) ++ digits 2 4 (b / 16)
+halves b = digits-add 2 4 4 b ∙ ap (λ (ds : List ℕ). ds ++ digits 2 4 (b / 16)) (sym (digits-low 2 4 b (omega arith)))
+
+map-turned : (xs : List ℕ) → map digitChar (reverse xs) ≡ reverse (map digitChar xs)
+map-turned [] = refl
+map-turned (x ∷ xs) = rw (reverse-cons x xs, map-append, map-turned xs) (sym (reverse-cons (digitChar x) (map digitChar xs)))
+
+pub low-first : (b : ℕ) → fourChars (b % 16) ++ fourChars (b / 16) ≡ charsOf false false b
+unfolding charsOf fourChars
+low-first b = sym (ap (map digitChar) (halves b) ∙ rw map-append)
+
+pub high-first : (b : ℕ) → reverse (fourChars (b / 16)) ++ reverse (fourChars (b % 16)) ≡ charsOf false true b
+unfolding charsOf fourChars
+high-first b =
+    let turned : map digitChar (reverse (digits 2 8 b)) ≡ reverse (map digitChar (digits 2 4 (b % 16)) ++ map digitChar (digits 2 4 (b / 16))) =
+    map-turned (digits 2 8 b) ∙ ap reverse (sym (low-first b)) in
+    sym (turned ∙ reverse-append (map digitChar (digits 2 4 (b % 16))) (map digitChar (digits 2 4 (b / 16))))
+
+-- two numbers' four bytes each, stored one after the other
+pub two-fours : (d : List ℕ) (to x y : ℕ) (high : Bool) (chars : List ℕ) {d₁ d₂ : List ℕ} → ordered high (digits 256 4 x) ++ ordered high (digits 256 4 y) ≡ chars → to + 8 ≤ length d
+    → d₁ ≡ storeAt d to (ordered high (digits 256 4 x)) → d₂ ≡ storeAt d₁ (to + 4) (ordered high (digits 256 4 y)) → d₂ ≡ storeAt d to chars
+two-fours d to x y high chars e h one two =
+    let long : (v : ℕ) → length (ordered high (digits 256 4 v)) ≡ 4 = λ v. length-ordered high (digits 256 4 v) ∙ length-digits 256 4 v in
+    store-both d to 4 (ordered high (digits 256 4 x)) (ordered high (digits 256 4 y)) (long x) (omega (arith, long y)) one two ∙ ap (storeAt d to) e
 
 pub length-chars : (hex high : Bool) (b : ℕ) → length (charsOf hex high b) ≡ perByte hex
 unfolding charsOf

@@ -1,15 +1,15 @@
 // Binary and hex digits, `b B h H`: checked, stored and read.
 ghost use mathlib.Core.Path.{_≡_};
-ghost use mathlib.Core.Bool.{Bool, true, _&&_};
+ghost use mathlib.Core.Bool.{Bool, true, false, _&&_};
 ghost use Prim.Native.Nat.{_+_, _≤_, _<_, min};
 ghost use lib.Dec.{leb, ltb};
 ghost use lib.ListN.{length, take, drop, getD};
 ghost use Rattle.layout.specs.declared.Shape.the-variants.{Digits};
-ghost use Rattle.record.specs.Bytes.{part, storeAt, ceilDiv, digits};
+ghost use Rattle.record.specs.Bytes.{part, storeAt, ceilDiv, digits, ordered};
 ghost use Rattle.record.specs.Geometry.{base, perByte};
 ghost use Rattle.record.specs.Packing.{digitValue, allDigits, stored};
 ghost use Rattle.record.specs.Reading.{digitChar, loaded};
-ghost use Rattle.codec.specs.Numerals.{placeOf, DigitsAt, valuesAt, byteOf, charsOf};
+ghost use Rattle.codec.specs.Numerals.{placeOf, DigitsAt, valuesAt, byteOf, charsOf, fourChars};
 
 fn both(a: bool, b: bool) -> bool
     ensures { λ r. ⌜ r ≡ (a && b) ⌝ }
@@ -199,6 +199,59 @@ fn write(area: &mut [u8], to: usize, b: u8, count: usize, hex: bool, high: bool)
     }
 }
 
+// The characters of four binary digits, the lowest first, as the bytes of a number. From a table the compiler loads and stores them at once.
+fn four(n: u8) -> usize
+    requires { ⌜ n < 16 ⌝ }
+    ensures { λ r. ⌜ digits 256 4 r ≡ fourChars n ⌝ }
+{
+    match n {
+        0 => 0x30303030,
+        1 => 0x30303031,
+        2 => 0x30303130,
+        3 => 0x30303131,
+        4 => 0x30313030,
+        5 => 0x30313031,
+        6 => 0x30313130,
+        7 => 0x30313131,
+        8 => 0x31303030,
+        9 => 0x31303031,
+        10 => 0x31303130,
+        11 => 0x31303131,
+        12 => 0x31313030,
+        13 => 0x31313031,
+        14 => 0x31313130,
+        _ => 0x31313131,
+    }
+}
+
+// Writes the four lowest bytes of a number.
+fn put_four(area: &mut [u8], to: usize, v: usize, high: bool)
+    requires { ⌜ to + 4 ≤ length (now area) ⌝ }
+    ensures { λ _. ⌜ now (area .exit) ≡ storeAt (now (area .entry)) to (ordered high (digits 256 4 v)) ⌝ }
+{
+    let mut j = 0;
+    while j < 4 {
+        let p = place(high, 4, j);
+        area[to + j] = ((v >> (8 * p)) % 256) as u8;
+        j += 1;
+    }
+}
+
+// Writes all eight binary digits of a byte.
+fn write_eight(area: &mut [u8], to: usize, b: u8, high: bool)
+    requires { ⌜ to + 8 ≤ length (now area) ⌝ }
+    ensures { λ _. ⌜ now (area .exit) ≡ storeAt (now (area .entry)) to (charsOf false high b) ⌝ }
+{
+    let low = four(b % 16);
+    let top = four(b / 16);
+    if high {
+        put_four(area, to, top, true);
+        return put_four(area, to + 4, low, true);
+    }
+    put_four(area, to, low, false);
+    put_four(area, to + 4, top, false)
+}
+
 // Writes a byte's digits, or as many as are left, and tells how many. All of a byte's digits are a constant number.
 fn write_next(area: &mut [u8], to: usize, b: u8, left: usize, hex: bool, high: bool) -> usize
     requires { ⌜ to + min (perByte hex) left ≤ length (now area) ⌝ }
@@ -206,12 +259,16 @@ fn write_next(area: &mut [u8], to: usize, b: u8, left: usize, hex: bool, high: b
     ensures { λ r. ⌜ now (area .exit) ≡ storeAt (now (area .entry)) to (take r (charsOf hex high b)) ⌝ }
 {
     let per = record::per_byte(hex);
-    if per <= left {
+    if left < per {
+        write(area, to, b, left, hex, high);
+        return left;
+    }
+    if hex {
         write(area, to, b, per, hex, high);
         return per;
     }
-    write(area, to, b, left, hex, high);
-    left
+    write_eight(area, to, b, high);
+    per
 }
 
 // Reads n digits, a byte a turn.
