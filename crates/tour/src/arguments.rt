@@ -32,17 +32,17 @@ fn low_byte(n: u64) -> u8 {
     (n % 256) as u8
 }
 
-fn push_half(area: &mut [u8], at: usize, n: u64) -> usize {
-    let a = push(area, at, low_byte(n >> 24));
-    let b = push(area, a, low_byte(n >> 16));
-    let c = push(area, b, low_byte(n >> 8));
-    push(area, c, low_byte(n))
-}
-
 // An integer as eight big-endian bytes.
 fn push_integer(area: &mut [u8], at: usize, n: u64) -> usize {
-    let half = push_half(area, at, n >> 32);
-    push_half(area, half, n)
+    let mut place = at;
+    let mut rest = n;
+    let mut i = 0usize;
+    while i < 8 {
+        place = push(area, place, low_byte(rest >> 56));
+        rest = rest << 8;
+        i += 1;
+    }
+    place
 }
 
 fn push_number(slots: &mut [u32], at: usize, n: u32) -> usize {

@@ -37,14 +37,19 @@ fn values_at(line: &mut [u8], at: usize, slots: &[u32], area: &[u8]) -> usize {
     value_at(line, d, 76, slots, 12, area)
 }
 
+// Which record, as it is cut, and the layout that reads it.
+fn start(line: &mut [u8], name: &[u8], cut: usize, by: &[u8]) -> usize {
+    let packed = print::text(line, 0, name);
+    let length = number_at(line, packed, 8, cut as u64);
+    name_at(line, length, 13, by)
+}
+
 // One reading, into slots that are not set.
 fn row(name: &[u8], record: &[u8], by: &[u8], layout: &[u8], slots: &mut [u32]) {
     let mut area = [0u8; 64];
     let a = reader::read(layout, record, slots, &mut area, 0);
     let mut line = [0u8; 128];
-    let packed = print::text(&mut line, 0, name);
-    let cut = number_at(&mut line, packed, 8, record.len() as u64);
-    let read = name_at(&mut line, cut, 13, by);
+    let read = start(&mut line, name, record.len(), by);
     let answer = answer_at(&mut line, read, a.number, a.first, a.second);
     let end = values_at(&mut line, answer, slots, &area);
     print::finish(&mut line, end);

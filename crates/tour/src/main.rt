@@ -1,6 +1,7 @@
 // The run-through program: the examples of the manual pages and the edges of document 01, a line for each call.
 mod arguments;
 mod evolution;
+mod examples;
 mod packing;
 mod print;
 mod reading;
@@ -8,48 +9,56 @@ mod values;
 
 fn pack_examples(record: &mut [u8; 4096]) {
     print::heading(b"Packing: layout, arguments -> number, first, second: bytes of the result");
-    packing::text(record);
-    packing::digits(record);
-    packing::small_integers(record);
-    packing::large_integers(record);
-    packing::moves(record);
+    examples::packed_strings(record);
+    examples::packed_integers(record);
+    examples::packed_moves(record);
+}
+
+fn pack_limits(record: &mut [u8; 4096]) {
+    packing::places(record);
+    packing::sizes(record);
+    packing::outputs();
+    packing::unsigned(record);
 }
 
 fn pack_edges(record: &mut [u8; 4096]) {
     print::heading(b"\nPacking: rulings of 01");
-    packing::spellings(record);
-    packing::amounts(record);
-    packing::steps(record);
+    examples::packed_rulings(record);
     print::heading(b"\nPacking: refusals and limits");
-    packing::bad_layouts(record);
-    packing::bad_slots(record);
-    packing::bad_items(record);
-    packing::places(record);
-    packing::sizes(record);
-    packing::outputs(record);
+    examples::packed_refusals(record);
+    pack_limits(record);
 }
 
-fn read_all() {
+fn read_examples(record: &mut [u8; 4096]) {
     print::heading(b"\nReading: layout, record -> number, first, second: values");
-    reading::strings();
-    reading::integers();
+    examples::read_strings(record);
+    examples::read_integers(record);
     print::heading(b"\nReading: the runs of 004");
-    reading::wiki();
+    examples::read_wiki(record);
+}
+
+fn read_limits() {
+    reading::sizes();
+    reading::areas();
+    reading::marks();
+}
+
+fn read_edges(record: &mut [u8; 4096]) {
     print::heading(b"\nReading: rulings of 01");
-    reading::rulings();
+    examples::read_rulings(record);
     print::heading(b"\nReading: a table that holds an earlier reading");
     reading::kept();
     print::heading(b"\nReading: refusals and limits");
-    reading::refusals();
-    reading::sizes();
-    reading::marks();
+    examples::read_refusals(record);
+    read_limits();
 }
 
 fn main() {
     let mut record: [u8; 4096] = [0; 4096];
     pack_examples(&mut record);
     pack_edges(&mut record);
-    read_all();
+    read_examples(&mut record);
+    read_edges(&mut record);
     print::heading(b"\nEvolution: both records, every cut, both layouts");
     evolution::table(&mut record);
 }

@@ -31,82 +31,12 @@ fn show(
 }
 
 // One slot and two slots that are not set.
-fn one(layout: &[u8], record: &[u8]) {
+pub fn one(layout: &[u8], record: &[u8]) {
     show(layout, record, b"", &mut [0u32; 3], &mut [0u8; 512], 0);
 }
 
-fn two(layout: &[u8], record: &[u8]) {
+pub fn two(layout: &[u8], record: &[u8]) {
     show(layout, record, b"", &mut [0u32; 6], &mut [0u8; 512], 0);
-}
-
-// The examples of 001 to 003, in the order of 001.
-pub fn strings() {
-    two(b"s3s", b"abcdefg");
-    one(b"s1", b"\x00\x80");
-    one(b"su1", b"\x00\x80");
-    two(b"a6a10", b"abcde\x00fghi");
-    one(b"a*", b"\xe2\x82\xac");
-    one(b"A*", b"abc efghi  \x00");
-    two(b"b5b*", b"\x07\x87\x05");
-    two(b"B5B*", b"\x70\x87\x05");
-    two(b"H3H*", b"\x07\xc6\x05\x1f\x34");
-    two(b"H3H*", b"\x07\x86\x05");
-    two(b"h3h*", b"\x07\x86\x05\x12\x34");
-    two(b"h3h*", b"\x07\x86\x05");
-}
-
-pub fn integers() {
-    two(b"c2c*", b"\x07\x86\x05");
-    two(b"s2s*", b"\x05\x00\x07\x00\xf0\xff");
-    two(b"S2S*", b"\x00\x05\x00\x07\xff\xf0");
-    two(b"i2i*", b"\x05\x00\x00\x00\x07\x00\x00\x00\xf0\xff\xff\xff");
-    two(b"I2I*", b"\x00\x00\x00\x05\x00\x00\x00\x07\xff\xff\xff\xf0");
-    two(b"wi*", b"\x05\x00\x00\x00\x07\x00\x00\x00\xf0\xff\xff\xff");
-    two(b"WI*", b"\x00\x00\x00\x05\x00\x00\x00\x07\xff\xff\xff\xf0");
-    one(b"I", b"\x00\x00\x00\x03");
-    one(b"I", b"");
-    one(b"f", b"\x3f\xcc\xcc\xcd");
-    one(b"x2H*", b"\x01\x02\x03\x04");
-    two(b"c2XH*", b"\x01\x02\x03\x04");
-    two(b"c2@1H*", b"\x01\x02\x03\x04");
-}
-
-// The runs of 004. Its text says 21 bytes of the second; its own run shows 16 digits.
-pub fn wiki() {
-    one(b"b*", b"\x07\x87\x05");
-    two(b"b5b*", b"\xff\xff\xff");
-    two(b"b8b*", b"\xff\xff\xff");
-    two(b"b9b*", b"\xff\xff\xff");
-    one(b"I", b"\x00\x00\x12\x34");
-    one(b"i", b"\x34\x12\x00\x00");
-    one(b"B*", b"Hello!");
-    two(b"B*X*H*", b"Tcl");
-    one(b"@0@", b"Hello!");
-}
-
-// The examples of 01, and what it rules beyond them.
-pub fn rulings() {
-    one(b"su", b"\x00\x80");
-    one(b"s", b"\x00\x80");
-    one(b"s*", b"A");
-    one(b"c", b"");
-    one(b"a0", b"");
-    two(b"s*a", b"\x01\x02A");
-    one(b"s", b"A");
-    two(b"a2c", b"ab");
-    one(b"x9a0", b"ab");
-    one(b"x*a", b"ab");
-    two(b"a2X9a", b"ab");
-    one(b"@9a0", b"ab");
-    one(b"@*Xa", b"ab");
-    one(b"cu", b"\x80");
-    one(b"w", b"\xff\xff\xff\xff\xff\xff\xff\xff");
-    one(b"wu", b"\xff\xff\xff\xff\xff\xff\xff\xff");
-    one(b"W", b"\x80\x00\x00\x00\x00\x00\x00\x00");
-    two(b"A4a", b"a \x00 b");
-    one(b"A3", b" \x00 ");
-    one(b"H", b"\xaf");
-    two(b"c", b"\x07");
 }
 
 // A second reading into the same table: what it does not set and lies below the mark still shows.
@@ -131,29 +61,33 @@ pub fn kept() {
     );
 }
 
-pub fn refusals() {
-    one(b"c 3", b"\x01");
-    two(b"cd", b"\x01");
-    one(b"a4097", b"ab");
-    one(b"a@", b"ab");
-    one(b"cc", b"");
-}
-
 // Reads into a table that is lent, with room for every value.
 fn sized(layout: &[u8], record: &[u8], told: &[u8], slots: &mut [u32]) {
     show(layout, record, told, slots, &mut [0u8; 32768], 0);
 }
 
-// Number 1: layouts, slots and records at their limits and one above.
-pub fn sizes() {
+fn layouts() {
     sized(&[b'x'; 256], b"ab", b"layout of 256 bytes", &mut [0; 3]);
     sized(&[b'x'; 257], b"ab", b"layout of 257 bytes", &mut [0; 3]);
+}
+
+fn tables() {
     sized(&[b'c'; 64], &[7; 64], b"64 slots", &mut [0; 192]);
     sized(&[b'c'; 65], &[7; 65], b"65 slots", &mut [0; 195]);
-    sized(b"c", b"\x07", b"four numbers", &mut [0; 4]);
+}
+
+fn records() {
     sized(b"c4096", &[9; 4096], b"record of 4096 bytes", &mut [0; 3]);
     sized(b"b*", &[9; 4096], b"record of 4096 bytes", &mut [0; 3]);
     sized(b"@4095c", &[9; 4097], b"record of 4097 bytes", &mut [0; 3]);
+}
+
+// Number 1: layouts, slots and records at their limits and one above.
+pub fn sizes() {
+    layouts();
+    tables();
+    sized(b"c", b"\x07", b"four numbers", &mut [0; 4]);
+    records();
 }
 
 // Reads into an area that is lent, from a mark on.
@@ -161,24 +95,26 @@ fn marked(layout: &[u8], record: &[u8], told: &[u8], area: &mut [u8], mark: usiz
     show(layout, record, told, &mut [0u32; 3], area, mark);
 }
 
-// Areas at their limit and one above, and marks: numbers 1 and 11.
+// Reads the last byte of an area.
+fn last(told: &[u8], area: &mut [u8]) {
+    marked(b"a", b"q", told, area, 65535);
+}
+
+// Reads into an area of 8 bytes.
+fn eight(layout: &[u8], told: &[u8], mark: usize) {
+    marked(layout, b"\x07", told, &mut [0; 8], mark);
+}
+
+// Areas at their limit and one above: number 1.
+pub fn areas() {
+    last(b"mark 65535, area of 65536 bytes", &mut [0; 65536]);
+    last(b"mark 65535, area of 65537 bytes", &mut [0; 65537]);
+}
+
+// Marks: numbers 11 and 1.
 pub fn marks() {
-    marked(
-        b"a",
-        b"q",
-        b"mark 65535, area of 65536 bytes",
-        &mut [0; 65536],
-        65535,
-    );
-    marked(
-        b"a",
-        b"q",
-        b"mark 65535, area of 65537 bytes",
-        &mut [0; 65537],
-        65535,
-    );
-    marked(b"c", b"\x07", b"mark 0, area of 8 bytes", &mut [0; 8], 0);
-    marked(b"c", b"\x07", b"mark 1, area of 8 bytes", &mut [0; 8], 1);
-    marked(b"a0", b"\x07", b"mark 8, area of 8 bytes", &mut [0; 8], 8);
-    marked(b"a0", b"\x07", b"mark 9, area of 8 bytes", &mut [0; 8], 9);
+    eight(b"c", b"mark 0, area of 8 bytes", 0);
+    eight(b"c", b"mark 1, area of 8 bytes", 1);
+    eight(b"a0", b"mark 8, area of 8 bytes", 8);
+    eight(b"a0", b"mark 9, area of 8 bytes", 9);
 }

@@ -13,21 +13,20 @@ fn part(run: &[u8], start: usize, n: usize) -> &[u8] {
     &run[start..end]
 }
 
-fn half(a: u8, b: u8, c: u8, d: u8) -> u64 {
-    a as u64 * 16777216 + b as u64 * 65536 + c as u64 * 256 + d as u64
+fn appended(n: u64, b: u8) -> u64 {
+    n << 8 | b as u64
 }
 
 // The integer of the eight big-endian bytes at a place.
 fn item(run: &[u8], at: usize) -> u64 {
-    if run.len() < 8 {
-        return 0;
+    let bytes = part(run, at, 8);
+    let mut n = 0u64;
+    let mut i = 0;
+    while i < bytes.len() {
+        n = appended(n, bytes[i]);
+        i += 1;
     }
-    if run.len() - 8 < at {
-        return 0;
-    }
-    let high = half(run[at], run[at + 1], run[at + 2], run[at + 3]);
-    let low = half(run[at + 4], run[at + 5], run[at + 6], run[at + 7]);
-    high % 4294967296 * 4294967296 + low % 4294967296
+    n
 }
 
 fn integer(line: &mut [u8], at: usize, n: u64, signed: bool) -> usize {
