@@ -5,7 +5,6 @@
 
 PREFIX ?= /usr/local
 VERSION := 1.0
-CC ?= gcc
 ARCHIVE := target/staticlib/libcurlew.a
 COMPARE := target/compare
 CRATES := $(shell find crates crates.txt -type f)
@@ -15,11 +14,13 @@ TWIN := $(wildcard tests/second/*.rs) tests/second/build.sh
 
 $(ARCHIVE): $(CRATES)
 	@command -v rt >/dev/null || { echo "rt not found: install the Rattle kit, or put its bin folder on PATH"; exit 2; }
-	rt staticlib curlew
+	@echo "proving and building $(ARCHIVE) (about two minutes from nothing)"
+	@mkdir -p target
+	@rt staticlib curlew > target/staticlib.out 2>&1 || { tail -n 40 target/staticlib.out; echo "not proved: target/staticlib.out has all of it"; exit 1; }
 
 target/demo/exam_server: examples/exam_server.c include/curlew.h $(ARCHIVE)
-	@command -v $(CC) >/dev/null || { echo "$(CC) not found: install gcc (Debian's package gcc)"; exit 2; }
-	mkdir -p target/demo
+	@command -v $(CC) >/dev/null || { echo "$(CC) not found: install gcc (Debian's package gcc), or say CC=.."; exit 2; }
+	@mkdir -p target/demo
 	$(CC) -std=c99 -O2 -Wall -Wextra -pedantic -Iinclude -o $@ examples/exam_server.c $(ARCHIVE)
 
 demo: target/demo/exam_server
