@@ -1,9 +1,9 @@
 -- What each way out of a call leaves is what the definition gives.
 use Prim.Native.Nat.{ℕ, _*_, _/_, _%_, _≤_, _<_}
 use native.Mathlib.Omega.{arith}
-use mathlib.Core.Path.{_≡_, refl, ap, _∙_}
+use mathlib.Core.Path.{_≡_, refl, sym, ap, _∙_}
 use mathlib.Core.Bool.{Bool, true, false, _&&_}
-use mathlib.Core.List.{List}
+use mathlib.Core.List.{List, []}
 use borrow.Author.Tests.{le-leb, lt-leb, leb-true, eq-eqb, ne-eqb, eqb-true}
 use lib.Dec.{eqb, leb}
 use lib.ListN.{length, take}
@@ -12,7 +12,8 @@ use Rattle.layout.specs.declared.Refusal.the-variants.{BadSize}
 use Rattle.layout.specs.Refusals.{if_then_else_, numberOf}
 use Rattle.layout.specs.Layout.{maxLayout}
 use Rattle.record.specs.declared.Answer.{Answer}
-use Rattle.record.proofs.Bytes.{and-true}
+use Rattle.record.specs.Bytes.{storeAt}
+use Rattle.record.proofs.Bytes.{All, and-true}
 use Rattle.record.specs.Table.{maxSlots, slotWidth}
 use Rattle.record.specs.Geometry.{sizesFit}
 use Rattle.record.specs.Packing.{refusal, packs, pack}
@@ -20,7 +21,8 @@ use Rattle.record.specs.Reading.{reads, read}
 use Rattle.record.proofs.Fields.{split}
 use Rattle.curlew.specs.Boundary.{numberSize, slotSize, replySize, numbersIn, bytesOf, replyOf, guarded, packCall, curlewPack, readCall, curlewRead}
 use Rattle.curlew.specs.Steps.{slotsFit}
-use Rattle.curlew.proofs.NumberLaws.{length-numbersIn}
+use Rattle.curlew.proofs.NumberLaws.{length-numbersIn, bytes-stored}
+use Rattle.record.proofs.Readings.{over, read-over}
 
 -- ---- the sizes of the runs
 
@@ -41,6 +43,10 @@ fit size h =
 -- the numbers of such a run fill the part of a longer one that is lent for them
 pub room-for : {size : ℕ} (room : List ℕ) → Fit size → size / numberSize ≤ length room → size ≡ length (take (size / numberSize) room) * numberSize
 room-for {size} room f h = rw (length-take-le (size / numberSize) room h) (omega (arith, f .whole))
+
+-- and they are those of whole slots
+pub room-whole : {size : ℕ} (room : List ℕ) → Fit size → size / numberSize ≤ length room → length (take (size / numberSize) room) % slotWidth ≡ 0
+room-whole {size} room f h = rw (length-take-le (size / numberSize) room h) (omega (arith, f .whole))
 
 -- whole slots that are not served are too many
 too-many : (size : ℕ) → slotsFit size ≡ false → eqb (size % slotSize) 0 ≡ true → slotWidth * maxSlots < size / numberSize
@@ -64,23 +70,23 @@ module _ (layout ns bs area : List ℕ) (many : slotWidth * maxSlots < length ns
   unfolding read reads
   read-many mark = rw sizes-many
 
--- ---- what both calls share
+-- ---- what the calls share
 
 otherwise : {A : Type 0} (b : Bool) {refused served : A} → (b ≡ true → refused ≡ served) → refused ≡ (if b then served else refused)
 otherwise true e = e refl
 otherwise false e = refl
 
-module _ {A : Type 0} (reply slots : List ℕ) (unwritten refused served : A) where
-  guarded-unwritten : eqb (length reply) replySize ≡ false → unwritten ≡ guarded reply slots unwritten refused served
+module _ {A : Type 0} (size : ℕ) (reply slots : List ℕ) (unwritten refused served : A) where
+  guarded-unwritten : eqb (length reply) size ≡ false → unwritten ≡ guarded size reply slots unwritten refused served
   guarded-unwritten h = rw h
 
-  module _ (sized : eqb (length reply) replySize ≡ true) where
-    guarded-refused : slotsFit (length slots) ≡ false → (slotWidth * maxSlots < length (numbersIn slots) → refused ≡ served) → refused ≡ guarded reply slots unwritten refused served
+  module _ (sized : eqb (length reply) size ≡ true) where
+    guarded-refused : slotsFit (length slots) ≡ false → (slotWidth * maxSlots < length (numbersIn slots) → refused ≡ served) → refused ≡ guarded size reply slots unwritten refused served
     guarded-refused bad many =
         rw sized
         (otherwise (eqb (length slots % slotSize) 0) (λ whole. many (rw length-numbersIn (too-many (length slots) bad whole))))
 
-    guarded-served : Fit (length slots) → served ≡ guarded reply slots unwritten refused served
+    guarded-served : Fit (length slots) → served ≡ guarded size reply slots unwritten refused served
     guarded-served f = rw (sized, eq-eqb (length slots % slotSize) 0 (f .whole))
 
 -- ---- packing
@@ -95,7 +101,7 @@ module _ (layout slots area out : List ℕ) where
   module _ (reply : List ℕ) where
     pub pack-unwritten : eqb (length reply) replySize ≡ false → record { returned = numberOf BadSize; output = out; reply = reply } ≡ curlewPack layout slots area out reply
     unfolding curlewPack
-    pack-unwritten h = guarded-unwritten reply slots _ _ _ h
+    pack-unwritten h = guarded-unwritten replySize reply slots _ _ _ h
 
     module _ (sized : eqb (length reply) replySize ≡ true) where
       pub pack-refused : {a : Answer} {r : ℕ} {reply′ : List ℕ} → slotsFit (length slots) ≡ false → a ≡ refusal BadSize 0 → (r ≡ a .number) × (reply′ ≡ replyOf a)
@@ -103,29 +109,40 @@ module _ (layout slots area out : List ℕ) where
       unfolding curlewPack packCall
       pack-refused {a} {r} {reply′} bad e q =
           let here : record { returned = r; output = out; reply = reply′ } ≡ packCall (record { answer = refusal BadSize 0; output = out }) = rw (q .0, q .1, e) in
-          here ∙ guarded-refused reply slots _ _ _ sized bad (λ many. ap packCall (pack-many layout (numbersIn slots) out area many))
+          here ∙ guarded-refused replySize reply slots _ _ _ sized bad (λ many. ap packCall (pack-many layout (numbersIn slots) out area many))
 
       pub pack-served : Fit (length slots) → packCall (pack layout (numbersIn slots) area out) ≡ curlewPack layout slots area out reply
       unfolding curlewPack
-      pack-served f = guarded-served reply slots _ _ _ sized f
+      pack-served f = guarded-served replySize reply slots _ _ _ sized f
 
 -- ---- reading
 
 module _ (layout bytes slots area : List ℕ) (mark : ℕ) where
-  module _ {ns ns′ area′ reply′ : List ℕ} {a : Answer} {r : ℕ} (e : ns ≡ numbersIn slots) (p : record { answer = a; slots = ns′; area = area′ } ≡ read layout bytes ns area mark) (q : (r ≡ a .number) × (reply′ ≡ replyOf a)) where
+  module _ (ns : List ℕ) {ns′ area′ reply′ : List ℕ} {a : Answer} {r : ℕ} (size : length slots ≡ length ns * numberSize) (p : record { answer = a; slots = ns′; area = area′ } ≡ read layout bytes ns area mark)
+      (q : (r ≡ a .number) × (reply′ ≡ replyOf a)) where
+    -- the numbers lent for the slots may be any
+    lent : read layout bytes (numbersIn slots) area mark ≡ over (numbersIn slots) (record { answer = a; slots = ns′; area = area′ })
+    lent =
+        let same : length ns ≡ length (numbersIn slots) = rw length-numbersIn (omega arith) in
+        read-over layout bytes area mark ns (numbersIn slots) same ∙ ap (over (numbersIn slots)) (sym p)
+
     -- the call on numbers, and the reply: a refusal leaves the slots
     pub read-left : (a .number ≡ 0 → ⊥) → record { returned = r; slots = slots; area = area′; reply = reply′ } ≡ readCall slots (read layout bytes (numbersIn slots) area mark)
     unfolding readCall
-    read-left h = rw (← e, ← p, ne-eqb (a .number) 0 h, q .0, q .1)
+    read-left h = rw (lent, ne-eqb (a .number) 0 h, q .0, q .1)
 
-    pub read-set : {slots′ : List ℕ} → a .number ≡ 0 → slots′ ≡ bytesOf ns′ → record { returned = r; slots = slots′; area = area′; reply = reply′ } ≡ readCall slots (read layout bytes (numbersIn slots) area mark)
+    -- and an accepted reading the bytes of those that it did not set
+    pub read-set : {slots′ : List ℕ} → a .number ≡ 0 → All (λ b. b < 256) slots → slots′ ≡ storeAt slots 0 (bytesOf (take (a .first * slotWidth) ns′))
+        → record { returned = r; slots = slots′; area = area′; reply = reply′ } ≡ readCall slots (read layout bytes (numbersIn slots) area mark)
     unfolding readCall
-    read-set h s = rw (← e, ← p, eq-eqb (a .number) 0 h, s, q .0, q .1)
+    read-set h below s =
+        let whole : length slots % numberSize ≡ 0 = omega arith in
+        rw (lent, eq-eqb (a .number) 0 h, bytes-stored slots (take (a .first * slotWidth) ns′) whole below, s, q .0, q .1)
 
   module _ (reply : List ℕ) where
     pub read-unwritten : eqb (length reply) replySize ≡ false → record { returned = numberOf BadSize; slots = slots; area = area; reply = reply } ≡ curlewRead layout bytes slots area mark reply
     unfolding curlewRead
-    read-unwritten h = guarded-unwritten reply slots _ _ _ h
+    read-unwritten h = guarded-unwritten replySize reply slots _ _ _ h
 
     module _ (sized : eqb (length reply) replySize ≡ true) where
       pub read-refused : {a : Answer} {r : ℕ} {reply′ : List ℕ} → slotsFit (length slots) ≡ false → a ≡ refusal BadSize 0 → (r ≡ a .number) × (reply′ ≡ replyOf a)
@@ -133,8 +150,8 @@ module _ (layout bytes slots area : List ℕ) (mark : ℕ) where
       unfolding curlewRead readCall
       read-refused {a} {r} {reply′} bad e q =
           let here : record { returned = r; slots = slots; area = area; reply = reply′ } ≡ readCall slots (record { answer = refusal BadSize 0; slots = numbersIn slots; area = area }) = rw (q .0, q .1, e) in
-          here ∙ guarded-refused reply slots _ _ _ sized bad (λ many. ap (readCall slots) (read-many layout (numbersIn slots) bytes area many mark))
+          here ∙ guarded-refused replySize reply slots _ _ _ sized bad (λ many. ap (readCall slots) (read-many layout (numbersIn slots) bytes area many mark))
 
       pub read-served : Fit (length slots) → readCall slots (read layout bytes (numbersIn slots) area mark) ≡ curlewRead layout bytes slots area mark reply
       unfolding curlewRead
-      read-served f = guarded-served reply slots _ _ _ sized f
+      read-served f = guarded-served replySize reply slots _ _ _ sized f

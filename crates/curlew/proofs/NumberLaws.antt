@@ -1,28 +1,19 @@
 -- Numbers as bytes: one number of any width, byte by byte, and many, one after the other.
 use Prim.Native.Nat.{ℕ, zero, suc, _+_, _-_, _*_, _/_, _%_, _^_, _≤_, _<_}
-use native.Mathlib.Nat.{add-zero, zero-add, zero-mul, suc-mul, add-comm, pow-zero, pow-succ', div-one, div-div-eq-div-mul, not-suc-le-zero, le-of-suc-le-suc}
+use native.Mathlib.Nat.{add-zero, zero-add, zero-mul, suc-mul, add-comm, pow-zero, pow-succ', div-one, div-div-eq-div-mul, not-suc-le-zero, le-of-suc-le-suc, mod-lt}
 use native.Mathlib.Omega.{arith}
-use mathlib.Core.Path.{_≡_, refl, sym, ap, _∙_}
-use mathlib.Core.List.{List, [], _∷_, _++_, map, reverse-append, append-nil}
-use lib.ListN.{length, drop, getD, set, length-drop, length-map, length-reverse, drop-of-length-le}
-use lib.Seq.{take-suc, getD-drop, drop-drop}
-use Rattle.record.specs.Bytes.{storeAt, pieces, join, digits, number}
-use Rattle.record.proofs.Bytes.{length-digits, length-pieces, length-join}
-use Rattle.record.proofs.Stores.{runs-first, getD-reverse, runs, Put, put-none, put-more, put-done, Wrote}
+use mathlib.Core.Path.{_≡_, refl, sym, ap, ap₂, _∙_}
+use mathlib.Core.Bool.{true}
+use mathlib.Core.List.{List, [], _∷_, _++_, map, reverse, reverse-append, reverse-reverse, append-assoc, append-nil}
+use lib.ListN.{length, take, drop, getD, set, length-drop, length-map, length-reverse, take-append-drop}
+use lib.Seq.{drop-nil, drop-drop, drop-append-add, length-take-le, take-at}
+use Rattle.record.specs.Bytes.{part, storeAt, pieces, join, digits, number, numberAt}
+use Rattle.record.proofs.Bytes.{All, all-take, all-drop, all-ordered, length-digits, length-pieces, length-join, join-pieces, number-digits, digits-number, part-at}
+use Rattle.record.proofs.NumberLaws.{number-none, number-next}
+use Rattle.record.proofs.Stores.{store-whole, length-part, runs-first, getD-reverse, runs, Put, put-none, put-more, put-done, Wrote, wrote-more, Front, front-more, front-whole}
 use Rattle.curlew.specs.Boundary.{numberBytes, bigEndian, bigEndianIn, numberSize, numbersIn, bytesOf}
-use Rattle.curlew.specs.Steps.{numberAt}
 
 -- ---- a number out of its bytes
-
-number-none : (bs : List ℕ) (at : ℕ) → numberAt 0 bs at ≡ 0
-unfolding numberAt number
-number-none bs at = refl
-
-number-next : (w : ℕ) (bs : List ℕ) (at : ℕ) → at + w < length bs → numberAt (suc w) bs at ≡ getD bs (at + w) 0 + 256 * numberAt w bs at
-unfolding numberAt number
-number-next w bs at h =
-    let inside : w < length (drop at bs) = rw length-drop (omega arith) in
-    rw (take-suc (drop at bs) w 0 inside, getD-drop at bs w 0, reverse-append)
 
 -- the sum of products of the code
 pub number-sum : (bs : List ℕ) (at : ℕ) → at + numberSize ≤ length bs
@@ -62,9 +53,6 @@ number-stored d at x h =
 
 -- ---- many numbers
 
-store-whole : (d s : List ℕ) → length s ≡ length d → storeAt d 0 s ≡ s
-store-whole d s e = let none : drop (0 + length s) d ≡ [] = let past : length d ≤ 0 + length s = omega arith in drop-of-length-le d past in rw none (append-nil s)
-
 join-runs : (g : ℕ → List ℕ) (xs : List ℕ) → runs (length xs) (λ i. g (getD xs i 0)) ≡ join (map g xs)
 unfolding join runs
 join-runs g [] = refl
@@ -74,12 +62,26 @@ join-runs g (x ∷ xs) = runs-first (length xs) (λ i. g (getD (x ∷ xs) i 0)) 
 abbrev pub encodedAt : List ℕ → ℕ → List ℕ
 encodedAt xs i = numberBytes numberSize (getD xs i 0)
 
-pub encoded : {d₀ d : List ℕ} (xs : List ℕ) {i : ℕ} → Wrote d₀ 0 (encodedAt xs) d i → i ≡ length xs → length d₀ ≡ length xs * numberSize → d ≡ bytesOf xs
+-- one more of the n numbers from number `from` on
+pub encoded-more : {d₀ d d′ : List ℕ} (xs : List ℕ) (from n : ℕ) {j : ℕ} → Wrote d₀ (from * numberSize) (encodedAt (part xs from n)) d j → j < n → from + n ≤ length xs → length xs * numberSize ≤ length d₀
+    → d′ ≡ storeAt d ((from + j) * numberSize) (encodedAt xs (from + j)) → Wrote d₀ (from * numberSize) (encodedAt (part xs from n)) d′ (j + 1)
+encoded-more {d} xs from n {j} w h k room e =
+    let is : _≡_ {A = ℕ} (getD xs (from + j) 0) (getD (part xs from n) j 0) = sym (part-at xs from n j h) in
+    wrote-more {to = (from + j) * numberSize} numberSize (λ i. length-numberBytes numberSize _) w (omega arith) (omega arith) (e ∙ ap (λ (x : ℕ). storeAt d ((from + j) * numberSize) (numberBytes numberSize x)) is)
+
+pub encoded : {d₀ d : List ℕ} {at : ℕ} (xs : List ℕ) {i : ℕ} → Wrote d₀ at (encodedAt xs) d i → i ≡ length xs → d ≡ storeAt d₀ at (bytesOf xs)
 unfolding bytesOf bigEndian
-encoded {d₀} {d} xs {i} w all size =
-    let long : length (join (map (numberBytes numberSize) xs)) ≡ length d₀ = length-join (numberBytes numberSize) numberSize (length-numberBytes numberSize) xs ∙ sym size in
+encoded {d₀} {d} {at} xs {i} w all =
     let runs-all : runs i (encodedAt xs) ≡ join (map (numberBytes numberSize) xs) = rw all (join-runs (numberBytes numberSize) xs) in
-    w .is ∙ ap (storeAt d₀ 0) runs-all ∙ store-whole d₀ _ long
+    w .is ∙ ap (storeAt d₀ at) runs-all
+
+pub length-bytesOf : (xs : List ℕ) → length (bytesOf xs) ≡ length xs * numberSize
+unfolding bytesOf bigEndian
+length-bytesOf xs = length-join (numberBytes numberSize) numberSize (length-numberBytes numberSize) xs
+
+-- numbers that fill a run
+pub bytes-whole : (d xs : List ℕ) → length d ≡ length xs * numberSize → storeAt d 0 (bytesOf xs) ≡ bytesOf xs
+bytes-whole d xs e = store-whole d (bytesOf xs) (length-bytesOf xs ∙ sym e)
 
 number-in : (w n : ℕ) (bs : List ℕ) (i : ℕ) → i < n → getD (bigEndianIn w n bs) i 0 ≡ numberAt w bs (i * w)
 unfolding bigEndianIn pieces numberAt
@@ -91,16 +93,99 @@ pub length-numbersIn : (bs : List ℕ) → length (numbersIn bs) ≡ length bs /
 unfolding numbersIn bigEndianIn
 length-numbersIn bs = length-map (pieces numberSize (length bs / numberSize) bs) _ ∙ length-pieces numberSize (length bs / numberSize) bs
 
-module _ (bs : List ℕ) {d₀ d : List ℕ} {i : ℕ} (p : Put d₀ 0 (numbersIn bs) d i) (size : length bs ≡ length d₀ * numberSize) where
+module _ (bs : List ℕ) {d₀ d : List ℕ} (from n : ℕ) {j : ℕ} (p : Put d₀ from (part (numbersIn bs) from n) d j) (size : length bs ≡ length d₀ * numberSize) (room : from + n ≤ length d₀) where
+  enough : from + n ≤ length (numbersIn bs)
+  enough = rw length-numbersIn (omega arith)
+
   -- one more number
-  pub decoded-more : {x : ℕ} → i < length d₀ → x ≡ numberAt numberSize bs (i * numberSize) → Put d₀ 0 (numbersIn bs) (set d i x) (i + 1)
+  pub decoded-more : {x : ℕ} → j < n → x ≡ numberAt numberSize bs ((from + j) * numberSize) → Put d₀ from (part (numbersIn bs) from n) (set d (from + j) x) (j + 1)
   unfolding numbersIn
   decoded-more {x} h e =
-      let inside : i < length bs / numberSize = omega arith in
-      let is : x ≡ getD (numbersIn bs) i 0 = e ∙ sym (number-in numberSize (length bs / numberSize) bs i inside) in
-      rw zero-add at (put-more {at = 0} {j = i} {v = x} p (omega arith) (rw length-numbersIn inside) is)
+      let inside : from + j < length bs / numberSize = omega arith in
+      let is : x ≡ getD (part (numbersIn bs) from n) j 0 = e ∙ sym (number-in numberSize (length bs / numberSize) bs (from + j) inside) ∙ sym (part-at (numbersIn bs) from n j h) in
+      let long : length (part (numbersIn bs) from n) ≡ n = length-part n from (numbersIn bs) enough in
+      put-more p (omega arith) (omega arith) is
+
+  pub decoded-run : j ≡ n → d ≡ storeAt d₀ from (part (numbersIn bs) from n)
+  decoded-run all = put-done p (length-part n from (numbersIn bs) enough ∙ sym all)
+
+-- ---- parts of many numbers
+
+pub bytes-append : (xs ys : List ℕ) → bytesOf (xs ++ ys) ≡ bytesOf xs ++ bytesOf ys
+unfolding bytesOf bigEndian join
+bytes-append [] ys = refl
+bytes-append (x ∷ xs) ys = ap (λ (r : List ℕ). numberBytes numberSize x ++ r) (bytes-append xs ys) ∙ sym (append-assoc (numberBytes numberSize x) (bytesOf xs) (bytesOf ys))
+
+after-one : (n x : ℕ) → suc n * numberSize ≡ length (numberBytes numberSize x) + n * numberSize
+after-one n x = rw length-numberBytes (omega arith)
+
+pub bytes-drop : (n : ℕ) (xs : List ℕ) → bytesOf (drop n xs) ≡ drop (n * numberSize) (bytesOf xs)
+unfolding bytesOf bigEndian join
+bytes-drop zero xs = refl
+bytes-drop (suc n) [] = sym (drop-nil (suc n * numberSize))
+bytes-drop (suc n) (x ∷ xs) =
+    bytes-drop n xs ∙ sym (ap (λ (k : ℕ). drop k (bytesOf (x ∷ xs))) (after-one n x) ∙ drop-append-add (numberBytes numberSize x) (bytesOf xs) (n * numberSize))
+
+pub bytes-take : (n : ℕ) (xs : List ℕ) → n ≤ length xs → bytesOf (take n xs) ≡ take (n * numberSize) (bytesOf xs)
+bytes-take n xs h =
+    let whole : bytesOf xs ≡ bytesOf (take n xs) ++ bytesOf (drop n xs) = ap bytesOf (sym (take-append-drop n xs)) ∙ bytes-append (take n xs) (drop n xs) in
+    let long : length (bytesOf (take n xs)) ≡ n * numberSize = length-bytesOf (take n xs) ∙ rw (length-take-le n xs h) in
+    rw whole (sym (take-at (bytesOf (take n xs)) (bytesOf (drop n xs)) (n * numberSize) long))
+
+pub bytes-part : (xs : List ℕ) (from n : ℕ) → from + n ≤ length xs → bytesOf (part xs from n) ≡ part (bytesOf xs) (from * numberSize) (n * numberSize)
+bytes-part xs from n h = bytes-take n (drop from xs) (rw length-drop (omega arith)) ∙ ap (take (n * numberSize)) (bytes-drop from xs)
+
+-- ---- so many numbers a turn
+
+-- the numbers of a run of bytes
+module _ (bs : List ℕ) {d₀ d : List ℕ} {i : ℕ} (f : Front d₀ (numbersIn bs) d i) (size : length bs ≡ length d₀ * numberSize) where
+  all-numbers : length (numbersIn bs) ≡ length d₀
+  all-numbers = length-numbersIn bs ∙ (omega arith)
+
+  pub decoded-next : {d′ : List ℕ} (n : ℕ) → i + n ≤ length d₀ → d′ ≡ storeAt d i (part (numbersIn bs) i n) → Front d₀ (numbersIn bs) d′ (i + n)
+  decoded-next n h e = front-more n f (omega (arith, all-numbers)) h e
 
   pub decoded : i ≡ length d₀ → d ≡ numbersIn bs
-  decoded all =
-      let long : length (numbersIn bs) ≡ length d₀ = length-numbersIn bs ∙ (omega arith) in
-      put-done p (long ∙ sym all) ∙ store-whole d₀ (numbersIn bs) long
+  decoded all = front-whole f all all-numbers
+
+-- the bytes of a run of numbers
+module _ (xs : List ℕ) (i : ℕ) {d₀ d : List ℕ} (f : Front d₀ (bytesOf xs) d (i * numberSize)) where
+  pub encoded-next : {d′ : List ℕ} {to : ℕ} (n : ℕ) → to ≡ i + n → length xs * numberSize ≤ length d₀ → i + n ≤ length xs → d′ ≡ storeAt d (i * numberSize) (bytesOf (part xs i n))
+      → Front d₀ (bytesOf xs) d′ (to * numberSize)
+  encoded-next {d′} {to} n on room h e =
+      let sum : to * numberSize ≡ i * numberSize + n * numberSize = omega arith in
+      let l : length (bytesOf xs) ≡ length xs * numberSize = length-bytesOf xs in
+      rw sum (front-more (n * numberSize) f (omega arith) (omega arith) (e ∙ ap (storeAt d (i * numberSize)) (bytes-part xs i n h)))
+
+  pub encoded-front : {m : ℕ} → i ≡ m → m ≤ length xs → d ≡ storeAt d₀ 0 (bytesOf (take m xs))
+  encoded-front {m} e h = f .is ∙ rw e (ap (storeAt d₀ 0) (sym (bytes-take m xs h)))
+
+-- ---- bytes come back from their numbers
+
+piece-back : (w : ℕ) (p : List ℕ) → length p ≡ w → All (λ b. b < 256) p → numberBytes w (number 256 (reverse p)) ≡ p
+unfolding numberBytes
+piece-back w p e h =
+    let turned : length (reverse p) ≡ w = length-reverse p ∙ e in
+    let back : digits 256 (length (reverse p)) (number 256 (reverse p)) ≡ reverse p = digits-number 256 (reverse p) (all-ordered (λ b. b < 256) true p h) in
+    ap reverse (rw turned at back) ∙ reverse-reverse p
+
+big-endian-back : (w n : ℕ) (bs : List ℕ) → length bs ≡ n * w → All (λ b. b < 256) bs → bigEndian w (bigEndianIn w n bs) ≡ bs
+unfolding bigEndian bigEndianIn join pieces
+big-endian-back w zero bs e h = join-pieces w zero bs e
+big-endian-back w (suc n) bs e h =
+    let long : length bs ≡ n * w + w = e ∙ suc-mul n w in
+    let here : length (take w bs) ≡ w = length-take-le w bs (omega arith) in
+    let rest : length (drop w bs) ≡ n * w = length-drop w bs ∙ (omega arith) in
+    ap₂ (λ (p r : List ℕ). p ++ r) (piece-back w (take w bs) here (all-take (λ b. b < 256) w bs h)) (big-endian-back w n (drop w bs) rest (all-drop (λ b. b < 256) w bs h))
+    ∙ take-append-drop w bs
+
+-- whole numbers of bytes, decoded and encoded, are the bytes
+pub bytes-back : (bs : List ℕ) → length bs % numberSize ≡ 0 → All (λ b. b < 256) bs → bytesOf (numbersIn bs) ≡ bs
+unfolding bytesOf numbersIn
+bytes-back bs e h = big-endian-back numberSize (length bs / numberSize) bs (omega arith) h
+
+-- numbers put over the first ones of a run change the bytes of just those
+pub bytes-stored : (bs s : List ℕ) → length bs % numberSize ≡ 0 → All (λ b. b < 256) bs → bytesOf (storeAt (numbersIn bs) 0 s) ≡ storeAt bs 0 (bytesOf s)
+bytes-stored bs s e h =
+    let sum : (0 + length s) * numberSize ≡ 0 + length (bytesOf s) = rw length-bytesOf (omega arith) in
+    bytes-append s (drop (0 + length s) (numbersIn bs)) ∙ ap (λ (r : List ℕ). bytesOf s ++ r) (bytes-drop (0 + length s) (numbersIn bs) ∙ rw (bytes-back bs e h, sum))

@@ -1,8 +1,8 @@
 -- The calls for a C host (document 01, "Slot tables"): slots and replies are runs of bytes, each number four of them, big-endian.
 -- THE EFFECT OF A CALL is `curlewPack` and `curlewRead`, at the end.
-use Prim.Native.Nat.{ℕ, _*_, _/_, _%_}
+use Prim.Native.Nat.{ℕ, _+_, _*_, _/_, _%_}
 use mathlib.Core.Bool.{true}
-use mathlib.Core.List.{List, [], _∷_, map}
+use mathlib.Core.List.{List, [], _∷_, _++_, map}
 use lib.ListN.{length}
 use lib.Dec.{eqb}
 use Rattle.layout.specs.declared.Refusal.the-variants.{BadSize}
@@ -53,13 +53,13 @@ unfoldable pub replyOf : Answer → List ℕ
 unfolding bytesOf
 replyOf a = bytesOf (a .number ∷ a .first ∷ a .second ∷ [])
 
--- ---- what both calls share
+-- ---- what the calls share
 
 -- "A reply run of another size gives 1 and nothing is written"; "a run that isn't a multiple of 12 gives 1"; else the call is
 -- served on the numbers that the bytes make. (More slots than a call may be lent give 1 there.)
-abbrev pub guarded : {A : Type 0} → List ℕ → List ℕ → A → A → A → A
-guarded reply slots unwritten refused served =
-    if eqb (length reply) replySize then (if eqb (length slots % slotSize) 0 then served else refused) else unwritten
+abbrev pub guarded : {A : Type 0} → ℕ → List ℕ → List ℕ → A → A → A → A
+guarded size reply slots unwritten refused served =
+    if eqb (length reply) size then (if eqb (length slots % slotSize) 0 then served else refused) else unwritten
 
 -- ---- packing
 
@@ -77,7 +77,7 @@ packCall p = record { returned = p .answer .number; output = p .output; reply = 
 unfoldable pub curlewPack : List ℕ → List ℕ → List ℕ → List ℕ → List ℕ → PackCall
 unfolding packCall numbersIn pack
 curlewPack layout slots area output reply =
-    guarded reply slots
+    guarded replySize reply slots
     (record { returned = numberOf BadSize; output = output; reply = reply })
     (packCall (record { answer = refusal BadSize 0; output = output }))
     (packCall (pack layout (numbersIn slots) area output))
@@ -105,7 +105,7 @@ readCall slots r =
 unfoldable pub curlewRead : List ℕ → List ℕ → List ℕ → List ℕ → ℕ → List ℕ → ReadCall
 unfolding readCall numbersIn read
 curlewRead layout bytes slots area mark reply =
-    guarded reply slots
+    guarded replySize reply slots
     (record { returned = numberOf BadSize; slots = slots; area = area; reply = reply })
     (readCall slots (record { answer = refusal BadSize 0; slots = numbersIn slots; area = area }))
     (readCall slots (read layout bytes (numbersIn slots) area mark))

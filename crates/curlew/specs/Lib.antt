@@ -1,3 +1,4 @@
 -- What the calls for a C host mean.
 pub mod Boundary
+pub mod Claims
 pub mod Steps

@@ -28,7 +28,7 @@ use Rattle.layout.specs.Layout.{slotCount}
 use Rattle.evolution.specs.Claim.{plainCode, plainCount, plain}
 use Rattle.record.proofs.Bytes.{both, length-pieces}
 use Rattle.record.proofs.Fields.{Served}
-use Rattle.evolution.proofs.Run.{AllGood, fieldsIn}
+use Rattle.evolution.proofs.Run.{AllGood, Forward, ForwardFields, fieldsIn}
 
 -- ---- the front of a layout
 
@@ -46,6 +46,18 @@ module _ (area : List ℕ) where
   unfolding fieldsIn filled
   fields-filled ts [] = refl
   fields-filled ts (f ∷ fs) = fields-step ts fs (λ us. fields-filled us fs) (f .code) (f .unsigned) (f .count)
+
+  -- what the fields say of the cursor holds of them with their arguments
+  forward-step : (fs : List Field) → ((ts : List Slot) → Forward (filled area ts fs)) → (ts : List Slot) (k : Code) (u : Bool) (n : Count) → T (plainCode k)
+      → Forward (filled area ts (made k u n ∷ fs))
+  unfolding filled
+  forward-step fs ih ts (Data s) u n h = (h, ih (drop 1 ts))
+  forward-step fs ih ts (Move m) u n h = (h, ih ts)
+
+  pub forward-filled : (fs : List Field) → ForwardFields fs → (ts : List Slot) → Forward (filled area ts fs)
+  unfolding filled
+  forward-filled [] h ts = tt
+  forward-filled (f ∷ fs) h ts = forward-step fs (λ us. forward-filled fs (h .1) us) ts (f .code) (f .unsigned) (f .count) (h .0)
 
   -- a front takes its slots from the front
   abbrev Front : List Field → List Field → List Slot → Type 0

@@ -1,8 +1,8 @@
 -- The proof of demand 3, from the field outwards; an instance of its premises; the examples.
 mod Fields
-mod Run
-mod Arguments
-mod Shown
+pub mod Run
+pub mod Arguments
+pub mod Shown
 pub mod ReadsBack
 mod Calls
 mod Instance

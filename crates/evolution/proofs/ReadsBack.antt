@@ -21,23 +21,23 @@ use Rattle.record.specs.Reading.{Read, valuesFrom, reads, read, readEffect, put
 use Rattle.evolution.specs.Claim.{plain, plainCode, plainCount, endOf, Layouts, packedBy, recordOf, textOf, outputBy, slotsBy, fieldsBy, due, cutRecord, Reading, ReadsBack}
 use Rattle.record.proofs.Tables.{slots-take}
 use Rattle.record.proofs.Bytes.{both}
-use Rattle.evolution.proofs.Run.{AllGood, joined, joined-append, length-joined, packed-joined, agree}
+use Rattle.evolution.proofs.Run.{AllGood, joined, joined-append, length-joined, packed-joined, all-forward, agree}
 use Rattle.evolution.proofs.Shown.{shows-put, set-proper}
 use Rattle.evolution.proofs.Arguments.{fields-filled, front, spare, fit-front, all-good}
 
 -- ---- the calls, by their parts
 
-T→true : (t : Bool) → T t → t ≡ true
+pub T→true : (t : Bool) → T t → t ≡ true
 T→true true h = refl
 T→true false h = absurd h
 
-packs-by : (text slots area output : List ℕ) (fs : List Field) → fieldsOf true text ≡ ok fs → sizesFit text slots output area ≡ true
+pub packs-by : (text slots area output : List ℕ) (fs : List Field) → fieldsOf true text ≡ ok fs → sizesFit text slots output area ≡ true
     → length (slotsOf slots) ≡ slotCount fs → argumentsFit area 0 (slotsOf slots) fs ≡ ok tt
     → length (packed (filled area (slotsOf slots) fs)) ≤ length output → packs text slots area output ≡ ok (packed (filled area (slotsOf slots) fs))
 unfolding packs
 packs-by text slots area output fs f s c a r = rw (s, f, eq-eqb _ _ c, a, le-leb _ _ r)
 
-reads-by : (text bs slots area : List ℕ) (mark : ℕ) (fs : List Field) → fieldsOf false text ≡ ok fs → (sizesFit text slots bs area && leb mark (length area)) ≡ true
+pub reads-by : (text bs slots area : List ℕ) (mark : ℕ) (fs : List Field) → fieldsOf false text ≡ ok fs → (sizesFit text slots bs area && leb mark (length area)) ≡ true
     → slotCount fs ≤ length (slotsOf slots) → mark + length (valueBytes (valuesFrom bs 0 fs)) ≤ length area
     → reads text bs slots area mark ≡ ok (valuesFrom bs 0 fs)
 unfolding reads
@@ -107,7 +107,7 @@ module _ (l : Layouts) where
   own-count false = rw slots-take (length-take-le (slotCount (l .fields)) (slotsOf (l .slots)) enough-slots)
 
   own-bytes : (b : Bool) → packed (filled (l .area) (slotsOf (slotsBy l b)) (fieldsBy l b)) ≡ joined (args b)
-  own-bytes b = ap packed (own-filled b) ∙ packed-joined (args b) (good b)
+  own-bytes b = ap packed (own-filled b) ∙ packed-joined (args b) (all-forward (args b) (good b))
 
   parsed : (b : Bool) → fieldsOf true (textOf l b) ≡ ok (fieldsBy l b)
   parsed true = l .new-fields

@@ -6,6 +6,7 @@ use mathlib.Core.Bool.{Bool}
 use mathlib.Core.List.{List, [], _∷_, _++_, append-nil, append-assoc}
 use lib.ListN.{length, take, drop, replicate, length-append, length-replicate, drop-of-length-le}
 use lib.Seq.{take-length, length-take-le, take-at, drop-at, take-take, drop-drop}
+use lib.Dec.{T}
 use borrow.Author.Tests.{le-leb, lt-leb}
 use Rattle.layout.specs.declared.Code.{Code}
 use Rattle.layout.specs.declared.Code.the-variants.{Data, Move}
@@ -17,19 +18,67 @@ use Rattle.record.specs.Table.{Value}
 use Rattle.record.specs.Geometry.{amount, bytesFor, itemsIn}
 use Rattle.record.specs.Packing.{stored, Run, store, Filled, packOne, packAll, packed}
 use Rattle.record.specs.Reading.{loaded, valuesFrom}
-use Rattle.evolution.specs.Claim.{fills, endOf, setBy}
+use Rattle.evolution.specs.Claim.{plainCode, fills, endOf, setBy}
 use Rattle.record.proofs.Bytes.{drop-take}
 use Rattle.record.proofs.Fields.{Served, length-stored, fills-some, split}
 use Rattle.evolution.proofs.Fields.{back}
 
--- ---- a field with its argument, in a plain layout that the packer accepts
+-- ---- a field with its argument
 
 -- the bytes that it stores
 unfoldable pub bytesOf : Code → Count → List ℕ → List ℕ
-bytesOf (Data s) n xs = stored s (amount n 0) xs
+bytesOf (Data s) n xs = stored s (amount n (length xs)) xs
 bytesOf (Move Skip) n xs = replicate (amount n 0) 0
 bytesOf (Move Back) n xs = []
 bytesOf (Move Goto) n xs = []
+
+unfoldable pub joined : List Filled → List ℕ
+unfolding bytesOf
+joined [] = []
+joined (a ∷ rest) = bytesOf (a .field .code) (a .field .count) (a .items) ++ joined rest
+
+-- ---- packing where the cursor only goes forward: no `X`, no `@`; stars are allowed
+
+abbrev pub ForwardFields : List Field → Type 0
+ForwardFields [] = Unit {0}
+ForwardFields (f ∷ fs) = T (plainCode (f .code)) × ForwardFields fs
+
+abbrev pub Forward : List Filled → Type 0
+Forward [] = Unit {0}
+Forward (a ∷ rest) = T (plainCode (a .field .code)) × Forward rest
+
+-- a store at the end appends
+store-end : (out bs : List ℕ) → store (record { out = out; at = length out }) bs ≡ record { out = out ++ bs; at = length (out ++ bs) }
+store-end out bs = simp (take-length, length-append, drop-of-length-le out {i = length out + length bs} (omega arith), append-nil)
+
+pack-one : (out : List ℕ) (k : Code) (n : Count) (xs : List ℕ) → T (plainCode k)
+    → packOne (record { out = out; at = length out }) k n xs ≡ record { out = out ++ bytesOf k n xs; at = length (out ++ bytesOf k n xs) }
+unfolding packOne bytesOf
+pack-one out (Data s) n xs h = store-end out (stored s (amount n (length xs)) xs)
+pack-one out (Move Skip) n xs h = store-end out (replicate (amount n 0) 0)
+pack-one out (Move Back) n xs h = absurd h
+pack-one out (Move Goto) n xs h = absurd h
+
+pack-all : (out : List ℕ) (fs : List Filled) → Forward fs
+    → packAll (record { out = out; at = length out }) fs ≡ record { out = out ++ joined fs; at = length (out ++ joined fs) }
+unfolding packAll joined
+pack-all out [] h = rw append-nil
+pack-all out (a ∷ rest) h =
+    let bs : List ℕ = bytesOf (a .field .code) (a .field .count) (a .items) in
+    ap (λ (r : Run). packAll r rest) (pack-one out (a .field .code) (a .field .count) (a .items) (h .0))
+    ∙ pack-all (out ++ bs) rest (h .1)
+    ∙ ap (λ (o : List ℕ). record { out = o; at = length o }) (append-assoc out bs (joined rest))
+
+pub packed-joined : (fs : List Filled) → Forward fs → packed fs ≡ joined fs
+unfolding packed
+packed-joined fs h = ap (λ (r : Run). r .out) (pack-all [] fs h)
+
+pub joined-append : (fs gs : List Filled) → joined (fs ++ gs) ≡ joined fs ++ joined gs
+unfolding joined
+joined-append [] gs = refl
+joined-append (a ∷ fs) gs = ap (λ (r : List ℕ). bytesOf (a .field .code) (a .field .count) (a .items) ++ r) (joined-append fs gs) ∙ sym (append-assoc (bytesOf (a .field .code) (a .field .count) (a .items)) (joined fs) (joined gs))
+
+-- ---- a field with its argument, in a plain layout that the packer accepts
 
 abbrev pub Good : Code → Count → List ℕ → Type 0
 Good (Data s) n xs = FitCode (Data s) × Served s (amount n 0) xs × (0 < amount n 0) × ((all : ℕ) → amount n all ≡ amount n 0)
@@ -41,50 +90,22 @@ abbrev pub AllGood : List Filled → Type 0
 AllGood [] = Unit {0}
 AllGood (a ∷ rest) = Good (a .field .code) (a .field .count) (a .items) × AllGood rest
 
-unfoldable pub joined : List Filled → List ℕ
-unfolding bytesOf
-joined [] = []
-joined (a ∷ rest) = bytesOf (a .field .code) (a .field .count) (a .items) ++ joined rest
+goes-forward : (k : Code) (n : Count) (xs : List ℕ) → Good k n xs → T (plainCode k)
+goes-forward (Data s) n xs h = tt
+goes-forward (Move Skip) n xs h = tt
+goes-forward (Move Back) n xs h = h
+goes-forward (Move Goto) n xs h = h
+
+pub all-forward : (fs : List Filled) → AllGood fs → Forward fs
+all-forward [] h = tt
+all-forward (a ∷ rest) h = (goes-forward (a .field .code) (a .field .count) (a .items) (h .0), all-forward rest (h .1))
 
 pub length-bytes : (k : Code) (n : Count) (xs : List ℕ) → Good k n xs → length (bytesOf k n xs) ≡ fills k n
 unfolding bytesOf fills
-length-bytes (Data s) n xs h = length-stored s (amount n 0) xs (h .1)
+length-bytes (Data s) n xs h = rw (h .3 (length xs)) (length-stored s (amount n 0) xs (h .1))
 length-bytes (Move Skip) n xs h = length-replicate (amount n 0) 0
 length-bytes (Move Back) n xs h = absurd h
 length-bytes (Move Goto) n xs h = absurd h
-
--- ---- packing
-
--- a store at the end appends
-store-end : (out bs : List ℕ) → store (record { out = out; at = length out }) bs ≡ record { out = out ++ bs; at = length (out ++ bs) }
-store-end out bs = simp (take-length, length-append, drop-of-length-le out {i = length out + length bs} (omega arith), append-nil)
-
-pack-one : (out : List ℕ) (k : Code) (n : Count) (xs : List ℕ) → Good k n xs
-    → packOne (record { out = out; at = length out }) k n xs ≡ record { out = out ++ bytesOf k n xs; at = length (out ++ bytesOf k n xs) }
-unfolding packOne bytesOf
-pack-one out (Data s) n xs h = rw (h .3 (length xs)) (store-end out (stored s (amount n 0) xs))
-pack-one out (Move Skip) n xs h = store-end out (replicate (amount n 0) 0)
-pack-one out (Move Back) n xs h = absurd h
-pack-one out (Move Goto) n xs h = absurd h
-
-pack-all : (out : List ℕ) (fs : List Filled) → AllGood fs
-    → packAll (record { out = out; at = length out }) fs ≡ record { out = out ++ joined fs; at = length (out ++ joined fs) }
-unfolding packAll joined
-pack-all out [] h = rw append-nil
-pack-all out (a ∷ rest) h =
-    let bs : List ℕ = bytesOf (a .field .code) (a .field .count) (a .items) in
-    ap (λ (r : Run). packAll r rest) (pack-one out (a .field .code) (a .field .count) (a .items) (h .0))
-    ∙ pack-all (out ++ bs) rest (h .1)
-    ∙ ap (λ (o : List ℕ). record { out = o; at = length o }) (append-assoc out bs (joined rest))
-
-pub packed-joined : (fs : List Filled) → AllGood fs → packed fs ≡ joined fs
-unfolding packed
-packed-joined fs h = ap (λ (r : Run). r .out) (pack-all [] fs h)
-
-pub joined-append : (fs gs : List Filled) → joined (fs ++ gs) ≡ joined fs ++ joined gs
-unfolding joined
-joined-append [] gs = refl
-joined-append (a ∷ fs) gs = ap (λ (r : List ℕ). bytesOf (a .field .code) (a .field .count) (a .items) ++ r) (joined-append fs gs) ∙ sym (append-assoc (bytesOf (a .field .code) (a .field .count) (a .items)) (joined fs) (joined gs))
 
 -- ---- reading a cut
 
@@ -151,13 +172,14 @@ module _ (whole : List ℕ) (cut : ℕ) (inside : cut ≤ length whole) where
       let need : ℕ = bytesFor s (amount n 0) in
       let len : length bs ≡ need = length-stored s (amount n 0) xs (h .1) in
       let left : length (take cut whole) ≡ cut = size in
+      let e′ : drop at whole ≡ (bs ++ joined rest) ++ after = rw (h .3 (length xs)) at e in
       rw (h .3 (itemsIn s (length (take cut whole) - at)))
       (split (at + need) cut
       (λ (k : at + need ≤ cut).
       rw (le-leb need (length (take cut whole) - at) (omega arith), le-leb (at + need) cut k)
       (ap₂ (λ (v : Value) (r : List Value). v ∷ r)
-      (ap (loaded s u (amount n 0)) (within at need cut whole k ∙ ap (take need) (e ∙ append-assoc bs (joined rest) after) ∙ take-at bs (joined rest ++ after) need len) ∙ back s u (amount n 0) xs (h .1))
-      (ih (at + need) after k (next at bs (joined rest) after need len e))))
+      (ap (loaded s u (amount n 0)) (within at need cut whole k ∙ ap (take need) (e′ ∙ append-assoc bs (joined rest) after) ∙ take-at bs (joined rest ++ after) need len) ∙ back s u (amount n 0) xs (h .1))
+      (ih (at + need) after k (next at bs (joined rest) after need len e′))))
       (λ (k : cut < at + need).
       rw (lt-leb need (length (take cut whole) - at) (omega arith), lt-leb (at + need) cut k) (sym (past-due cut (at + need) rest k))))
   agree-step rest hs ih (Move Skip) u n xs h at after le e =

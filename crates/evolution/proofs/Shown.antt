@@ -46,7 +46,7 @@ integers-in (x ∷ xs) rest h =
     (ap (integersIn (length xs)) (drop-at (item 8 true x) tail 8 (length-item 8 true x)) ∙ integers-in xs rest (h .1))
 
 -- a slot shows the value whose bytes stand at its start
-shows-one : (area rest : List ℕ) (start : ℕ) (v : Value) → Proper v → drop start area ≡ areaBytes v ++ rest
+pub shows-one : (area rest : List ℕ) (start : ℕ) (v : Value) → Proper v → drop start area ≡ areaBytes v ++ rest
     → shown area (record { kind = v .kind; start = start; len = length (v .items) }) ≡ v
 unfolding shown areaBytes
 shows-one area rest start v h e = rw e (ap (λ (xs : List ℕ). record { kind = v .kind; items = xs }) (by-kind (eqb (v .kind) 1) h))
@@ -79,10 +79,10 @@ shows-put slots area mark vs h k =
 
 -- ---- what demand 3 reads back is proper
 
-true-false {ℓ} : {X : Type ℓ} → true ≡ false → X
+pub true-false {ℓ} : {X : Type ℓ} → true ≡ false → X
 true-false e = let z : _≡_ {A = ℕ} 0 1 = cc in absurd (omega arith)
 
-widened-fits : (w : ℕ) (u : Bool) (x : ℕ) → w ≤ 8 → widened w u (x % 256 ^ w) < 2 ^ 64
+pub widened-fits : (w : ℕ) (u : Bool) (x : ℕ) → w ≤ 8 → widened w u (x % 256 ^ w) < 2 ^ 64
 unfolding widened
 widened-fits w u x h = by-sign (u || ltb (2 * (x % 256 ^ w)) (256 ^ w))
   where

@@ -1,6 +1,6 @@
 -- The fields of the words: what a loop over the words goes by, and what a caller of `parse` learns.
 -- Assumes nothing.
-use Prim.Native.Nat.{ℕ, suc, _+_, _≤_, _<_, min}
+use Prim.Native.Nat.{ℕ, suc, _+_, _*_, _/_, _%_, _≤_, _<_, min}
 use native.Mathlib.Numerals.{add-one}
 use native.Mathlib.Omega.{arith}
 use mathlib.Core.Path.{_≡_, refl, sym, ap, _∙_}
@@ -8,14 +8,16 @@ use mathlib.Core.Bool.{Bool, true, false}
 use mathlib.Core.List.{List, [], _∷_, _++_, map, map-append}
 use lib.ListN.{length, getD, drop, take, set, length-map, length-take, drop-of-length-le, List·getD-map}
 use lib.Seq.{drop-cons, getD-take, take-suc-set, length-take-le}
+use Rattle.layout.specs.declared.Code.the-variants.{Data}
 use Rattle.layout.specs.declared.Field.{Field}
 use Rattle.layout.specs.declared.Refusal.{Refusal}
 use Rattle.layout.specs.declared.Parsed.{Parsed}
 use Rattle.layout.specs.declared.Parsed.the-variants.{Fields, Refused}
 use Rattle.layout.specs.Refusals.{if_then_else_, Result, ok, refused}
 use Rattle.layout.specs.Layout.{takesSlot, toNat, slotCount}
-use Rattle.layout.specs.Words.{fieldOf, decoded, Parses, slotsTaken}
+use Rattle.layout.specs.Words.{shapeNumbered, countFrom, fieldOf, decoded, Parses, slotsTaken}
 use Rattle.layout.proofs.Steps.{bit-le}
+use Rattle.layout.proofs.Numbered.{data-code, move-code}
 
 pub decoded-length : (n : ℕ) (ws : List ℕ) → n ≤ length ws → length (decoded n ws) ≡ n
 unfolding decoded
@@ -42,6 +44,24 @@ slots-more (g ∷ fs) f = step (takesSlot (g .code)) (slots-more fs f)
 
 pub slots-le : (f : Field) → slotsTaken f ≤ 1
 slots-le f = bit-le (takesSlot (f .code))
+
+-- ---- a word's field by the number of its type
+
+module _ (w : ℕ) where
+  pub word-count : fieldOf w .count ≡ countFrom (w / 512)
+  unfolding fieldOf
+  word-count = refl
+
+  pub word-shape : w % 256 < 14 → fieldOf w .code ≡ Data (shapeNumbered (w % 256))
+  unfolding fieldOf
+  word-shape h = data-code (w % 256) (omega arith)
+
+  pub word-slot : w % 256 < 14 → slotsTaken (fieldOf w) ≡ 1
+  word-slot h = rw (word-shape h)
+
+  pub word-slotless : 14 ≤ w % 256 → slotsTaken (fieldOf w) ≡ 0
+  unfolding fieldOf
+  word-slotless h = rw (move-code (w % 256) h)
 
 -- the fields from the i-th on
 module _ (n : ℕ) (ws : List ℕ) (h : n ≤ length ws) where

@@ -1,6 +1,8 @@
--- Laws of layout text. Laws, Decoded and Places are for the crates above; Steps and Turns serve `parse`.
-mod Steps
+-- Laws of layout text. Laws, Numbered, Decoded, Places and the last laws of Steps are for the crates above; Numbers, Steps and Turns serve `parse`.
+mod Numbers
+pub mod Steps
 mod Turns
 pub mod Laws
+pub mod Numbered
 pub mod Decoded
 pub mod Places

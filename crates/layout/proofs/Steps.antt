@@ -23,6 +23,7 @@ use Rattle.layout.specs.declared.Refusal.the-variants.{UnknownType, Coun
 use Rattle.layout.specs.Refusals.{if_then_else_, refused}
 use Rattle.layout.specs.Layout.{isDecimal, digitRun, decimal, typeOf, takesFlag, flagged, countOf, countLength, inLimit, hasMeaning, toNat, takesSlot, field, bad, fieldAfter, fieldAt, stepOf}
 use Rattle.layout.proofs.Laws.{decimal-held}
+use Rattle.layout.proofs.Numbers.{number-known}
 use Rattle.layout.specs.declared.Read.the-variants.{Item, Bad}
 use Rattle.layout.specs.Words.{typeNumbered, countFrom, known, fieldOf, wordOf, heldNumber, FitCode, FitCount, FieldOf, ReadAs}
 
@@ -101,6 +102,13 @@ module _ (s : List ℕ) (at : ℕ) (k : Code) where
       and-true′ true = refl
       and-true′ false = refl
 
+-- the flag and the count at a place, after a type k: the flag as a number, the count's number, and the place after them
+abbrev pub TailAt : List ℕ → ℕ → Code → ℕ → ℕ → ℕ → Type 0
+TailAt s at k u v e = (u ≡ toNat (flagged k (drop at s))) × (v ≡ heldNumber (countOf (drop (at + u) s))) × (e ≡ at + u + countLength (drop (at + u) s))
+
+pub tail-plain : (s : List ℕ) (at : ℕ) (k : Code) (v e : ℕ) → false ≡ flagged k (drop at s) → CountAt s at v e → TailAt s at k 0 v e
+tail-plain s at k v e flag count = (ap toNat flag, rw add-zero (count .0), rw add-zero (count .1))
+
 -- ---- the number of a count
 
 pub times-from : (n : ℕ) → (n ≡ 0 → ⊥) → (n ≡ 1 → ⊥) → Times (n - 2) ≡ countFrom n
@@ -148,7 +156,7 @@ word-field c u n h =
     let high : wordOf c u n / 512 ≡ n = omega arith in
     rw (low, upper, flag, high, bit-of u)
 
-abbrev FitType : Typed → Type 0
+abbrev pub FitType : Typed → Type 0
 FitType (Known k) = FitCode k
 FitType Unknown = Unit {0}
 
@@ -162,7 +170,7 @@ width-fits false true c = (omega arith, omega arith)
 width-fits false false true = (omega arith, omega arith)
 width-fits false false false = (omega arith, omega arith)
 
-type-fits : (k : ℕ) → FitType (typeNumbered k)
+pub type-fits : (k : ℕ) → FitType (typeNumbered k)
 unfolding typeNumbered
 type-fits k =
     chosen (ltb k 2) _ _ tt
@@ -172,7 +180,7 @@ type-fits k =
     (chosen (eqb k 15) _ _ tt
     (chosen (eqb k 16) _ _ tt tt)))))
 
-known-fits : (t : Typed) → FitType t → FitCode (known t)
+pub known-fits : (t : Typed) → FitType t → FitCode (known t)
 known-fits (Known k) h = h
 known-fits Unknown h = tt
 
@@ -238,7 +246,7 @@ run-within (c ∷ cs) = step (isDecimal c) (run-within cs)
     step true h = omega arith
     step false h = omega arith
 
-count-within : (cs : List ℕ) → countLength cs ≤ length cs
+pub count-within : (cs : List ℕ) → countLength cs ≤ length cs
 unfolding countLength
 count-within [] = omega arith
 count-within (c ∷ cs) = step (eqb c 42) (run-within (c ∷ cs))
@@ -247,61 +255,72 @@ count-within (c ∷ cs) = step (eqb c 42) (run-within (c ∷ cs))
     step true h = omega arith
     step false h = h
 
-flag-within : (k : Code) (cs : List ℕ) → toNat (flagged k cs) ≤ length cs
+pub flag-within : (k : Code) (cs : List ℕ) → toNat (flagged k cs) ≤ length cs
 unfolding flagged
 flag-within k [] = omega arith
 flag-within k (c ∷ cs) = omega (arith, bit-le (takesFlag k && eqb c 117))
 
--- ---- what `read_field` has seen when the count is read: the type k and its number d, the flag u (b as a number), the count's number v, and the place e after it
+-- ---- what `read_field` has seen when the count is read: the type's number d, the flag b as a number, the count's number v, and the place e after it
 
-pub record Seen (text : List ℕ) (p : ℕ) (k : Code) (d : ℕ) (u : Bool) (b v e : ℕ) : Type 0 where
+pub record Seen (text : List ℕ) (p d b v e : ℕ) : Type 0 where
   pub start : p < length text
-  pub small : d < 256
-  pub numbered : typeNumbered d ≡ Known k
+  pub low : d ≤ 16
   pub no-space : getD text p 0 ≡ 32 → ⊥
-  pub type : typeOf (getD text p 0) ≡ Known k
-  pub flag : u ≡ flagged k (drop (p + 1) text)
-  pub bit : b ≡ toNat u
-  pub count : CountAt text (p + 1 + b) v e
+  pub type : typeOf (getD text p 0) ≡ typeNumbered d
+  pub tail : TailAt text (p + 1) (known (typeNumbered d)) b v e
 
-module _ (packing : Bool) (text : List ℕ) (p : ℕ) (k : Code) (d : ℕ) (u : Bool) (b v e : ℕ) (s : Seen text p k d u b v e) where
-  here : u ≡ flagged k (drop (suc p) text)
-  here = rw add-one at (s .flag)
+module _ (packing : Bool) (text : List ℕ) (p d b v e : ℕ) (s : Seen text p d b v e) where
+  abbrev k : Code
+  k = known (typeNumbered d)
 
-  place : p + 1 + b ≡ suc p + toNat u
-  place = omega (arith, s .bit)
+  abbrev u : Bool
+  u = flagged k (drop (suc p) text)
+
+  numbered : typeNumbered d ≡ Known k
+  numbered = number-known d (s .low)
+
+  typed : typeOf (getD text p 0) ≡ Known k
+  typed = s .type ∙ numbered
+
+  bit : b ≡ toNat u
+  bit = rw add-one at (s .tail .0)
+
+  pub flag-le : b ≤ 1
+  flag-le = omega (arith, bit, bit-le u)
 
   tail : drop (p + 1 + b) text ≡ drop (toNat u) (drop (suc p) text)
-  tail = ap (λ (i : ℕ). drop i text) place ∙ sym (drop-drop (toNat u) (suc p) text)
+  tail =
+      let place : p + 1 + b ≡ suc p + toNat u = omega (arith, bit) in
+      ap (λ (i : ℕ). drop i text) place ∙ sym (drop-drop (toNat u) (suc p) text)
 
   number : v ≡ heldNumber (countOf (drop (toNat u) (drop (suc p) text)))
-  number = s .count .0 ∙ ap (λ (cs : List ℕ). heldNumber (countOf cs)) tail
+  number = s .tail .1 ∙ ap (λ (cs : List ℕ). heldNumber (countOf cs)) tail
 
   pub read-large : 4098 < v → ReadAs packing text p (Bad CountTooLarge)
   read-large h =
-      record { step = step-large packing p _ _ (s .no-space) k (s .type) u here v number h; told = tt }
+      record { step = step-large packing p _ _ (s .no-space) k typed u refl v number h; told = tt }
 
   pub read-meaningless : v ≤ 4098 → hasMeaning packing k (countFrom v) ≡ false → ReadAs packing text p (Bad CountMisused)
   read-meaningless h m =
-      record { step = step-meaningless packing p _ _ (s .no-space) k (s .type) u here v number h m; told = tt }
+      record { step = step-meaningless packing p _ _ (s .no-space) k typed u refl v number h m; told = tt }
 
   more : e - (p + 1) ≡ toNat u + countLength (drop (toNat u) (drop (suc p) text))
   more =
       let l : countLength (drop (p + 1 + b) text) ≡ countLength (drop (toNat u) (drop (suc p) text)) = ap countLength tail in
-      omega (arith, s .count .1, s .bit)
+      omega (arith, s .tail .2, bit)
 
   inside : e ≤ length text
   inside =
-      let f : toNat u ≤ length text - suc p = rw (here, ← length-drop) (flag-within k (drop (suc p) text)) in
+      let f : toNat u ≤ length text - suc p = rw (← length-drop) (flag-within k (drop (suc p) text)) in
       let l : countLength (drop (p + 1 + b) text) ≤ length text - (p + 1 + b) = rw (← length-drop) (count-within (drop (p + 1 + b) text)) in
-      omega (arith, s .count .1, s .bit, s .start)
+      omega (arith, s .tail .2, bit, s .start)
 
   pub read-item : v ≤ 4098 → hasMeaning packing k (countFrom v) ≡ true → (t : ℕ) → t ≡ toNat (takesSlot k)
       → ReadAs packing text p (Item (d + 256 * b + 512 * v) (e - (p + 1)) t)
   read-item h m t slot =
-      let w : d + 256 * b + 512 * v ≡ wordOf d u v = ap (λ (x : ℕ). d + 256 * x + 512 * v) (s .bit) in
-      let code : known (typeNumbered d) ≡ k = ap known (s .numbered) in
+      let w : d + 256 * b + 512 * v ≡ wordOf d u v = ap (λ (x : ℕ). d + 256 * x + 512 * v) bit in
+      let small : d < 256 = omega (arith, s .low) in
       record {
-        step = rw (w, more) (step-field packing p _ _ (s .no-space) k (s .type) u here v number h d (s .small) (s .numbered) m);
-        told = (slot ∙ (rw (w, word-field d u v (s .small), code)), omega (arith, inside, s .start, s .count .1));
+        step = rw (w, more) (step-field packing p _ _ (s .no-space) k typed u refl v number h d small numbered m);
+        told = (slot ∙ (rw (w, word-field d u v small)), omega (arith, inside, s .start, s .tail .2));
       }

@@ -3,7 +3,7 @@
 use Prim.Native.Nat.{ℕ}
 use mathlib.Core.Bool.{Bool, true, false}
 use Rattle.layout.specs.declared.Refusal.{Refusal}
-use Rattle.layout.specs.declared.Refusal.the-variants.{BadSize, UnknownType, CountTooLarge, CountMisused, WrongSlots, NotSet, BadSlot, WrongKind, WrongAmount, BadDigit, NoRoom}
+use Rattle.layout.specs.declared.Refusal.the-variants.{BadSize, UnknownType, CountTooLarge, CountMisused, WrongSlots, NotSet, BadSlot, WrongKind, WrongAmount, BadDigit, NoRoom, MarkOutOfRange}
 
 infixr 10 if_then_else_
 abbrev pub if_then_else_ {ℓ} : {A : Type ℓ} → Bool → A → A → A
@@ -23,6 +23,7 @@ numberOf WrongKind = 8
 numberOf WrongAmount = 9
 numberOf BadDigit = 10
 numberOf NoRoom = 11
+numberOf MarkOutOfRange = 14
 
 -- what a check gives: a value, or a refusal and its place
 pub data Result (A : Type 0) : Type 0 where

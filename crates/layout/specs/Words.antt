@@ -9,6 +9,7 @@ use lib.Dec.{eqb, leb, ltb}
 use Rattle.layout.specs.declared.Code.{Code}
 use Rattle.layout.specs.declared.Code.the-variants.{Data, Move}
 use Rattle.layout.specs.declared.Motion.the-variants.{Skip, Back, Goto}
+use Rattle.layout.specs.declared.Shape.{Shape}
 use Rattle.layout.specs.declared.Shape.the-variants.{Text, Digits, Integers}
 use Rattle.layout.specs.declared.Count.{Count}
 use Rattle.layout.specs.declared.Count.the-variants.{Absent, Star, Times}
@@ -50,6 +51,16 @@ abbrev pub known : Typed → Code
 known (Known k) = k
 known Unknown = Move Back
 
+-- the form of what takes a slot; a move, which takes none, stands here as `a`
+abbrev pub shapeOf : Code → Shape
+shapeOf (Data s) = s
+shapeOf (Move m) = Text 0
+
+-- the form of a type by its number: 0 to 13 take a slot
+unfoldable pub shapeNumbered : ℕ → Shape
+unfolding typeNumbered
+shapeNumbered d = shapeOf (known (typeNumbered d))
+
 unfoldable pub fieldOf : ℕ → Field
 unfolding typeNumbered
 fieldOf w = record { code = known (typeNumbered (w % 256)); unsigned = eqb (w / 256 % 2) 1; count = countFrom (w / 512) }
@@ -84,6 +95,11 @@ decoded n ws = map fieldOf (take n ws)
 -- the slots that one field takes
 abbrev pub slotsTaken : Field → ℕ
 slotsTaken f = toNat (takesSlot (f .code))
+
+-- what a word tells before it is decoded: how many slots its field takes
+pub record SlotsIn (w r : ℕ) : Type 0 where
+  pub field : FieldOf w (fieldOf w)
+  pub taken : r ≡ slotsTaken (fieldOf w)
 
 abbrev pub parsedAs : Result (List Field) → Parsed
 parsedAs (ok fs) = Fields (length fs) (slotCount fs)

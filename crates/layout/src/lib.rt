@@ -1,10 +1,10 @@
 // The layout reader: the text of a layout, read once into one word for each field.
 
 ghost use mathlib.Core.Path.{_≡_};
-ghost use Prim.Native.Nat.{_+_, _-_, _*_, _≤_, _<_, min};
+ghost use Prim.Native.Nat.{_+_, _-_, _*_, _^_, _≤_, _<_, min};
 ghost use lib.ListN.{length, drop, getD};
 ghost use Rattle.layout.specs.Layout.{typeOf, digitRun, decimal, countOf, countLength, flagged, takesFlag, takesSlot, hasMeaning, toNat, fieldsOf};
-ghost use Rattle.layout.specs.Words.{SpacesEnd, typeNumbered, widthNumbered, countFrom, known, FieldOf, heldNumber, ReadAs, Parses};
+ghost use Rattle.layout.specs.Words.{SpacesEnd, typeNumbered, widthNumbered, countFrom, known, FieldOf, SlotsIn, heldNumber, ReadAs, Parses};
 
 // The form of a value that takes a slot.
 pub enum Shape {
@@ -42,6 +42,7 @@ pub enum Refusal {
     WrongAmount,
     BadDigit,
     NoRoom,
+    MarkOutOfRange,
 }
 
 pub enum Count {
@@ -80,29 +81,48 @@ struct Numeral {
     next: usize,
 }
 
-// The number of a type character's type, by which `type_numbered` computes it; 17 for an unknown one.
+// The types up to this number take a slot, those above it move the cursor.
+pub const LAST_DATA: u32 = 13;
+
+// What follows a type character: 1 for the flag, the number of the count, held, and the place after them.
+struct Tail {
+    flag: u32,
+    value: u32,
+    next: usize,
+}
+
+// The number of the type whose character stands n places after `@`; above 16 where there is none. The arm of 18 fills gaps, so that the compiler makes a table.
+fn letter(n: u8) -> u8
+    ensures { λ r. ⌜ (typeOf (n + 64) ≡ typeNumbered r) × (r ≤ 18) ⌝ }
+{
+    match n {
+        0 => 16,
+        1 => 1,
+        2 => 3,
+        8 => 5,
+        9 => 11,
+        19 => 9,
+        23 => 13,
+        24 => 15,
+        33 => 0,
+        34 => 2,
+        35 => 6,
+        40 => 4,
+        41 => 10,
+        51 => 8,
+        55 => 12,
+        56 => 14,
+        3..=7 | 36..=39 | 42 | 63 => 18,
+        _ => 17,
+    }
+}
+
+// The number of a type character's type, by which `type_numbered` computes it; above 16 for an unknown one. All of them are among the 64 characters from `@` on.
 fn number_of(c: u8) -> u8
     ensures { λ r. ⌜ typeOf c ≡ typeNumbered r ⌝ }
 {
-    match c {
-        b'a' => 0,
-        b'A' => 1,
-        b'b' => 2,
-        b'B' => 3,
-        b'h' => 4,
-        b'H' => 5,
-        b'c' => 6,
-        b's' => 8,
-        b'S' => 9,
-        b'i' => 10,
-        b'I' => 11,
-        b'w' => 12,
-        b'W' => 13,
-        b'x' => 14,
-        b'X' => 15,
-        b'@' => 16,
-        _ => 17,
-    }
+    let n = letter(c % 64);
+    if c / 64 == 1 { n } else { n + 32 }
 }
 
 fn width(k: u8) -> usize
@@ -115,6 +135,14 @@ fn width(k: u8) -> usize
         return 2;
     }
     if k < 12 { 4 } else { 8 }
+}
+
+// The bytes of an integer of type d, as a power of two.
+pub fn width_power(d: u32) -> u32
+    requires { ⌜ (5 < d) × (d ≤ 13) ⌝ }
+    ensures { λ r. ⌜ (2 ^ r ≡ widthNumbered d) × (r ≤ 3) ⌝ }
+{
+    d / 2 - 3
 }
 
 fn type_numbered(k: u8) -> Typed
@@ -194,6 +222,12 @@ fn count_at(text: &[u8], at: usize) -> Numeral
         return Numeral { value: 0, next: at };
     }
     let c = text[at];
+    if c < 42 {
+        return Numeral { value: 0, next: at };
+    }
+    if 57 < c {
+        return Numeral { value: 0, next: at };
+    }
     if c == 42 {
         return Numeral {
             value: 1,
@@ -203,9 +237,6 @@ fn count_at(text: &[u8], at: usize) -> Numeral
     if c < 48 {
         return Numeral { value: 0, next: at };
     }
-    if 57 < c {
-        return Numeral { value: 0, next: at };
-    }
     let n = number(text, at);
     Numeral {
         value: n.value + 2,
@@ -213,17 +244,14 @@ fn count_at(text: &[u8], at: usize) -> Numeral
     }
 }
 
-fn takes_flag(k: Code) -> bool
-    ensures { λ r. ⌜ r ≡ takesFlag k ⌝ }
+// whether the type of a number takes the flag
+fn takes_flag(d: u8) -> bool
+    ensures { λ r. ⌜ r ≡ takesFlag (known (typeNumbered d)) ⌝ }
 {
-    let Code::Data(s) = k else {
+    if d < 6 {
         return false;
-    };
-    match s {
-        Shape::Text(_) => false,
-        Shape::Digits(_, _) => false,
-        Shape::Integers(_, _) => true,
     }
+    d < 14
 }
 
 // How many slots a field of a type takes.
@@ -233,16 +261,46 @@ pub fn slots_of(k: Code) -> usize
     if let Code::Data(_) = k { 1 } else { 0 }
 }
 
-fn has_flag(text: &[u8], at: usize, k: Code) -> bool
-    ensures { λ r. ⌜ r ≡ flagged k (drop at (now (text .entry))) ⌝ }
+// the flag and the count that stand at `at`, after the type character of the type with number d
+fn tail_at(text: &[u8], at: usize, d: u8) -> Tail
+    ensures { λ r. ⌜ (r .flag ≡ toNat (flagged (known (typeNumbered d)) (drop at (now (text .entry))))) × (r .value ≡ heldNumber (countOf (drop (at + r .flag) (now (text .entry))))) × (r .next ≡ at + r .flag + countLength (drop (at + r .flag) (now (text .entry)))) ⌝ }
 {
     if text.len() <= at {
-        return false;
+        return Tail {
+            flag: 0,
+            value: 0,
+            next: at,
+        };
     }
-    if text[at] != 117 {
-        return false;
+    let c = text[at];
+    if 57 < c {
+        if c != 117 {
+            return Tail {
+                flag: 0,
+                value: 0,
+                next: at,
+            };
+        }
+        if !takes_flag(d) {
+            return Tail {
+                flag: 0,
+                value: 0,
+                next: at,
+            };
+        }
+        let m = count_at(text, at + 1);
+        return Tail {
+            flag: 1,
+            value: m.value,
+            next: m.next,
+        };
     }
-    takes_flag(k)
+    let n = count_at(text, at);
+    Tail {
+        flag: 0,
+        value: n.value,
+        next: n.next,
+    }
 }
 
 fn bit(b: bool) -> usize
@@ -251,23 +309,23 @@ fn bit(b: bool) -> usize
     if b { 1 } else { 0 }
 }
 
-// number 4 is not due; the count is given by its number
-fn has_meaning(packing: bool, k: Code, n: u32) -> bool
-    ensures { λ r. ⌜ r ≡ hasMeaning packing k (countFrom n) ⌝ }
+// number 4 is not due; type and count are given by their numbers
+fn has_meaning(packing: bool, d: u8, n: u32) -> bool
+    ensures { λ r. ⌜ r ≡ hasMeaning packing (known (typeNumbered d)) (countFrom n) ⌝ }
 {
-    let Code::Move(m) = k else {
+    if d < 14 {
         return true;
-    };
-    match m {
-        Motion::Skip => {
-            if n == 1 {
-                return !packing;
-            }
-            true
-        }
-        Motion::Back => true,
-        Motion::Goto => n != 0,
     }
+    if d == 14 {
+        if n == 1 {
+            return !packing;
+        }
+        return true;
+    }
+    if d == 16 {
+        return n != 0;
+    }
+    true
 }
 
 // the field whose type character stands at p
@@ -275,26 +333,21 @@ fn read_field(text: &[u8], packing: bool, p: usize) -> Read
     requires { ⌜ (p < length (now text)) × (getD (now text) p 0 ≡ 32 → ⊥) ⌝ }
     ensures { λ r. ⌜ ReadAs packing (now (text .entry)) p r ⌝ }
 {
-    let c = text[p];
-    let d = number_of(c);
-    let t = type_numbered(d);
-    let Typed::Known(k) = t else {
+    let d = number_of(text[p]);
+    if 16 < d {
         return Read::Bad(Refusal::UnknownType);
-    };
-    let u = bit(has_flag(text, p + 1, k));
-    let n = count_at(text, p + 1 + u);
-    let v = n.value;
+    }
+    let t = tail_at(text, p + 1, d);
+    let v = t.value;
     if 4098 < v {
         return Read::Bad(Refusal::CountTooLarge);
     }
-    if !has_meaning(packing, k, v) {
+    if !has_meaning(packing, d, v) {
         return Read::Bad(Refusal::CountMisused);
     }
-    Read::Item(
-        d as u32 + 256 * u as u32 + 512 * v,
-        n.next - (p + 1),
-        slots_of(k),
-    )
+    let word = d as u32 + 256 * t.flag + 512 * v;
+    let more = t.next - (p + 1);
+    Read::Item(word, more, bit(d < 14))
 }
 
 // Reads a layout of at most 256 bytes: the first words become its fields.
@@ -325,8 +378,8 @@ pub fn parse(text: &[u8], packing: bool, words: &mut [u32; 256]) -> Parsed
     }
 }
 
-// the count that a number stands for
-fn count_from(n: u32) -> Count
+// The count that a number stands for.
+pub fn count_from(n: u32) -> Count
     ensures { λ r. ⌜ r ≡ countFrom n ⌝ }
 {
     if n == 0 {
@@ -352,11 +405,18 @@ fn code_numbered(k: u8) -> Code
 pub fn field_of(word: u32) -> Field
     ensures { λ r. ⌜ FieldOf word r ⌝ }
 {
-    let k = code_numbered((word % 256) as u8);
     let n = count_from(word / 512);
+    let k = code_numbered((word % 256) as u8);
     Field {
         code: k,
         unsigned: word / 256 % 2 == 1,
         count: n,
     }
+}
+
+// How many slots the field of a word takes: the types that take one are those numbered below 14.
+pub fn slots_in(word: u32) -> usize
+    ensures { λ r. ⌜ SlotsIn word r ⌝ }
+{
+    if word % 256 < 14 { 1 } else { 0 }
 }

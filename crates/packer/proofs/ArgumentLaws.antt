@@ -1,26 +1,28 @@
 -- The check of an argument, line by line, on plain values.
-use Prim.Native.Nat.{ℕ, _+_, _*_, _≤_, min}
+use Prim.Native.Nat.{ℕ, _+_, _*_, _%_, _≤_, _<_, min}
 use native.Mathlib.Omega.{arith}
-use mathlib.Core.Path.{_≡_, sym, ap, _∙_}
+use mathlib.Core.Path.{_≡_, refl, sym, ap, _∙_}
 use mathlib.Core.Bool.{Bool, true, false, _&&_, not}
 use mathlib.Core.List.{List}
-use borrow.Author.Tests.{leb-true}
+use borrow.Author.Tests.{le-leb, leb-true, eq-eqb, ne-eqb}
 use lib.Dec.{eqb, leb}
 use lib.ListN.{length, take, drop, length-take}
 use lib.Seq.{take-take, take-all}
 use Rattle.layout.specs.declared.Shape.{Shape}
-use Rattle.layout.specs.declared.Shape.the-variants.{Digits}
+use Rattle.layout.specs.declared.Shape.the-variants.{Text, Digits, Integers}
 use Rattle.layout.specs.declared.Count.{Count}
 use Rattle.layout.specs.declared.Refusal.the-variants.{NotSet, BadSlot, WrongKind, WrongAmount, BadDigit}
 use Rattle.layout.specs.Refusals.{ok}
+use Rattle.layout.specs.Words.{shapeNumbered}
+use Rattle.layout.proofs.Numbered.{shape-text, shape-digits}
 use Rattle.layout.proofs.Laws.{demanded, demand-true}
 use Rattle.record.specs.Bytes.{part}
 use Rattle.record.proofs.Bytes.{and-true}
 use Rattle.record.specs.Table.{Slot, shown, itemSize}
 use Rattle.record.specs.Geometry.{amount}
-use Rattle.record.specs.Packing.{kindFits, amountFits, digitsFit, allDigits, insideArea, argumentFits}
+use Rattle.record.specs.Packing.{kindFits, enough, amountFits, digitsFit, allDigits, insideArea, argumentFits}
 use Rattle.record.proofs.Fields.{split}
-use Rattle.packer.specs.Arguments.{verdictOf}
+use Rattle.packer.specs.Arguments.{verdictOf, Sound}
 use Rattle.packer.specs.declared.arguments.Verdict.the-variants.{Fits, Refused}
 
 -- ---- each answer of the check
@@ -102,3 +104,48 @@ pub digits-part : (area : List ℕ) (hex high : Bool) (n : ℕ) (a : Slot) → e
     → allDigits hex (part area (a .start) (min n (a .len))) ≡ digitsFit (Digits hex high) n (shown area a .items)
 unfolding digitsFit
 digits-part area hex high n a e = rw (shown-string area a e) (ap (allDigits hex) (sym (take-part n (a .len) (drop (a .start) area))))
+
+-- ---- the quick test: where it passes, no line is due
+
+module _ (area : List ℕ) (n : Count) (a : Slot) where
+  -- a test that does not pass says nothing
+  pub none-sound : (s : Shape) → Sound false area s n a
+  none-sound s = record { fits = λ e k. let z : _≡_ {A = ℕ} 0 1 = cc in absurd (omega arith) }
+
+  -- no line is due
+  fine : (s : Shape) (k : ℕ) → eqb (a .kind) 0 ≡ false → leb (a .kind) 3 ≡ true → insideArea area a ≡ true → kindFits s (a .kind) ≡ true
+      → amountFits s n (a .len) ≡ true → digitsFit s (amount n (a .len)) (shown area a .items) ≡ true → argumentFits area s n k a ≡ ok tt
+  unfolding argumentFits
+  fine s k e₁ e₂ e₃ e₄ e₅ e₆ = simp (e₁, e₂, e₃, e₄, e₅, e₆)
+
+  pub integers-sound : 2 ≤ a .kind → a .kind ≤ 3 → a .start + a .len * 8 ≤ length area → (t : Bool) → t ≡ enough n (a .len)
+      → (w : ℕ) (big : Bool) → Sound t area (Integers w big) n a
+  unfolding digitsFit
+  integers-sound h l i t q w big =
+      let e : eqb (a .kind) 1 ≡ false = ne-eqb (a .kind) 1 (λ x. omega arith) in
+      record {
+        fits = λ p k.
+            fine (Integers w big) k (ne-eqb (a .kind) 0 (λ x. omega arith)) (le-leb (a .kind) 3 l) (rw e (le-leb _ _ i)) (rw e) (sym q ∙ p) refl;
+      }
+
+  module _ (h : a .kind ≡ 1) (i : a .start + a .len ≤ length area) where
+    string : eqb (a .kind) 1 ≡ true
+    string = eq-eqb (a .kind) 1 h
+
+    string-fine : (s : Shape) (k : ℕ) → kindFits s (a .kind) ≡ true → amountFits s n (a .len) ≡ true
+        → digitsFit s (amount n (a .len)) (shown area a .items) ≡ true → argumentFits area s n k a ≡ ok tt
+    string-fine s k e₄ e₅ e₆ =
+        fine s k (ne-eqb (a .kind) 0 (λ x. omega arith)) (le-leb (a .kind) 3 (omega arith))
+        (rw string (le-leb (a .start + a .len * 1) (length area) (omega arith))) e₄ e₅ e₆
+
+    pub text-sound : (d : ℕ) → d < 2 → Sound true area (shapeNumbered d) n a
+    unfolding digitsFit
+    text-sound d l = rw (shape-text d l) (record { fits = λ p k. string-fine (Text (32 * d)) k string refl refl })
+
+    pub digits-sound : (d : ℕ) → 2 ≤ d → d < 6 → (t : Bool) → t ≡ allDigits (leb 4 d) (part area (a .start) (min (amount n (a .len)) (a .len)))
+        → Sound t area (shapeNumbered d) n a
+    digits-sound d l m t q =
+        let hex : Bool = leb 4 d in
+        let high : Bool = eqb (d % 2) 1 in
+        let e : t ≡ digitsFit (Digits hex high) (amount n (a .len)) (shown area a .items) = q ∙ digits-part area hex high (amount n (a .len)) a string in
+        rw (shape-digits d l m) (record { fits = λ p k. string-fine (Digits hex high) k string refl (sym e ∙ p) })

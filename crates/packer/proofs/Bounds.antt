@@ -1,27 +1,16 @@
 -- Bounds of the numbers that the passes compute.
 use Prim.Native.Nat.{ℕ, _+_, _≤_, _<_}
 use native.Mathlib.Omega.{arith}
-use mathlib.Core.Bool.{Bool, true, false}
-use lib.Dec.{eqb}
 use Rattle.layout.specs.declared.Code.{Code}
 use Rattle.layout.specs.declared.Code.the-variants.{Data, Move}
 use Rattle.layout.specs.declared.Motion.the-variants.{Skip, Back, Goto}
 use Rattle.layout.specs.declared.Count.{Count}
-use Rattle.layout.specs.Refusals.{if_then_else_}
 use Rattle.layout.specs.Words.{FitCode, FitCount}
 use Rattle.record.specs.declared.Cursor.{Cursor}
-use Rattle.record.specs.Table.{itemSize}
 use Rattle.record.specs.Geometry.{amount}
 use Rattle.record.proofs.Moves.{amount-small}
 use Rattle.record.proofs.Bounds.{bytes-small}
 use Rattle.packer.specs.Measure.{advance}
-
-pub item-small : (kind : ℕ) → itemSize kind ≤ 8
-item-small kind = chosen (eqb kind 1)
-  where
-    chosen : (t : Bool) → (if t then 1 else 8) ≤ 8
-    chosen true = omega arith
-    chosen false = omega arith
 
 -- the cursor is not past the end
 pub advance-within : (c : Cursor) (k : Code) (n : Count) (have : ℕ) → c .at ≤ c .end → advance c k n have .at ≤ advance c k n have .end

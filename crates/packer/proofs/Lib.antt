@@ -1,5 +1,4 @@
 -- Laws of the packer's passes.
-mod SlotLaws
 mod Bounds
 mod ArgumentLaws
 mod MeasureLaws

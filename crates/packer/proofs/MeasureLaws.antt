@@ -1,5 +1,5 @@
 -- The measuring pass on plain values: one field, and what its loop keeps.
-use Prim.Native.Nat.{ℕ, suc, _+_, _*_, _/_, _≤_, _<_}
+use Prim.Native.Nat.{ℕ, suc, _+_, _*_, _/_, _%_, _≤_, _<_}
 use native.Mathlib.Nat.{zero-add}
 use native.Mathlib.Omega.{arith}
 use mathlib.Core.Path.{_≡_, refl, sym, ap, _∙_}
@@ -17,20 +17,22 @@ use Rattle.layout.specs.declared.Refusal.{Refusal}
 use Rattle.layout.specs.declared.Refusal.the-variants.{NotSet, BadSlot, WrongKind, WrongAmount, BadDigit}
 use Rattle.layout.specs.Refusals.{if_then_else_, Result, ok, refused, _>>=_, demand}
 use Rattle.layout.specs.Layout.{slotCount, takesSlot, toNat}
-use Rattle.layout.specs.Words.{slotsTaken, fieldOf, decoded, FieldOf}
+use Rattle.layout.specs.Words.{shapeNumbered, countFrom, slotsTaken, fieldOf, decoded, FieldOf}
 use Rattle.layout.proofs.Laws.{bound, ok-inj}
-use Rattle.layout.proofs.Decoded.{next-field, no-field}
+use Rattle.layout.proofs.Decoded.{word-shape, word-count, next-field, no-field}
 use Rattle.record.specs.declared.Cursor.{Cursor}
 use Rattle.record.specs.Table.{Slot, shown, slotsOf, slotWidth}
 use Rattle.record.specs.Geometry.{amount, bytesFor}
 use Rattle.record.specs.Packing.{kindFits, amountFits, digitsFit, insideArea, argumentFits, nextSlot}
+use Rattle.record.specs.declared.slots.Argument.{Argument}
 use Rattle.packer.specs.declared.arguments.Verdict.the-variants.{Fits, Refused}
 use Rattle.packer.specs.declared.measure.Turn.the-variants.{Next, Stop}
 use Rattle.packer.specs.declared.measure.Measured.the-variants.{Length}
 use Rattle.packer.specs.declared.measure.Measured.the-variants as measured
-use Rattle.packer.specs.Arguments.{slotAt, verdictOf}
+use Rattle.record.specs.Slots.{slotOf, slotAt}
+use Rattle.packer.specs.Arguments.{verdictOf, Sound}
 use Rattle.packer.specs.Measure.{origin, past, advance, stepped, checked, Prepared, Ready, turnOf, measuredOf, Measures}
-use Rattle.packer.proofs.SlotLaws.{next-slot}
+use Rattle.record.proofs.SlotLaws.{next-slot}
 use Rattle.packer.proofs.Bounds.{advance-within, advance-small}
 
 -- ---- one field
@@ -53,6 +55,21 @@ module _ (area : List ℕ) (k : ℕ) (t : Slot) (c : Cursor) (s : Shape) (n : Co
   pub step-next : Fits ≡ verdictOf (argumentFits area s n k t) → Next (past c (bytesFor s (amount n (t .len)))) ≡ turnOf (stepped area k t c (Data s) n)
   unfolding stepped
   step-next e = next-by (argumentFits area s n k t) e
+
+-- a word's field by the number of its type, below 14
+
+module _ (ns : List ℕ) (k w : ℕ) (c : Cursor) where
+  pub ready-data : Ready ns k c (fieldOf w .code) (fieldOf w .count) → w % 256 < 14 → Ready ns k c (Data (shapeNumbered (w % 256))) (countFrom (w / 512))
+  ready-data r h = rw (word-shape w h, word-count w) at r
+
+  -- an argument that passes the quick test is refused by no line
+  pub quick-next : (area : List ℕ) → w % 256 < 14 → (a : Argument) → slotOf a ≡ slotAt ns k → (n : Count) → n ≡ countFrom (w / 512)
+      → (t : Bool) → Sound t area (shapeNumbered (w % 256)) n (slotOf a) → t ≡ true
+      → (items : ℕ) → items ≡ amount n (a .len) → (bytes : ℕ) → bytes ≡ bytesFor (shapeNumbered (w % 256)) items → (r : Cursor) → r ≡ past c bytes
+      → Next r ≡ turnOf (stepped area k (slotAt ns k) c (fieldOf w .code) (fieldOf w .count))
+  quick-next area h a same n e t s p items i bytes b r q =
+      rw (word-shape w h, word-count w, ← e, ← same)
+      (ap Next (q ∙ rw (b, i)) ∙ step-next area k (slotOf a) c (shapeNumbered (w % 256)) n (sym (ap verdictOf (s .fits p k))))
 
 -- what an answer says of the step
 pub turn-next : (o : Result Cursor) (d : Cursor) → Next d ≡ turnOf o → o ≡ ok d

@@ -1,5 +1,5 @@
 -- The writing pass on plain values: one field, and what its loop keeps.
-use Prim.Native.Nat.{ℕ, _+_, _*_, _≤_, _<_}
+use Prim.Native.Nat.{ℕ, _+_, _*_, _/_, _%_, _≤_, _<_}
 use native.Mathlib.Omega.{arith}
 use mathlib.Core.Path.{_≡_, refl, sym, _∙_, subst}
 use mathlib.Core.List.{List, _∷_}
@@ -13,19 +13,19 @@ use Rattle.layout.specs.declared.Count.{Count}
 use Rattle.layout.specs.declared.Field.{Field}
 use Rattle.layout.specs.Refusals.{ok, _>>=_}
 use Rattle.layout.specs.Layout.{takesSlot, toNat}
-use Rattle.layout.specs.Words.{slotsTaken, decoded, FieldOf}
+use Rattle.layout.specs.Words.{shapeNumbered, countFrom, fieldOf, slotsTaken, decoded, FieldOf}
 use Rattle.layout.proofs.Laws.{bound, ok-inj}
-use Rattle.layout.proofs.Decoded.{no-field}
+use Rattle.layout.proofs.Decoded.{word-shape, word-count, word-slotless, no-field}
 use Rattle.record.specs.declared.Cursor.{Cursor}
 use Rattle.record.specs.Bytes.{storeAt}
 use Rattle.record.specs.Table.{Slot, slotsOf, slotWidth, shown}
 use Rattle.record.specs.Geometry.{amount, bytesFor}
 use Rattle.record.specs.Packing.{stored, argumentFits, nextSlot}
-use Rattle.packer.specs.declared.slots.Argument.{Argument}
-use Rattle.packer.specs.Arguments.{slotOf, slotAt}
+use Rattle.record.specs.declared.slots.Argument.{Argument}
+use Rattle.record.specs.Slots.{slotOf, slotAt}
 use Rattle.packer.specs.Measure.{origin, past, advance, stepped, checked, Room}
 use Rattle.packer.specs.Writing.{put, written, Storable, Movable, Puttable, Writable}
-use Rattle.packer.proofs.SlotLaws.{next-slot}
+use Rattle.record.proofs.SlotLaws.{next-slot}
 use Rattle.packer.proofs.Bounds.{advance-within}
 use Rattle.packer.proofs.ArgumentLaws.{checked-argument}
 use Rattle.packer.proofs.StoreLaws.{amounts-enough}
@@ -33,6 +33,17 @@ use Rattle.packer.proofs.MeasureLaws.{stepped-advance, Standing, standi
 use Rattle.packer.proofs.RunLaws.{room-ok, room-step, room-end}
 
 -- ---- one field
+
+-- a word's field by the number of its type, below 14 and from there on
+pub puttable-data : (area ns : List ℕ) (k w : ℕ) (c : Cursor) (size : ℕ) → Puttable area ns k c (fieldOf w .code) (fieldOf w .count) size → w % 256 < 14
+    → Puttable area ns k c (Data (shapeNumbered (w % 256))) (countFrom (w / 512)) size
+puttable-data area ns k w c size p h = rw (word-shape w h, word-count w) at p
+
+pub no-value : (w : ℕ) (f : Field) (s : Shape) → f ≡ fieldOf w → 14 ≤ w % 256 → f .code ≡ Data s → ⊥
+no-value w f s e h q =
+    let none : slotsTaken f ≡ 0 = rw e (word-slotless w h) in
+    let one : slotsTaken f ≡ 1 = rw q in
+    omega arith
 
 module _ (area ns : List ℕ) (k : ℕ) (c : Cursor) (n : Count) (size : ℕ) where
   module _ (s : Shape) (p : Puttable area ns k c (Data s) n size) where

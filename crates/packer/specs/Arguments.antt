@@ -1,28 +1,20 @@
--- A slot as the code takes it out of the lent numbers, and what a check of it answers.
-use Prim.Native.Nat.{ℕ, _+_, _*_, _<_}
+-- What a check of an argument answers.
+use Prim.Native.Nat.{ℕ}
 use mathlib.Core.Path.{_≡_}
+use mathlib.Core.Bool.{Bool, true}
 use mathlib.Core.List.{List}
-use lib.ListN.{getD}
+use Rattle.layout.specs.declared.Shape.{Shape}
+use Rattle.layout.specs.declared.Count.{Count}
 use Rattle.layout.specs.Refusals.{Result, ok, refused}
-use Rattle.record.specs.Table.{Slot, slotWidth}
-use Rattle.packer.specs.declared.slots.Argument.{Argument}
+use Rattle.record.specs.Table.{Slot}
+use Rattle.record.specs.Packing.{argumentFits}
 use Rattle.packer.specs.declared.arguments.Verdict.{Verdict}
 use Rattle.packer.specs.declared.arguments.Verdict.the-variants.{Fits, Refused}
-
--- the slot of the definitions that the code's argument is
-abbrev pub slotOf : Argument → Slot
-slotOf a = record { kind = a .kind; start = a .start; len = a .len }
-
--- slot number k of a lent run of numbers
-unfoldable pub slotAt : List ℕ → ℕ → Slot
-slotAt ns k = record { kind = getD ns (slotWidth * k) 0; start = getD ns (slotWidth * k + 1) 0; len = getD ns (slotWidth * k + 2) 0 }
-
--- the code's numbers stay far from wrapping
-pub record SlotAt (ns : List ℕ) (k : ℕ) (a : Argument) : Type 0 where
-  pub same : slotOf a ≡ slotAt ns k
-  pub start : a .start < 4294967296
-  pub len : a .len < 4294967296
 
 abbrev pub verdictOf : Result (Unit {0}) → Verdict
 verdictOf (ok a) = Fits
 verdictOf (refused why place) = Refused why place
+
+-- a quick test of an argument is sound: where it passes, no line is due, whatever the slot's number
+pub record Sound (passes : Bool) (area : List ℕ) (s : Shape) (n : Count) (a : Slot) : Type 0 where
+  pub fits : passes ≡ true → (k : ℕ) → argumentFits area s n k a ≡ ok tt

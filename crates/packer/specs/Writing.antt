@@ -18,7 +18,7 @@ use Rattle.record.specs.Bytes.{storeAt}
 use Rattle.record.specs.Table.{Slot, slotsOf, shown, maxRecord}
 use Rattle.record.specs.Geometry.{amount, bytesFor, gotoIn}
 use Rattle.record.specs.Packing.{stored, nextSlot, kindFits, digitsFit, insideArea}
-use Rattle.packer.specs.Arguments.{slotAt}
+use Rattle.record.specs.Slots.{slotAt}
 use Rattle.packer.specs.Measure.{origin, moved, advance, stepped, checked, Room, Ready, Prepared}
 
 -- `x` stores zeros; `@` past the highest position fills the gap with them

@@ -1,39 +1,23 @@
 // The check of one argument: lines 6 to 10 of the table.
 ghost use mathlib.Core.Path.{_≡_};
-ghost use mathlib.Core.Bool.{true, _&&_};
-ghost use Prim.Native.Nat.{_+_, _*_, _<_};
+ghost use mathlib.Core.Bool.{Bool, true, _&&_};
+ghost use Prim.Native.Nat.{ℕ, _+_, _*_, _≤_, _<_};
 ghost use lib.Dec.{leb};
+ghost use Rattle.layout.specs.declared.Shape.the-variants.{Integers};
+ghost use Rattle.layout.specs.Words.{shapeNumbered};
 ghost use Rattle.record.specs.Table.{itemSize, shown};
 ghost use Rattle.record.specs.Packing.{kindFits, enough, amountFits, digitsFit, insideArea, argumentFits};
-ghost use Rattle.packer.specs.Arguments.{slotOf, verdictOf};
-use crate::slots::Argument;
+ghost use Rattle.record.specs.Slots.{slotOf};
+ghost use Rattle.packer.specs.Arguments.{verdictOf, Sound};
 use layout::Count;
 use layout::Refusal;
 use layout::Shape;
+use record::slots::Argument;
 
 // What a check answers: nothing is wrong, or the refusal and its place.
 pub enum Verdict {
     Fits,
     Refused(Refusal, usize),
-}
-
-// The bytes that an item of a kind takes in the area.
-fn item_size(kind: usize) -> usize
-    ensures { λ r. ⌜ r ≡ itemSize kind ⌝ }
-{
-    if kind == 1 { 1 } else { 8 }
-}
-
-// Line 7 is not due, in an area of so many bytes.
-fn is_inside(a: Argument, area: usize) -> bool
-    requires { ⌜ (a .start < 4294967296) × (a .len < 4294967296) ⌝ }
-    ensures { λ r. ⌜ r ≡ (leb (a .kind) 3 && leb (a .start + a .len * itemSize (a .kind)) area) ⌝ }
-{
-    let kind = a.kind;
-    if 3 < kind {
-        return false;
-    }
-    a.start + a.len * item_size(kind) <= area
 }
 
 // Line 8 is not due.
@@ -90,7 +74,7 @@ pub fn check(s: Shape, n: Count, a: Argument, k: usize, area: &[u8]) -> Verdict
     if a.kind == 0 {
         return Verdict::Refused(Refusal::NotSet, k);
     }
-    if !is_inside(a, area.len()) {
+    if !record::slots::is_inside(a, area.len()) {
         return Verdict::Refused(Refusal::BadSlot, k);
     }
     if !kind_fits(s, a.kind) {
@@ -103,4 +87,53 @@ pub fn check(s: Shape, n: Count, a: Argument, k: usize, area: &[u8]) -> Verdict
         return Verdict::Refused(Refusal::BadDigit, k);
     }
     Verdict::Fits
+}
+
+// ---- the quick test: the usual argument, which serves, is spared the lines
+
+// Integers serve: where this holds, nothing is wrong with them.
+fn integers_serve(n: Count, a: Argument, area: &[u8]) -> bool
+    requires { ⌜ (a .start < 4294967296) × (a .len < 4294967296) ⌝ }
+    ensures { λ r. ⌜ ((w : ℕ) (big : Bool) → Sound r (now (area .entry)) (Integers w big) n (slotOf a)) ⌝ }
+{
+    let kind = a.kind;
+    if kind < 2 {
+        return false;
+    }
+    if 3 < kind {
+        return false;
+    }
+    if area.len() < a.start + a.len * 8 {
+        return false;
+    }
+    is_enough(n, a.len)
+}
+
+// A string serves.
+fn string_serves(d: u32, n: Count, a: Argument, area: &[u8]) -> bool
+    requires { ⌜ (d < 6) × (a .start < 4294967296) × (a .len < 4294967296) ⌝ }
+    ensures { λ r. ⌜ Sound r (now (area .entry)) (shapeNumbered d) n (slotOf a) ⌝ }
+{
+    if a.kind != 1 {
+        return false;
+    }
+    if area.len() < a.start + a.len {
+        return false;
+    }
+    if d < 2 {
+        return true;
+    }
+    let items = record::amount(n, a.len);
+    codec::digits::all_digits(area, a.start, record::least(items, a.len), 4 <= d)
+}
+
+// The argument serves a field, by the number of the field's type. Where this does not hold, `check` finds what is wrong.
+pub fn serves(d: u32, n: Count, a: Argument, area: &[u8]) -> bool
+    requires { ⌜ (d ≤ 13) × (a .start < 4294967296) × (a .len < 4294967296) ⌝ }
+    ensures { λ r. ⌜ Sound r (now (area .entry)) (shapeNumbered d) n (slotOf a) ⌝ }
+{
+    if 5 < d {
+        return integers_serve(n, a, area);
+    }
+    string_serves(d, n, a, area)
 }

@@ -15,7 +15,6 @@ use record::Answer;
 
 pub mod arguments;
 pub mod measure;
-pub mod slots;
 pub mod write;
 
 // What is left once there is a slot for each field that takes one.

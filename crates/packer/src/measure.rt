@@ -2,13 +2,12 @@
 ghost use mathlib.Core.Path.{_≡_};
 ghost use Prim.Native.Nat.{_+_, _<_};
 ghost use Rattle.layout.specs.declared.Code.the-variants.{Data};
-ghost use Rattle.layout.specs.Words.{decoded, FitCount};
+ghost use Rattle.layout.specs.Words.{decoded, fieldOf, FitCount};
 ghost use Rattle.record.specs.Table.{slotsOf};
-ghost use Rattle.packer.specs.Arguments.{slotAt};
+ghost use Rattle.record.specs.Slots.{slotAt};
 ghost use Rattle.packer.specs.Measure.{origin, moved, Ready, Prepared, stepped, checked, turnOf, Measures};
 use crate::arguments;
 use crate::arguments::Verdict;
-use crate::slots;
 use layout::Code;
 use layout::Count;
 use layout::Motion;
@@ -40,14 +39,14 @@ fn moved(m: Motion, n: Count, c: Cursor) -> Cursor
     }
 }
 
-// One field of the pass.
-fn step(code: Code, n: Count, slots: &[u32], area: &[u8], k: usize, c: Cursor) -> Turn
+// One field of the pass, by the exact check of its argument.
+fn step_exactly(code: Code, n: Count, slots: &[u32], area: &[u8], k: usize, c: Cursor) -> Turn
     requires { ⌜ Ready (now slots) k c code n ⌝ }
     ensures { λ r. ⌜ r ≡ turnOf (stepped (now (area .entry)) k (slotAt (now (slots .entry)) k) c code n) ⌝ }
 {
     match code {
         Code::Data(s) => {
-            let a = slots::slot_at(slots, k);
+            let a = record::slots::slot_at(slots, k);
             let v = arguments::check(s, n, a, k, area);
             match v {
                 Verdict::Refused(why, place) => Turn::Stop(why, place),
@@ -61,6 +60,26 @@ fn step(code: Code, n: Count, slots: &[u32], area: &[u8], k: usize, c: Cursor) -
     }
 }
 
+// One field of the pass. A value whose argument passes the quick test is measured by the number of its type; the exact check does the rest.
+fn step(word: u32, slots: &[u32], area: &[u8], k: usize, c: Cursor) -> Turn
+    requires { ⌜ Ready (now slots) k c (fieldOf word .code) (fieldOf word .count) ⌝ }
+    ensures { λ r. ⌜ r ≡ turnOf (stepped (now (area .entry)) k (slotAt (now (slots .entry)) k) c (fieldOf word .code) (fieldOf word .count)) ⌝ }
+{
+    let d = word % 256;
+    if d < 14 {
+        let a = record::slots::slot_at(slots, k);
+        let n = layout::count_from(word / 512);
+        if arguments::serves(d, n, a, area) {
+            let bytes = record::bytes_numbered(d, record::amount(n, a.len));
+            return Turn::Next(c.store(bytes));
+        }
+    }
+    let f = layout::field_of(word);
+    let code = f.code;
+    let count = f.count;
+    step_exactly(code, count, slots, area, k, c)
+}
+
 // The pass over the fields in the first n words.
 pub fn measure(words: &[u32; 256], n: usize, slots: &[u32], area: &[u8]) -> Measured
     requires { ⌜ Prepared n (now words) (now slots) ⌝ }
@@ -70,17 +89,16 @@ pub fn measure(words: &[u32; 256], n: usize, slots: &[u32], area: &[u8]) -> Meas
     let mut k: usize = 0;
     let mut i: usize = 0;
     while i < n {
-        let f = layout::field_of(words[i]);
-        let code = f.code;
-        let count = f.count;
-        let t = step(code, count, slots, area, k, c);
+        let word = words[i];
+        let taken = layout::slots_in(word);
+        let t = step(word, slots, area, k, c);
         match t {
             Turn::Stop(why, place) => {
                 return Measured::Refused(why, place);
             }
             Turn::Next(d) => {
                 c = d;
-                k += layout::slots_of(code);
+                k += taken;
                 i += 1;
             }
         }

@@ -1,97 +1,87 @@
 // The writing pass: every field stored in the output.
 ghost use mathlib.Core.Path.{_≡_};
-ghost use mathlib.Core.Bool.{true};
-ghost use Prim.Native.Nat.{_+_, _*_, _≤_};
-ghost use lib.ListN.{length, take, drop};
-ghost use Rattle.layout.specs.declared.Shape.the-variants.{Digits, Integers};
-ghost use Rattle.layout.specs.Words.{decoded};
-ghost use Rattle.record.specs.Bytes.{part, storeAt, ceilDiv};
-ghost use Rattle.record.specs.Table.{slotsOf, shown, integersIn};
-ghost use Rattle.record.specs.Geometry.{perByte};
-ghost use Rattle.record.specs.Packing.{stored, allDigits};
-ghost use Rattle.packer.specs.Arguments.{slotOf, slotAt};
+ghost use Prim.Native.Nat.{_<_};
+ghost use lib.ListN.{length};
+ghost use Rattle.layout.specs.declared.Shape.the-variants.{Text, Digits, Integers};
+ghost use Rattle.layout.specs.Words.{decoded, fieldOf, shapeNumbered};
+ghost use Rattle.record.specs.Bytes.{storeAt};
+ghost use Rattle.record.specs.Table.{slotsOf, shown};
+ghost use Rattle.record.specs.Geometry.{bytesFor};
+ghost use Rattle.record.specs.Packing.{stored};
+ghost use Rattle.record.specs.Slots.{slotOf, slotAt};
 ghost use Rattle.packer.specs.Measure.{origin, moved, advance};
 ghost use Rattle.packer.specs.Writing.{putMove, put, written, Storable, Movable, Puttable, Writable};
-use crate::measure;
-use crate::slots;
-use crate::slots::Argument;
 use layout::Code;
 use layout::Count;
 use layout::Motion;
 use layout::Shape;
 use record::Cursor;
+use record::slots::Argument;
 
-// Digits, by a call with constants for each of the four types, so that the compiler makes a loop of its own for each.
+// n items of a string; tells how many bytes they fill.
+fn store_text(n: usize, a: Argument, area: &[u8], out: &mut [u8], at: usize, pad: u8) -> usize
+    requires { ⌜ Storable (now area) (Text pad) n (slotOf a) at (length (now out)) ⌝ }
+    ensures { λ r. ⌜ (r ≡ bytesFor (Text pad) n) × (now (out .exit) ≡ storeAt (now (out .entry)) at (stored (Text pad) n (shown (now (area .entry)) (slotOf a) .items))) ⌝ }
+{
+    codec::text::store(out, at, area, a.start, a.len, n, pad);
+    n
+}
+
+// n digits.
 fn store_digits(
+    n: usize,
+    a: Argument,
+    area: &[u8],
     out: &mut [u8],
     at: usize,
-    area: &[u8],
-    start: usize,
-    len: usize,
-    n: usize,
     hex: bool,
     high: bool,
-)
-    requires { ⌜ (n ≤ 65536) × (start + len ≤ length (now area)) × (at + ceilDiv n (perByte hex) ≤ length (now out)) × (allDigits hex (take n (part (now area) start len)) ≡ true) ⌝ }
-    ensures { λ _. ⌜ now (out .exit) ≡ storeAt (now (out .entry)) at (stored (Digits hex high) n (part (now (area .entry)) start len)) ⌝ }
+) -> usize
+    requires { ⌜ Storable (now area) (Digits hex high) n (slotOf a) at (length (now out)) ⌝ }
+    ensures { λ r. ⌜ (r ≡ bytesFor (Digits hex high) n) × (now (out .exit) ≡ storeAt (now (out .entry)) at (stored (Digits hex high) n (shown (now (area .entry)) (slotOf a) .items))) ⌝ }
 {
-    if hex {
-        if high {
-            return codec::digits::store(out, at, area, start, len, n, true, true);
-        }
-        return codec::digits::store(out, at, area, start, len, n, true, false);
-    }
-    if high {
-        return codec::digits::store(out, at, area, start, len, n, false, true);
-    }
-    codec::digits::store(out, at, area, start, len, n, false, false)
+    codec::digits::store(out, at, area, a.start, a.len, n, hex, high);
+    record::bytes_for(Shape::Digits(hex, high), n)
 }
 
-// Integers, by a call with a constant for each width.
-fn store_width(out: &mut [u8], at: usize, area: &[u8], start: usize, n: usize, w: usize, big: bool)
-    requires { ⌜ (w ≤ 8) × (at + n * w ≤ length (now out)) × (start + n * 8 ≤ length (now area)) ⌝ }
-    ensures { λ _. ⌜ now (out .exit) ≡ storeAt (now (out .entry)) at (stored (Integers w big) n (integersIn n (drop start (now (area .entry))))) ⌝ }
-{
-    match w {
-        1 => codec::integers::store(out, at, area, start, n, 1, big),
-        2 => codec::integers::store(out, at, area, start, n, 2, big),
-        4 => codec::integers::store(out, at, area, start, n, 4, big),
-        8 => codec::integers::store(out, at, area, start, n, 8, big),
-        _ => codec::integers::store(out, at, area, start, n, w, big),
-    }
-}
-
-// Integers, by a call with a constant for each order of the bytes.
+// n integers.
 fn store_integers(
+    n: usize,
+    a: Argument,
+    area: &[u8],
     out: &mut [u8],
     at: usize,
-    area: &[u8],
-    start: usize,
-    n: usize,
     w: usize,
     big: bool,
-)
-    requires { ⌜ (w ≤ 8) × (at + n * w ≤ length (now out)) × (start + n * 8 ≤ length (now area)) ⌝ }
-    ensures { λ _. ⌜ now (out .exit) ≡ storeAt (now (out .entry)) at (stored (Integers w big) n (integersIn n (drop start (now (area .entry))))) ⌝ }
+) -> usize
+    requires { ⌜ Storable (now area) (Integers w big) n (slotOf a) at (length (now out)) ⌝ }
+    ensures { λ r. ⌜ (r ≡ bytesFor (Integers w big) n) × (now (out .exit) ≡ storeAt (now (out .entry)) at (stored (Integers w big) n (shown (now (area .entry)) (slotOf a) .items))) ⌝ }
 {
-    if big {
-        store_width(out, at, area, start, n, w, true)
-    } else {
-        store_width(out, at, area, start, n, w, false)
-    }
+    codec::integers::store(out, at, area, a.start, n, w, big);
+    n * w
 }
 
-// n items of a value.
-fn store_value(s: Shape, n: usize, a: Argument, area: &[u8], out: &mut [u8], at: usize)
-    requires { ⌜ Storable (now area) s n (slotOf a) at (length (now out)) ⌝ }
-    ensures { λ _. ⌜ now (out .exit) ≡ storeAt (now (out .entry)) at (stored s n (shown (now (area .entry)) (slotOf a) .items)) ⌝ }
+// n items of a value of the type number d; tells how many bytes they fill. A call with constants for each type, so that the compiler makes
+// code of its own for each, and tests the type once.
+fn store_value(d: u32, n: usize, a: Argument, area: &[u8], out: &mut [u8], at: usize) -> usize
+    requires { ⌜ (d < 14) × Storable (now area) (shapeNumbered d) n (slotOf a) at (length (now out)) ⌝ }
+    ensures { λ r. ⌜ (r ≡ bytesFor (shapeNumbered d) n) × (now (out .exit) ≡ storeAt (now (out .entry)) at (stored (shapeNumbered d) n (shown (now (area .entry)) (slotOf a) .items))) ⌝ }
 {
-    let start = a.start;
-    let len = a.len;
-    match s {
-        Shape::Text(pad) => codec::text::store(out, at, area, start, len, n, pad),
-        Shape::Digits(hex, high) => store_digits(out, at, area, start, len, n, hex, high),
-        Shape::Integers(w, big) => store_integers(out, at, area, start, n, w, big),
+    match d {
+        0 => store_text(n, a, area, out, at, 0),
+        1 => store_text(n, a, area, out, at, 32),
+        2 => store_digits(n, a, area, out, at, false, false),
+        3 => store_digits(n, a, area, out, at, false, true),
+        4 => store_digits(n, a, area, out, at, true, false),
+        5 => store_digits(n, a, area, out, at, true, true),
+        6 => store_integers(n, a, area, out, at, 1, false),
+        7 => store_integers(n, a, area, out, at, 1, true),
+        8 => store_integers(n, a, area, out, at, 2, false),
+        9 => store_integers(n, a, area, out, at, 2, true),
+        10 => store_integers(n, a, area, out, at, 4, false),
+        11 => store_integers(n, a, area, out, at, 4, true),
+        12 => store_integers(n, a, area, out, at, 8, false),
+        _ => store_integers(n, a, area, out, at, 8, true),
     }
 }
 
@@ -116,27 +106,24 @@ fn put_move(m: Motion, n: Count, c: Cursor, out: &mut [u8]) -> Cursor
 }
 
 // One field of the pass.
-fn put(
-    code: Code,
-    n: Count,
-    slots: &[u32],
-    area: &[u8],
-    k: usize,
-    c: Cursor,
-    out: &mut [u8],
-) -> Cursor
-    requires { ⌜ Puttable (now area) (now slots) k c code n (length (now out)) ⌝ }
-    ensures { λ r. ⌜ (r ≡ advance c code n (slotAt (now (slots .entry)) k .len)) × (now (out .exit) ≡ put (now (area .entry)) (slotAt (now (slots .entry)) k) (now (out .entry)) c code n) ⌝ }
+fn put(word: u32, slots: &[u32], area: &[u8], k: usize, c: Cursor, out: &mut [u8]) -> Cursor
+    requires { ⌜ Puttable (now area) (now slots) k c (fieldOf word .code) (fieldOf word .count) (length (now out)) ⌝ }
+    ensures { λ r. ⌜ (r ≡ advance c (fieldOf word .code) (fieldOf word .count) (slotAt (now (slots .entry)) k .len)) × (now (out .exit) ≡ put (now (area .entry)) (slotAt (now (slots .entry)) k) (now (out .entry)) c (fieldOf word .code) (fieldOf word .count)) ⌝ }
 {
-    match code {
-        Code::Data(s) => {
-            let a = slots::slot_at(slots, k);
-            let items = record::amount(n, a.len);
-            store_value(s, items, a, area, out, c.at);
-            c.store(record::bytes_for(s, items))
-        }
-        Code::Move(m) => put_move(m, n, c, out),
+    let d = word % 256;
+    if d < 14 {
+        let a = record::slots::slot_at(slots, k);
+        let n = layout::count_from(word / 512);
+        let bytes = store_value(d, record::amount(n, a.len), a, area, out, c.at);
+        return c.store(bytes);
     }
+    let f = layout::field_of(word);
+    let code = f.code;
+    let count = f.count;
+    let Code::Move(m) = code else {
+        return c;
+    };
+    put_move(m, count, c, out)
 }
 
 // The pass over the fields in the first n words.
@@ -148,11 +135,10 @@ pub fn write(words: &[u32; 256], n: usize, slots: &[u32], area: &[u8], out: &mut
     let mut k: usize = 0;
     let mut i: usize = 0;
     while i < n {
-        let f = layout::field_of(words[i]);
-        let code = f.code;
-        let count = f.count;
-        c = put(code, count, slots, area, k, c, out);
-        k += layout::slots_of(code);
+        let word = words[i];
+        let taken = layout::slots_in(word);
+        c = put(word, slots, area, k, c, out);
+        k += taken;
         i += 1;
     }
 }

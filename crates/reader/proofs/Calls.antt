@@ -1,26 +1,29 @@
--- What each way out of a call leaves is what the definition gives.
+-- What each test of a call says of the reading, and what each way out of a call leaves.
 use Prim.Native.Nat.{ℕ, _+_, _-_, _*_, _/_, _%_, _≤_, _<_}
 use native.Mathlib.Omega.{arith}
-use mathlib.Core.Path.{_≡_, _∙_}
+use mathlib.Core.Path.{_≡_, ap, _∙_}
 use mathlib.Core.Bool.{true, false}
 use mathlib.Core.List.{List}
-use borrow.Author.Tests.{leb-true, le-leb, lt-leb}
+use borrow.Author.Tests.{leb-true, le-leb, lt-leb, lt-ltb, le-ltb}
 use lib.Dec.{eqb, leb}
 use lib.ListN.{length}
-use Rattle.layout.specs.declared.Field.{Field}
 use Rattle.layout.specs.declared.Refusal.{Refusal}
 use Rattle.layout.specs.declared.Refusal.the-variants.{BadSize, WrongSlots, NoRoom}
-use Rattle.layout.specs.Refusals.{ok, refused, _>>=_}
+use Rattle.layout.specs.Refusals.{ok, refused}
 use Rattle.layout.specs.Layout.{maxLayout, fieldsOf, slotCount}
+use Rattle.layout.specs.Words.{decoded}
+use Rattle.layout.proofs.Decoded.{Learnt}
 use Rattle.record.specs.declared.Answer.{Answer}
 use Rattle.record.proofs.Tables.{length-slots}
 use Rattle.record.proofs.Bytes.{and-true}
-use Rattle.record.specs.Table.{slotWidth, maxSlots, maxRecord, maxArea, slotsOf, valueBytes}
-use Rattle.record.specs.Packing.{refusal}
+use Rattle.record.proofs.Fields.{split}
+use Rattle.record.specs.Table.{slotWidth, maxSlots, maxRecord, maxArea, slotsOf, Value, valueBytes}
+use Rattle.record.specs.Packing.{accepted, refusal}
 use Rattle.record.specs.Reading.{valuesFrom, reads, Read, putInto, read}
 use Rattle.reader.specs.Sizes.{lentFits}
 use Rattle.reader.specs.Tables.{Room}
-use Rattle.reader.proofs.Tables.{values-few}
+use Rattle.record.proofs.Readings.{values-few}
+use Rattle.reader.specs.Checks.{checked, fitting}
 
 -- what line 1 leaves
 pub record Fit (layout slots bytes area mark : ℕ) : Type 0 where
@@ -46,35 +49,100 @@ fit {layout} {slots} {bytes} {area} {mark} h =
       start = leb-true mark area (start .1);
     }
 
+-- ---- lines 5 and 11
+
+module _ (slots taken room size : ℕ) {r : Answer} where
+  pub fitting-slots : slots / slotWidth < taken → r ≡ refusal WrongSlots 0 → r ≡ fitting slots taken room size
+  unfolding fitting
+  fitting-slots h q = rw (lt-ltb _ _ h) q
+
+  pub fitting-room : {m : ℕ} → taken ≤ slots / slotWidth → m ≡ size → room < m → r ≡ refusal NoRoom 0 → r ≡ fitting slots taken room size
+  unfolding fitting
+  fitting-room h e k q = rw (le-ltb _ _ h, ← e, lt-ltb _ _ k) q
+
+  pub fitting-all : {m : ℕ} → taken ≤ slots / slotWidth → m ≡ size → m ≤ room → r ≡ accepted taken 0 → r ≡ fitting slots taken room size
+  unfolding fitting
+  fitting-all h e k q = rw (le-ltb _ _ h, ← e, le-ltb _ _ k) q
+
+-- ---- what each way out leaves, and what each test says of the reading
+
 module _ (layout bs slots area : List ℕ) (mark : ℕ) where
-  pub read-sizes : {r : Answer} → lentFits (length layout) (length slots) (length bs) (length area) mark ≡ false → r ≡ refusal BadSize 0
-      → record { answer = r; slots = slots; area = area } ≡ read layout bs slots area mark
-  unfolding read reads
-  read-sizes e q = rw (e, q)
+  pub sizes-refuse : lentFits (length layout) (length slots) (length bs) (length area) mark ≡ false → reads layout bs slots area mark ≡ refused BadSize 0
+  unfolding reads
+  sizes-refuse e = rw e
+
+  pub read-refused : {r : Answer} {why : Refusal} {p : ℕ} → reads layout bs slots area mark ≡ refused why p → r ≡ refusal why p → record { answer = r; slots = slots; area = area } ≡ read layout bs slots area mark
+  unfolding read
+  read-refused e q = rw (e, q)
+
+  pub read-put : {e : Read} {vs : List Value} → reads layout bs slots area mark ≡ ok vs → e ≡ putInto slots area mark vs → e ≡ read layout bs slots area mark
+  unfolding read
+  read-put h q = q ∙ rw h
+
+  pub check-refused : {r : Answer} {why : Refusal} {p : ℕ} → reads layout bs slots area mark ≡ refused why p → r ≡ refusal why p → r ≡ checked layout bs slots area mark
+  unfolding checked
+  check-refused e q = rw (e, q)
+
+  pub check-accepted : {r : Answer} {vs : List Value} {n taken : ℕ} {ws : List ℕ} → Learnt (fieldsOf false layout) n taken ws → reads layout bs slots area mark ≡ ok vs → r ≡ accepted taken 0
+      → r ≡ checked layout bs slots area mark
+  unfolding checked
+  check-accepted l e q = q ∙ rw (e, l .fields, l .taken)
 
   module _ (sizes : Fit (length layout) (length slots) (length bs) (length area) mark) where
-    pub read-refused : {r : Answer} {why : Refusal} {p : ℕ} → fieldsOf false layout ≡ refused why p → r ≡ refusal why p → record { answer = r; slots = slots; area = area } ≡ read layout bs slots area mark
-    unfolding read reads
-    read-refused e q = rw (sizes .test, e, q)
+    pub parse-refuses : {why : Refusal} {p : ℕ} → fieldsOf false layout ≡ refused why p → reads layout bs slots area mark ≡ refused why p
+    unfolding reads
+    parse-refuses e = rw (sizes .test, e)
 
-    module _ {fs : List Field} (fields : fieldsOf false layout ≡ ok fs) where
-      pub read-slots : {r : Answer} → length slots / slotWidth < slotCount fs → r ≡ refusal WrongSlots 0 → record { answer = r; slots = slots; area = area } ≡ read layout bs slots area mark
-      unfolding read reads
-      read-slots h q = let l : length (slotsOf slots) < slotCount fs = rw length-slots h in rw (sizes .test, fields, lt-leb _ _ l, q)
+    module _ {n taken : ℕ} {ws : List ℕ} (l : Learnt (fieldsOf false layout) n taken ws) where
+      slots-refuse : length slots / slotWidth < taken → reads layout bs slots area mark ≡ refused WrongSlots 0
+      unfolding reads
+      slots-refuse h = let k : length (slotsOf slots) < slotCount (decoded n ws) = rw (length-slots, ← l .taken) h in rw (sizes .test, l .fields, lt-leb _ _ k)
 
-      module _ (enough : slotCount fs ≤ length slots / slotWidth) where
-        rows : leb (slotCount fs) (length (slotsOf slots)) ≡ true
-        rows = let l : slotCount fs ≤ length (slotsOf slots) = rw length-slots enough in le-leb _ _ l
+      module _ (enough : taken ≤ length slots / slotWidth) where
+        rows : leb (slotCount (decoded n ws)) (length (slotsOf slots)) ≡ true
+        rows = let k : slotCount (decoded n ws) ≤ length (slotsOf slots) = rw (length-slots, ← l .taken) enough in le-leb _ _ k
 
-        pub read-room : {r : Answer} → length area < mark + length (valueBytes (valuesFrom bs 0 fs)) → r ≡ refusal NoRoom 0 → record { answer = r; slots = slots; area = area } ≡ read layout bs slots area mark
-        unfolding read reads
-        read-room h q = rw (sizes .test, fields, rows, lt-leb _ _ h, q)
+        room-refuses : length area - mark < length (valueBytes (valuesFrom bs 0 (decoded n ws))) → reads layout bs slots area mark ≡ refused NoRoom 0
+        unfolding reads
+        room-refuses h =
+            let k : length area < mark + length (valueBytes (valuesFrom bs 0 (decoded n ws))) = omega (arith, sizes .start) in
+            rw (sizes .test, l .fields, rows, lt-leb _ _ k)
 
-        module _ (fits : mark + length (valueBytes (valuesFrom bs 0 fs)) ≤ length area) where
-          pub room : Room (valuesFrom bs 0 fs) slots area mark
+        module _ (fits : length (valueBytes (valuesFrom bs 0 (decoded n ws))) ≤ length area - mark) where
+          inside : mark + length (valueBytes (valuesFrom bs 0 (decoded n ws))) ≤ length area
+          inside = omega (arith, sizes .start)
+
+          accepted-all : reads layout bs slots area mark ≡ ok (valuesFrom bs 0 (decoded n ws))
+          unfolding reads
+          accepted-all = rw (sizes .test, l .fields, rows, le-leb _ _ inside)
+
+          room : Room (valuesFrom bs 0 (decoded n ws)) slots area mark
           room =
-              record { rows = omega (arith, values-few bs 0 fs); table = sizes .table; room = fits; limit = sizes .limit }
+              record { rows = omega (arith, l .taken, values-few bs 0 (decoded n ws)); table = sizes .table; room = inside; limit = sizes .limit }
 
-          pub read-put : {e : Read} → e ≡ putInto slots area mark (valuesFrom bs 0 fs) → e ≡ read layout bs slots area mark
-          unfolding read reads
-          read-put q = q ∙ rw (sizes .test, fields, rows, le-leb _ _ fits)
+      -- either answer of `fits`
+      pub fitted {ℓ} : {X : Type ℓ} {r : Answer} → r ≡ fitting (length slots) taken (length area - mark) (length (valueBytes (valuesFrom bs 0 (decoded n ws))))
+          → ((why : Refusal) → reads layout bs slots area mark ≡ refused why 0 → r ≡ refusal why 0 → 0 < r .number → X)
+          → (reads layout bs slots area mark ≡ ok (valuesFrom bs 0 (decoded n ws)) → Room (valuesFrom bs 0 (decoded n ws)) slots area mark → r ≡ accepted taken 0 → X)
+          → X
+      unfolding fitting
+      fitted {r} e refuses accepts =
+          split taken (length slots / slotWidth)
+          (λ enough. split (length (valueBytes (valuesFrom bs 0 (decoded n ws)))) (length area - mark)
+          (λ fits. accepts (accepted-all enough fits) (room enough fits) (rw (le-ltb _ _ enough, le-ltb _ _ fits) at e))
+          (λ lacks.
+          let q : r ≡ refusal NoRoom 0 = rw (le-ltb _ _ enough, lt-ltb _ _ lacks) at e in
+          refuses NoRoom (room-refuses enough lacks) q (rw q (omega arith))))
+          (λ few.
+          let q : r ≡ refusal WrongSlots 0 = rw (lt-ltb _ _ few) at e in
+          refuses WrongSlots (slots-refuse few) q (rw q (omega arith)))
+
+      module _ {r : Answer} (e : r ≡ fitting (length slots) taken (length area - mark) (length (valueBytes (valuesFrom bs 0 (decoded n ws))))) where
+        pub check-fits : r ≡ checked layout bs slots area mark
+        check-fits = fitted e (λ why h q z. check-refused h q) (λ h room q. check-accepted l h q)
+
+        pub read-unfit : (r .number ≡ 0 → ⊥) → record { answer = r; slots = slots; area = area } ≡ read layout bs slots area mark
+        read-unfit k = fitted e (λ why h q z. read-refused h q) (λ h room q. absurd (k (ap (λ (a : Answer). a .number) q)))
+
+        pub read-fits : r .number ≡ 0 → (reads layout bs slots area mark ≡ ok (valuesFrom bs 0 (decoded n ws))) × Room (valuesFrom bs 0 (decoded n ws)) slots area mark
+        read-fits k = fitted e (λ why h q z. absurd (omega arith)) (λ h room q. (h, room))

@@ -1,8 +1,13 @@
 // The reader (Tcl's `binary scan`): the values that a layout shows of a record, put into a table of slots and a value area.
 // Two passes over the fields: the first measures, and the second writes. So all is decided before anything is written.
 ghost use mathlib.Core.Path.{_≡_};
-ghost use Rattle.record.specs.Reading.{read};
+ghost use Prim.Native.Nat.{_*_, _≤_};
+ghost use lib.ListN.{length};
+ghost use Rattle.layout.specs.Words.{decoded};
+ghost use Rattle.record.specs.Table.{slotWidth, maxSlots, maxRecord, valueBytes};
+ghost use Rattle.record.specs.Reading.{valuesFrom, read};
 ghost use Rattle.reader.specs.Sizes.{lentFits};
+ghost use Rattle.reader.specs.Checks.{checked, fitting};
 use layout::Parsed;
 use layout::Refusal;
 use record::Answer;
@@ -22,7 +27,47 @@ fn sizes_fit(layout: usize, slots: usize, bytes: usize, area: usize, mark: usize
     mark <= area
 }
 
+// Lines 5 and 11 for the fields of the words: enough slots for the `taken` that take one, and room for their values; else 0 and how many they are.
+fn fits(
+    words: &[u32; 256],
+    n: usize,
+    taken: usize,
+    bytes: &[u8],
+    slots: usize,
+    room: usize,
+) -> Answer
+    requires { ⌜ (n ≤ length (now words)) × (length (now words) ≡ 256) × (length (now bytes) ≤ maxRecord) × (slots ≤ slotWidth * maxSlots) ⌝ }
+    ensures { λ r. ⌜ r ≡ fitting slots taken room (length (valueBytes (valuesFrom (now (bytes .entry)) 0 (decoded n (now (words .entry)))))) ⌝ }
+{
+    if slots / record::SLOT_WIDTH < taken {
+        return Answer::refused(Refusal::WrongSlots, 0);
+    }
+    let size = measure::measure(words, n, bytes);
+    if room < size {
+        return Answer::refused(Refusal::NoRoom, 0);
+    }
+    Answer::accepted(taken as u32, 0)
+}
+
+// Whether `read` would refuse, and how; else 0, the fields that take a slot, and 0. Nothing is written.
+pub fn check(layout: &[u8], bytes: &[u8], slots: &[u32], area: &[u8], mark: usize) -> Answer
+    ensures { λ r. ⌜ r ≡ checked (now (layout .entry)) (now (bytes .entry)) (now (slots .entry)) (now (area .entry)) mark ⌝ }
+{
+    if !sizes_fit(layout.len(), slots.len(), bytes.len(), area.len(), mark) {
+        return Answer::refused(Refusal::BadSize, 0);
+    }
+    let mut words: [u32; 256] = [0; 256];
+    let p = layout::parse(layout, false, &mut words);
+    match p {
+        Parsed::Refused(why, place) => Answer::refused(why, place as u32),
+        Parsed::Fields(n, taken) => {
+            fits(&words, n, taken, bytes, slots.len(), area.len() - mark)
+        }
+    }
+}
+
 // Reads a record by a layout: sets slots from the first on, and puts their values into the area from the mark on. A refusal changes nothing.
+// (It checks as `check` does and does not call it: the words stay here, and a call that fills them for its caller costs more than the checks.)
 pub fn read(layout: &[u8], bytes: &[u8], slots: &mut [u32], area: &mut [u8], mark: usize) -> Answer
     ensures { λ r. ⌜ record { answer = r; slots = now (slots .exit); area = now (area .exit) } ≡ read (now (layout .entry)) (now (bytes .entry)) (now (slots .entry)) (now (area .entry)) mark ⌝ }
 {
@@ -34,12 +79,9 @@ pub fn read(layout: &[u8], bytes: &[u8], slots: &mut [u32], area: &mut [u8], mar
     match p {
         Parsed::Refused(why, place) => Answer::refused(why, place as u32),
         Parsed::Fields(n, taken) => {
-            if slots.len() / record::SLOT_WIDTH < taken {
-                return Answer::refused(Refusal::WrongSlots, 0);
-            }
-            let size = measure::measure(&words, n, bytes);
-            if area.len() - mark < size {
-                return Answer::refused(Refusal::NoRoom, 0);
+            let a = fits(&words, n, taken, bytes, slots.len(), area.len() - mark);
+            if a.number != 0 {
+                return a;
             }
             table::fill(&words, n, bytes, slots, area, mark)
         }

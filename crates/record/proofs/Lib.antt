@@ -3,6 +3,9 @@ pub mod Bytes
 pub mod Bounds
 pub mod Stores
 pub mod Tables
+pub mod SlotLaws
+pub mod NumberLaws
 pub mod Fields
 pub mod Moves
 pub mod Widening
+pub mod Readings

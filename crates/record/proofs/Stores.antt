@@ -1,4 +1,4 @@
--- Laws of `storeAt`, and what a loop keeps that stores a run: byte by byte (`Put`), or one piece a turn (`Wrote`).
+-- Laws of `storeAt`, and what a loop keeps that stores a run: byte by byte (`Put`), some a turn (`Front`), or one piece a turn (`Wrote`).
 use mathlib.Core.Path.{_≡_, refl, sym, ap, _∙_}
 use mathlib.Core.List.{List, [], _∷_, _++_, reverse, reverse-cons, append-assoc, append-nil}
 use mathlib.Core.Logic.{⊎-elim}
@@ -6,8 +6,8 @@ use Prim.Native.Nat.{ℕ, zero, suc, _+_, _-_, _*_, _≤_, _<_}
 use native.Mathlib.Nat.{add-assoc, add-zero, zero-mul, suc-mul, le-of-suc-le-suc, not-suc-le-zero, eq-or-lt-of-le, mul-le-mul-right}
 use native.Mathlib.Numerals.{add-one}
 use native.Mathlib.Omega.{arith}
-use lib.ListN.{length, take, drop, getD, set, length-take, length-drop, length-append, length-set, length-reverse, take-append-drop, List·getD-append}
-use lib.Seq.{take-at, drop-drop, length-take-le, drop-append-add, getD-at, paste, paste-zero, paste-suc, take-all}
+use lib.ListN.{length, take, drop, getD, set, length-take, length-drop, length-append, length-set, length-reverse, take-append-drop, drop-of-length-le, List·getD-append}
+use lib.Seq.{take-at, take-add, drop-drop, length-take-le, drop-append-add, getD-at, paste, paste-zero, paste-suc, take-all}
 use Rattle.record.specs.Bytes.{part, storeAt}
 
 pub length-storeAt : (d : List ℕ) (at : ℕ) (s : List ℕ) → at + length s ≤ length d → length (storeAt d at s) ≡ length d
@@ -27,6 +27,17 @@ store-store d at s t h =
     ap (λ (n : ℕ). drop (n + length t) (head ++ rest)) (sym long) ∙ drop-append-add head rest (length t) ∙ drop-drop (length t) (at + length s) d
     ∙ ap (λ (n : ℕ). drop n d) sum in
     rw (take-at head rest (at + length s) long, past, append-assoc (take at d) s t)
+
+-- one more run stored at the end of those before it
+pub store-next : {d d′ u : List ℕ} {to : ℕ} (d₀ : List ℕ) (at : ℕ) (s t : List ℕ) → d ≡ storeAt d₀ at s → to ≡ at + length s → d′ ≡ storeAt d to t → u ≡ s ++ t → at + length u ≤ length d₀
+    → d′ ≡ storeAt d₀ at u
+store-next {d} {d′} {u} {to} d₀ at s t p q r e h =
+    let l : length u ≡ length s + length t = ap length e ∙ length-append s t in
+    r ∙ rw (p, q, e) (store-store d₀ at s t (omega arith))
+
+-- a run as long as what it is put over
+pub store-whole : (d s : List ℕ) → length s ≡ length d → storeAt d 0 s ≡ s
+store-whole d s e = let none : drop (0 + length s) d ≡ [] = let past : length d ≤ 0 + length s = omega arith in drop-of-length-le d past in rw none (append-nil s)
 
 pub length-part : (n at : ℕ) (l : List ℕ) → at + n ≤ length l → length (part l at n) ≡ n
 length-part n at l h = simp (length-take, length-drop) (omega arith)
@@ -60,6 +71,25 @@ put-more {d₀} {d} {s} {at} {j} {v} p h k f = record {
 pub put-done : {d₀ d s : List ℕ} {at j : ℕ} → Put d₀ at s d j → length s ≡ j → d ≡ storeAt d₀ at s
 put-done {d₀} {d} {s} {at} {j} p e =
     p .is ∙ (rw (← e) (ap (λ (r : List ℕ). take at d₀ ++ r ++ drop (at + length s) d₀) (take-all (length s) s (omega arith))))
+
+-- ---- a front that grows: d is d₀ with the first i elements of s put in
+
+pub record Front (d₀ s d : List ℕ) (i : ℕ) : Type 0 where
+  pub long : length d ≡ length d₀
+  pub is : d ≡ storeAt d₀ 0 (take i s)
+
+pub front-none : {d s : List ℕ} → Front d s d 0
+front-none {d} = record { long = refl; is = sym (store-none d 0) }
+
+pub front-more : {d₀ s d d′ : List ℕ} {i : ℕ} (n : ℕ) → Front d₀ s d i → i + n ≤ length s → i + n ≤ length d₀ → d′ ≡ storeAt d i (part s i n) → Front d₀ s d′ (i + n)
+front-more {d₀} {s} {d} {d′} {i} n f h k e =
+    let front : length (take i s) ≡ i = length-take-le i s (omega arith) in
+    let next : length (take (i + n) s) ≡ i + n = length-take-le (i + n) s h in
+    let is : d′ ≡ storeAt d₀ 0 (take (i + n) s) = store-next {to = i} d₀ 0 (take i s) (part s i n) (f .is) (omega arith) e (take-add i n s) (omega arith) in
+    record { long = ap length is ∙ length-storeAt d₀ 0 (take (i + n) s) (omega arith); is = is }
+
+pub front-whole : {d₀ s d : List ℕ} {i : ℕ} → Front d₀ s d i → i ≡ length d₀ → length s ≡ length d₀ → d ≡ s
+front-whole {d₀} {s} {d} {i} f e l = f .is ∙ ap (storeAt d₀ 0) (take-all i s (omega arith)) ∙ store-whole d₀ s l
 
 -- ---- piece by piece: f 0, f 1, .. up to f (n - 1), one after the other
 

@@ -42,3 +42,8 @@ number b (d ∷ ds) = d + b * number b ds
 abbrev pub ordered : Bool → List ℕ → List ℕ
 ordered true ds = reverse ds
 ordered false ds = ds
+
+-- the number that the w bytes from the place `at` on make, the highest first
+unfoldable pub numberAt : ℕ → List ℕ → ℕ → ℕ
+unfolding number
+numberAt w bs at = number 256 (ordered true (part bs at w))

@@ -4,3 +4,4 @@ pub mod Table
 pub mod Geometry
 pub mod Packing
 pub mod Reading
+pub mod Slots

@@ -2,7 +2,7 @@
 ghost use mathlib.Core.Path.{_≡_};
 ghost use Prim.Native.Nat.{_+_, _≤_, _<_, min, max};
 ghost use Rattle.layout.specs.Refusals.{numberOf};
-ghost use Rattle.layout.specs.Words.{FitCode, FitCount};
+ghost use Rattle.layout.specs.Words.{FitCode, FitCount, shapeNumbered};
 ghost use Rattle.layout.specs.declared.Code.the-variants.{Data};
 ghost use Rattle.layout.specs.declared.Motion.the-variants.{Skip, Goto};
 ghost use Rattle.record.specs.Geometry.{lengthsFit, amount, perByte, bytesFor, backFrom, movedIn, gotoIn};
@@ -10,6 +10,8 @@ ghost use Rattle.record.specs.Packing.{accepted, refusal};
 use layout::Count;
 use layout::Refusal;
 use layout::Shape;
+
+pub mod slots;
 
 // The limits of document 01, and how many numbers make a slot.
 pub const MAX_LAYOUT: usize = 256;
@@ -66,6 +68,7 @@ fn number_of(why: Refusal) -> u32
         Refusal::WrongAmount => 9,
         Refusal::BadDigit => 10,
         Refusal::NoRoom => 11,
+        Refusal::MarkOutOfRange => 14,
     }
 }
 
@@ -138,6 +141,20 @@ pub fn bytes_for(s: Shape, n: usize) -> usize
         Shape::Digits(hex, _) => (n + (per_byte(hex) - 1)) / per_byte(hex),
         Shape::Integers(w, _) => n * w,
     }
+}
+
+// The same for a type by its number, one that takes a slot.
+pub fn bytes_numbered(d: u32, n: usize) -> usize
+    requires { ⌜ (n < 4303355904) × (d ≤ 13) ⌝ }
+    ensures { λ r. ⌜ r ≡ bytesFor (shapeNumbered d) n ⌝ }
+{
+    if 5 < d {
+        return n << layout::width_power(d);
+    }
+    if d < 2 {
+        return n;
+    }
+    if d < 4 { (n + 7) / 8 } else { (n + 1) / 2 }
 }
 
 impl Cursor {

@@ -7,7 +7,7 @@ use lib.Dec.{eqb}
 use lib.ListN.{length}
 use Rattle.curlew.specs.Boundary.{replySize}
 use lib.Seq.{length-take-le}
-use Rattle.curlew.proofs.Calls.{Fit, fit, room-for, pack-unwritten, pack-refused, pack-served}
+use Rattle.curlew.proofs.Calls.{Fit, fit, room-for, room-whole, pack-unwritten, pack-refused, pack-served}
 use borrow.Author.Needs.{needs}
 use Rattle.curlew.proofs.curlew_pack.Statement.{statement}
 use Rattle.curlew.proofs.curlew_pack.Tie as tie
@@ -51,7 +51,7 @@ slice-aggregate-pack-by c = sym (length-take-le _ _ (array-borrow-prefix-room (c
 pack-by-requires : tie.Need-pack-by-requires
 pack-by-requires c κs =
     let tested = c .before .before .before in
-    (eqb-true _ _ (sized (tested .before .before)), room-for _ (served tested) (array-borrow-prefix-room (c .before)))
+    (eqb-true _ _ (sized (tested .before .before)), room-for _ (served tested) (array-borrow-prefix-room (c .before)), room-whole _ (served tested) (array-borrow-prefix-room (c .before)))
 
 same-length-2 : tie.Need-same-length-2
 same-length-2 c = search needs

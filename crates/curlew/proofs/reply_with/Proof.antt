@@ -1,22 +1,28 @@
 -- The answer's three numbers are encoded, and the first is handed back.
-use mathlib.Core.Path.{refl}
+use mathlib.Core.Path.{refl, _∙_}
+use mathlib.Core.List.{[], _∷_}
 use Rattle.curlew.specs.Boundary.{replyOf}
+use Rattle.curlew.proofs.NumberLaws.{bytes-whole}
 use borrow.Author.Needs.{needs}
 use Rattle.curlew.proofs.reply_with.Statement.{statement}
 use Rattle.curlew.proofs.reply_with.Tie as tie
 
-slice-aggregate-encode : tie.Need-slice-aggregate-encode
-slice-aggregate-encode c = search needs
+slice-aggregate-encode-run : tie.Need-slice-aggregate-encode-run
+slice-aggregate-encode-run c = search needs
 
-encode-requires : tie.Need-encode-requires
-encode-requires c κs = search needs
+encode-run-requires : tie.Need-encode-run-requires
+encode-run-requires c κs = search needs
 
 same-length : tie.Need-same-length
 same-length c = search needs
 
 returns : tie.Need-returns
 unfolding replyOf
-returns c = (refl, c .before .before .encode .ensures)
+returns c =
+    let called = c .before .before in
+    let start = called .before .before .before .before in
+    let a = start .args .a in
+    (refl, called .encode-run .ensures ∙ bytes-whole (start .args .reply .now) (a .number ∷ a .first ∷ a .second ∷ []) (start .pre))
 
 pub reply-with-spec : {M : Type 1} → statement M
-reply-with-spec = tie.close (tie.spec slice-aggregate-encode encode-requires same-length returns)
+reply-with-spec = tie.close (tie.spec slice-aggregate-encode-run encode-run-requires same-length returns)

@@ -1,4 +1,4 @@
--- Each way out is one law of the definition; what was tested on the way is its premise.
+-- Each way out is one law of the reading; what was tested on the way is its premise.
 use lib.ListN.{length}
 use native.Mathlib.Omega.{arith}
 use mathlib.Core.Path.{refl, sym, _∙_}
@@ -6,10 +6,13 @@ use mathlib.Core.Bool.{false}
 use borrow.Author.Tests.{not-true, not-false}
 use Rattle.layout.proofs.Decoded.{parsed-fields, parsed-refused}
 use Rattle.layout.proofs.Places.{refused-inside}
-use Rattle.reader.proofs.Calls.{Fit, fit, read-sizes, read-refused, read-slots, read-room, room, read-put}
+use Rattle.reader.proofs.Calls.{Fit, fit, read-refused, read-put, sizes-refuse, parse-refuses, read-unfit, read-fits}
 use borrow.Author.Needs.{needs}
 use Rattle.reader.proofs.read.Statement.{statement}
 use Rattle.reader.proofs.read.Tie as tie
+
+sized : (c : tie.Else1) → Fit (length (c .before .before .before .before .before .before .args .layout .now)) (length (c .before .before .before .before .before .before .args .slots .now)) (length (c .before .before .before .before .before .before .args .bytes .now)) (length (c .before .before .before .before .before .before .args .area .now)) (c .before .before .before .before .before .before .args .mark)
+sized c = fit (sym (c .before .sizes-fit .ensures) ∙ not-false _ (c .if1 .left))
 
 sizes-fit-requires : tie.Need-sizes-fit-requires
 sizes-fit-requires c κs = search needs
@@ -18,23 +21,16 @@ refused-requires : tie.Need-refused-requires
 refused-requires c κs = search needs
 
 returns : tie.Need-returns
-returns c = read-sizes _ _ _ _ _ (sym (c .before .before .sizes-fit .ensures) ∙ not-true _ (c .before .if1 .taken)) (c .refused .ensures)
-
-sized : (c : tie.Else1) → Fit (length (c .before .before .before .before .before .before .args .layout .now)) (length (c .before .before .before .before .before .before .args .slots .now)) (length (c .before .before .before .before .before .before .args .bytes .now)) (length (c .before .before .before .before .before .before .args .area .now)) (c .before .before .before .before .before .before .args .mark)
-sized c = fit (sym (c .before .sizes-fit .ensures) ∙ not-false _ (c .if1 .left))
+returns c = read-refused _ _ _ _ _ (sizes-refuse _ _ _ _ _ (sym (c .before .before .sizes-fit .ensures) ∙ not-true _ (c .before .if1 .taken))) (c .refused .ensures)
 
 parse-requires : tie.Need-parse-requires
-parse-requires c κs =
-    let k = sized (c .before) in
-    (k .text, refl)
+parse-requires c κs = (sized (c .before) .text, refl)
 
 enum-known-p : tie.Need-enum-known-p
 enum-known-p c = search needs
 
 cast-refused : tie.Need-cast-refused
-cast-refused c =
-    let k = sized (c .before .before .before .before .before) in
-    omega (arith, k .text, refused-inside false _ _ _ (parsed-refused _ _ _ _ _ (c .before .before .before .parse .ensures) (c .before .p .given .1)))
+cast-refused c = omega (arith, sized (c .before .before .before .before .before) .text, refused-inside false _ _ _ (parsed-refused _ _ _ _ _ (c .before .before .before .parse .ensures) (c .before .p .given .1)))
 
 refused-requires-2 : tie.Need-refused-requires-2
 refused-requires-2 c κs = search needs
@@ -42,45 +38,26 @@ refused-requires-2 c κs = search needs
 enum-known-p-2 : tie.Need-enum-known-p-2
 enum-known-p-2 c = search needs
 
-refused-requires-3 : tie.Need-refused-requires-3
-refused-requires-3 c κs = search needs
+sub-fits : tie.Need-sub-fits
+sub-fits c = omega (arith, sized (c .before .before .before .before .before .before) .start)
+
+fits-requires : tie.Need-fits-requires
+fits-requires c κs =
+    let k = sized (c .before .before .before .before .before .before) in
+    let l = parsed-fields _ _ _ _ _ (c .before .before .before .before .parse .ensures) (c .before .before .p2 .given .1) in
+    (l .few, l .room, k .whole, k .table)
 
 returns-2 : tie.Need-returns-2
-returns-2 c =
-    let k = sized (c .before .before .before .before .before .before .before) in
-    let l = parsed-fields _ _ _ _ _ (c .before .before .before .before .before .parse .ensures) (c .before .before .before .p2 .given .1) in
-    read-slots _ _ _ _ _ k (l .fields) (rw (l .taken) at (c .before .if2 .taken)) (c .refused3 .ensures)
-
-measure-requires : tie.Need-measure-requires
-measure-requires c κs =
-    let k = sized (c .before .before .before .before .before .before .before) in
-    let l = parsed-fields _ _ _ _ _ (c .before .before .before .before .before .parse .ensures) (c .before .before .before .p2 .given .1) in
-    (l .few, l .room, k .whole)
-
-sub-if3 : tie.Need-sub-if3
-sub-if3 c =
-    let k = sized (c .before .before .before .before .before .before .before .before) in
-    omega (arith, k .start)
-
-refused-requires-4 : tie.Need-refused-requires-4
-refused-requires-4 c κs = search needs
-
-returns-3 : tie.Need-returns-3
-returns-3 c =
-    let k = sized (c .before .before .before .before .before .before .before .before .before .before) in
-    let l = parsed-fields _ _ _ _ _ (c .before .before .before .before .before .before .before .before .parse .ensures) (c .before .before .before .before .before .before .p2 .given .1) in
-    read-room _ _ _ _ _ k (l .fields) (rw (l .taken) at (c .before .before .before .before .if2 .left)) (omega (arith, k .start, c .before .if3 .taken, c .before .before .measure .ensures)) (c .refused4 .ensures)
+returns-2 c = read-unfit _ _ _ _ _ (sized (c .before .before .before .before .before .before .before .before .before)) (parsed-fields _ _ _ _ _ (c .before .before .before .before .before .before .before .parse .ensures) (c .before .before .before .before .before .p2 .given .1)) (c .before .before .fits2 .ensures) (c .if2 .taken)
 
 fill-requires : tie.Need-fill-requires
 fill-requires c κs =
     let k = sized (c .before .before .before .before .before .before .before .before .before .before .before .before) in
     let l = parsed-fields _ _ _ _ _ (c .before .before .before .before .before .before .before .before .before .before .parse .ensures) (c .before .before .before .before .before .before .before .before .p2 .given .1) in
-    ((l .few, l .room, k .whole), room _ _ _ _ _ k (l .fields) (rw (l .taken) at (c .before .before .before .before .before .before .if2 .left)) (omega (arith, k .start, c .before .before .before .if3 .left, c .before .before .before .before .measure .ensures)))
+    ((l .few, l .room, k .whole), read-fits _ _ _ _ _ k l (c .before .before .before .before .before .fits2 .ensures) (c .before .before .before .if2 .left) .1)
 
-returns-4 : tie.Need-returns-4
-returns-4 c =
-    let k = sized (c .before .before .before .before .before .before) in
-    read-refused _ _ _ _ _ k (parsed-refused _ _ _ _ _ (c .before .before .before .before .parse .ensures) (c .before .before .p .given .1)) (c .refused2 .ensures)
+returns-3 : tie.Need-returns-3
+returns-3 c = read-refused _ _ _ _ _ (parse-refuses _ _ _ _ _ (sized (c .before .before .before .before .before .before)) (parsed-refused _ _ _ _ _ (c .before .before .before .before .parse .ensures) (c .before .before .p .given .1))) (c .refused2 .ensures)
 
 same-length : tie.Need-same-length
 same-length c = search needs
@@ -88,11 +65,8 @@ same-length c = search needs
 same-length-2 : tie.Need-same-length-2
 same-length-2 c = search needs
 
-returns-5 : tie.Need-returns-5
-returns-5 c =
-    let k = sized (c .before .before .before .before .before .before .before .before .before .before .before .before .before .before .before .before .before) in
-    let l = parsed-fields _ _ _ _ _ (c .before .before .before .before .before .before .before .before .before .before .before .before .before .before .before .parse .ensures) (c .before .before .before .before .before .before .before .before .before .before .before .before .before .p2 .given .1) in
-    read-put _ _ _ _ _ k (l .fields) (rw (l .taken) at (c .before .before .before .before .before .before .before .before .before .before .before .if2 .left)) (omega (arith, k .start, c .before .before .before .before .before .before .before .before .if3 .left, c .before .before .before .before .before .before .before .before .before .measure .ensures)) (c .before .before .before .before .fill .ensures)
+returns-4 : tie.Need-returns-4
+returns-4 c = read-put _ _ _ _ _ (read-fits _ _ _ _ _ (sized (c .before .before .before .before .before .before .before .before .before .before .before .before .before .before .before .before .before)) (parsed-fields _ _ _ _ _ (c .before .before .before .before .before .before .before .before .before .before .before .before .before .before .before .parse .ensures) (c .before .before .before .before .before .before .before .before .before .before .before .before .before .p2 .given .1)) (c .before .before .before .before .before .before .before .before .before .before .fits2 .ensures) (c .before .before .before .before .before .before .before .before .if2 .left) .0) (c .before .before .before .before .fill .ensures)
 
 pub read-spec : {M : Type 1} → statement M
 read-spec =
@@ -106,14 +80,11 @@ read-spec =
     cast-refused
     refused-requires-2
     enum-known-p-2
-    refused-requires-3
+    sub-fits
+    fits-requires
     returns-2
-    measure-requires
-    sub-if3
-    refused-requires-4
-    returns-3
     fill-requires
-    returns-4
+    returns-3
     same-length
     same-length-2
-    returns-5)
+    returns-4)

@@ -1,33 +1,26 @@
--- Turn i stores number i: the loop keeps `Put`.
-use Prim.Native.Nat.{_-_, _≤_}
+-- A turn decodes the numbers of a slot: the loop keeps `Front`.
+use Prim.Native.Nat.{_-_, _%_, _≤_}
+use mathlib.Core.Path.{_≡_}
 use lib.ListN.{length}
 use native.Mathlib.Omega.{arith}
-use Rattle.record.proofs.Stores.{Put, put-none}
+use Rattle.record.specs.Table.{slotWidth}
+use Rattle.record.proofs.Stores.{Front, front-none}
 use Rattle.curlew.specs.Boundary.{numbersIn}
-use Rattle.curlew.proofs.NumberLaws.{decoded-more, decoded}
+use Rattle.curlew.proofs.NumberLaws.{decoded-next, decoded}
 use Rattle.curlew.proofs.numbers.decode.Statement.{statement}
 use Rattle.curlew.proofs.numbers.decode.Tie as tie
 
 abbrev Inv-loop : tie.InvT-loop
-Inv-loop bytes numbers₀ i₀ numbers i = (i ≤ length numbers₀) × Put numbers₀ 0 (numbersIn bytes) numbers i
+Inv-loop bytes numbers₀ i₀ numbers i = (i ≤ length numbers₀) × (i % slotWidth ≡ 0) × Front numbers₀ (numbersIn bytes) numbers i
 
 abbrev μ-loop : tie.MeasureT-loop
 μ-loop bytes numbers₀ i₀ numbers i = length numbers₀ - i
 
 loop-holds : tie.Need-loop-holds Inv-loop μ-loop
-loop-holds c = (omega arith, put-none)
+loop-holds c = (omega arith, omega arith, front-none)
 
-mul-number-at : tie.Need-mul-number-at Inv-loop μ-loop
-mul-number-at c = omega arith
-
-number-at-requires : tie.Need-number-at-requires Inv-loop μ-loop
-number-at-requires c κs = omega arith
-
-mul-numbers : tie.Need-mul-numbers Inv-loop μ-loop
-mul-numbers c = omega arith
-
-slice-write-numbers : tie.Need-slice-write-numbers Inv-loop μ-loop
-slice-write-numbers c = omega arith
+decode-run-requires : tie.Need-decode-run-requires Inv-loop μ-loop
+decode-run-requires c κs = (omega arith, omega arith)
 
 add-i : tie.Need-add-i Inv-loop μ-loop
 add-i c = omega arith
@@ -37,15 +30,18 @@ loop-less c = omega arith
 
 loop-again : tie.Need-loop-again Inv-loop μ-loop
 loop-again c =
-    let turn = c .before .before in
-    let start = turn .before .before .before in
-    (omega arith, decoded-more (start .args .bytes .now) (turn .loop .inv .1) (start .pre) (omega arith) (c .number-at .ensures))
+    let called = c .before .before in
+    let loop = called .before .before .before in
+    let start = loop .before .before .before in
+    (omega arith, omega arith, decoded-next (start .args .bytes .now) (loop .loop .inv .2) (start .pre .0) slotWidth (omega arith) (called .decode-run .ensures))
 
 same-length : tie.Need-same-length Inv-loop μ-loop
-same-length c = c .before .loop .inv .1 .long
+same-length c = c .before .loop .inv .2 .long
 
 returns : tie.Need-returns Inv-loop μ-loop
-returns c = decoded (c .before .before .before .before .args .bytes .now) (c .before .loop .inv .1) (c .before .before .before .before .pre) (omega arith)
+returns c =
+    let start = c .before .before .before .before in
+    decoded (start .args .bytes .now) (c .before .loop .inv .2) (start .pre .0) (omega arith)
 
 pub decode-spec : {M : Type 1} → statement M
 decode-spec =
@@ -54,10 +50,7 @@ decode-spec =
     Inv-loop
     μ-loop
     loop-holds
-    mul-number-at
-    number-at-requires
-    mul-numbers
-    slice-write-numbers
+    decode-run-requires
     add-i
     loop-less
     loop-again

@@ -1,36 +1,30 @@
--- Turn i stores the bytes of number i: the loop keeps `Wrote`.
+-- A turn encodes the numbers of a slot: the loop keeps `Front`.
 use Prim.Native.Nat.{_-_, _*_, _≤_}
-use lib.ListN.{length}
 use native.Mathlib.Omega.{arith}
-use Rattle.record.proofs.Stores.{Wrote, wrote-none, wrote-more}
-use Rattle.curlew.specs.Boundary.{numberSize}
-use Rattle.curlew.proofs.NumberLaws.{encodedAt, length-numberBytes, encoded}
+use Rattle.record.specs.Table.{slotWidth}
+use Rattle.record.proofs.Stores.{Front, front-none}
+use Rattle.curlew.specs.Boundary.{numberSize, bytesOf}
+use Rattle.curlew.proofs.NumberLaws.{encoded-next, encoded-front}
 use Rattle.curlew.proofs.numbers.encode.Statement.{statement}
 use Rattle.curlew.proofs.numbers.encode.Tie as tie
 
 abbrev Inv-loop : tie.InvT-loop
-Inv-loop out₀ numbers i₀ out i = (i ≤ length numbers) × Wrote out₀ 0 (encodedAt numbers) out i
+Inv-loop out₀ numbers n k₀ out k = (k ≤ n) × Front out₀ (bytesOf numbers) out (k * slotWidth * numberSize)
 
 abbrev μ-loop : tie.MeasureT-loop
-μ-loop out₀ numbers i₀ out i = length numbers - i
+μ-loop out₀ numbers n k₀ out k = n - k
 
 loop-holds : tie.Need-loop-holds Inv-loop μ-loop
-loop-holds c = (omega arith, wrote-none)
+loop-holds c = (omega arith, front-none)
 
-mul-put-number : tie.Need-mul-put-number Inv-loop μ-loop
-mul-put-number c = omega arith
+mul-encode-run : tie.Need-mul-encode-run Inv-loop μ-loop
+mul-encode-run c = omega arith
 
-mul-put-number-2 : tie.Need-mul-put-number-2 Inv-loop μ-loop
-mul-put-number-2 c = omega arith
+encode-run-requires : tie.Need-encode-run-requires Inv-loop μ-loop
+encode-run-requires c κs = (omega arith, omega arith)
 
-shared-slice-read-put-number : tie.Need-shared-slice-read-put-number Inv-loop μ-loop
-shared-slice-read-put-number c = omega arith
-
-put-number-requires : tie.Need-put-number-requires Inv-loop μ-loop
-put-number-requires c κs = omega arith
-
-add-i : tie.Need-add-i Inv-loop μ-loop
-add-i c = omega arith
+add-k : tie.Need-add-k Inv-loop μ-loop
+add-k c = omega arith
 
 loop-less : tie.Need-loop-less Inv-loop μ-loop
 loop-less c = omega arith
@@ -38,14 +32,17 @@ loop-less c = omega arith
 loop-again : tie.Need-loop-again Inv-loop μ-loop
 loop-again c =
     let called = c .before .before in
-    let loop = called .before .before .before .before in
-    (omega arith, wrote-more {to = loop .loop .i * numberSize} numberSize (λ k. length-numberBytes numberSize _) (loop .loop .inv .1) (omega arith) (omega arith) (called .put-number .ensures))
+    let loop = called .before .before .before in
+    let start = loop .before .before .before in
+    (omega arith, encoded-next (start .args .numbers .now) (loop .loop .k * slotWidth) (loop .loop .inv .1) slotWidth (omega arith) (start .pre .0) (omega arith) (called .encode-run .ensures))
 
 same-length : tie.Need-same-length Inv-loop μ-loop
 same-length c = c .before .loop .inv .1 .long
 
 returns : tie.Need-returns Inv-loop μ-loop
-returns c = encoded (c .before .before .before .before .args .numbers .now) (c .before .loop .inv .1) (omega arith) (c .before .before .before .before .pre)
+returns c =
+    let start = c .before .before .before .before in
+    encoded-front (start .args .numbers .now) (c .before .loop .k * slotWidth) (c .before .loop .inv .1) (omega arith) (start .pre .1)
 
 pub encode-spec : {M : Type 1} → statement M
 encode-spec =
@@ -54,11 +51,9 @@ encode-spec =
     Inv-loop
     μ-loop
     loop-holds
-    mul-put-number
-    mul-put-number-2
-    shared-slice-read-put-number
-    put-number-requires
-    add-i
+    mul-encode-run
+    encode-run-requires
+    add-k
     loop-less
     loop-again
     same-length

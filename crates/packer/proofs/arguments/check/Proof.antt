@@ -6,7 +6,7 @@ use borrow.Author.Tests.{eq-eqb, ne-eqb, not-true, not-false}
 use Rattle.record.specs.Table.{shown}
 use Rattle.record.specs.Geometry.{amount}
 use Rattle.record.specs.Packing.{kindFits, amountFits, digitsFit, insideArea}
-use Rattle.packer.specs.Arguments.{slotOf}
+use Rattle.record.specs.Slots.{slotOf}
 use Rattle.packer.proofs.ArgumentLaws.{not-set, bad-slot, wrong-kind, wrong-amount, bad-digit, all-fits}
 use Rattle.record.proofs.Bytes.{and-true}
 use borrow.Author.Needs.{needs}

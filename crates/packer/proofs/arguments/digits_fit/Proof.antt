@@ -4,7 +4,7 @@ use mathlib.Core.Path.{_≡_, _∙_}
 use mathlib.Core.Bool.{true}
 use lib.Dec.{eqb}
 use Rattle.record.specs.Packing.{digitsFit}
-use Rattle.packer.specs.Arguments.{slotOf}
+use Rattle.record.specs.Slots.{slotOf}
 use Rattle.packer.proofs.ArgumentLaws.{string-inside, digits-part}
 use borrow.Author.Needs.{needs}
 use Rattle.packer.proofs.arguments.digits_fit.Statement.{statement}

@@ -19,19 +19,19 @@ new-requires c κs = search needs
 loop-holds : tie.Need-loop-holds Inv-loop μ-loop
 loop-holds c = rw (c .new .ensures) (measuring-none _ _ _ _ (c .before .before .before .pre))
 
-mul-field-of : tie.Need-mul-field-of Inv-loop μ-loop
-mul-field-of c = omega (arith, c .before .before .before .before .before .pre)
+mul-word : tie.Need-mul-word Inv-loop μ-loop
+mul-word c = omega (arith, c .before .before .before .before .before .pre)
 
-element-copy-out-field-of : tie.Need-element-copy-out-field-of Inv-loop μ-loop
-element-copy-out-field-of c = omega (arith, c .before .before .before .before .before .pre)
+element-copy-out-word : tie.Need-element-copy-out-word Inv-loop μ-loop
+element-copy-out-word c = omega (arith, c .before .before .before .before .before .pre)
 
-field-of-requires : tie.Need-field-of-requires Inv-loop μ-loop
-field-of-requires c κs = search needs
+slots-in-requires : tie.Need-slots-in-requires Inv-loop μ-loop
+slots-in-requires c κs = search needs
 
 step-requires : tie.Need-step-requires Inv-loop μ-loop
 step-requires c κs =
     let l = c .before .before .before in
-    measuring-ready _ _ _ _ (l .before .before .before .before .pre) _ _ _ (l .loop .inv) (c .before .before .loop-test .taken) _ (c .field-of .ensures)
+    measuring-ready _ _ _ _ (l .before .before .before .before .pre) _ _ _ (l .loop .inv) (c .before .before .loop-test .taken) _ (c .slots-in .ensures .field)
 
 enum-known-t : tie.Need-enum-known-t Inv-loop μ-loop
 enum-known-t c = search needs
@@ -40,23 +40,21 @@ returns : tie.Need-returns Inv-loop μ-loop
 returns c =
     let s = c .before .before .before in
     let l = s .before .before .before .before in
-    measuring-stop _ _ _ _ (l .before .before .before .before .pre) _ _ _ (l .loop .inv) (s .before .before .before .loop-test .taken) _ (s .before .field-of .ensures) _ _ (sym (c .before .t .given .1) ∙ s .step .ensures)
+    measuring-stop _ _ _ _ (l .before .before .before .before .pre) _ _ _ (l .loop .inv) (s .before .before .before .loop-test .taken) _ (s .before .slots-in .ensures .field) _ _ (sym (c .before .t .given .1) ∙ s .step .ensures)
 
 enum-known-t-2 : tie.Need-enum-known-t-2 Inv-loop μ-loop
 enum-known-t-2 c = search needs
 
-slots-of-requires : tie.Need-slots-of-requires Inv-loop μ-loop
-slots-of-requires c κs = search needs
-
 loop-again : tie.Need-loop-again Inv-loop μ-loop
 loop-again c =
-    let s = c .before .before .before .before in
+    let s = c .before .before .before in
+    let w = s .before .slots-in .ensures in
     let l = s .before .before .before .before in
-    measuring-next _ _ _ _ (l .before .before .before .before .pre) _ _ _ (l .loop .inv) (s .before .before .before .loop-test .taken) _ (s .before .field-of .ensures) _ (sym (c .before .before .t2 .given .1) ∙ s .step .ensures)
-    (λ j. l .before .before .before .shared-slice-known .given j .fits) _ (c .slots-of .ensures)
+    measuring-next _ _ _ _ (l .before .before .before .before .pre) _ _ _ (l .loop .inv) (s .before .before .before .loop-test .taken) _ (w .field) _ (sym (c .before .t2 .given .1) ∙ s .step .ensures)
+    (λ j. l .before .before .before .shared-slice-known .given j .fits) _ (w .taken)
 
 add-k : tie.Need-add-k Inv-loop μ-loop
-add-k c = omega (arith, loop-again c .standing .slots, c .before .before .before .before .before .before .before .before .before .before .before .before .pre)
+add-k c = omega (arith, loop-again c .standing .slots, c .before .before .before .before .before .before .before .before .before .before .before .pre)
 
 add-i : tie.Need-add-i Inv-loop μ-loop
 add-i c = omega arith
@@ -75,14 +73,13 @@ measure-spec =
     μ-loop
     new-requires
     loop-holds
-    mul-field-of
-    element-copy-out-field-of
-    field-of-requires
+    mul-word
+    element-copy-out-word
+    slots-in-requires
     step-requires
     enum-known-t
     returns
     enum-known-t-2
-    slots-of-requires
     add-k
     add-i
     loop-less

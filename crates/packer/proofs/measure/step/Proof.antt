@@ -1,97 +1,72 @@
--- The argument's check decides; what a field may ask for is far below the width of a `usize`.
-use mathlib.Core.Path.{sym, ap, _∙_}
+-- A word's type number says what its field is; an argument that passes the quick test is refused by no line.
 use native.Mathlib.Omega.{arith}
+use Prim.Native.Nat.{_/_, _%_, _<_}
 use Rattle.layout.specs.declared.Code.the-variants.{Data}
+use Rattle.layout.specs.Words.{shapeNumbered, countFrom}
 use Rattle.record.proofs.Moves.{amount-small}
-use Rattle.packer.specs.declared.measure.Turn.the-variants.{Next}
-use Rattle.packer.specs.Arguments.{slotOf}
-use Rattle.packer.specs.Measure.{Ready, stepped}
+use Rattle.record.specs.Slots.{slotOf}
 use Rattle.record.proofs.Bounds.{bytes-small}
-use Rattle.packer.proofs.MeasureLaws.{step-stop, step-next}
+use Rattle.packer.specs.Measure.{Ready}
+use Rattle.packer.proofs.MeasureLaws.{ready-data, quick-next}
 use borrow.Author.Needs.{needs}
 use Rattle.packer.proofs.measure.step.Statement.{statement}
 use Rattle.packer.proofs.measure.step.Tie as tie
 
-enum-known-code : tie.Need-enum-known-code
-enum-known-code c = search needs
+ready : (c : tie.Then1)
+    → Ready (c .before .before .before .args .slots .now) (c .before .before .before .args .k) (c .before .before .before .args .c) (Data (shapeNumbered (c .before .before .before .args .word % 256))) (countFrom (c .before .before .before .args .word / 512))
+ready c = ready-data _ _ _ _ (c .before .before .before .pre) (c .if1 .taken)
 
-ready : (c : tie.After-known-told)
-    → Ready
-    (c .before .before .before .before .before .args .slots .now)
-    (c .before .before .before .before .before .args .k)
-    (c .before .before .before .before .before .args .c)
-    (Data (c .before .code .given .0 .0))
-    (c .before .before .before .before .before .args .n)
-ready c = rw (c .before .code .given .1) at (c .before .before .before .before .before .pre)
+items : (c : tie.After-amount) → c .amount .result < 4303355904
+items c =
+    let n = c .before .before .before .count-from in
+    let a = c .before .before .before .before .slot-at in
+    omega (arith, c .amount .ensures, a .ensures .len, amount-small (n .result) (a .result .len) (rw (n .ensures) (ready (c .before .before .before .before .before) .countFits)))
 
 slot-at-requires : tie.Need-slot-at-requires
 slot-at-requires c κs = omega (arith, ready c .slot)
 
-check-requires : tie.Need-check-requires
-check-requires c κs = search needs
+count-from-requires : tie.Need-count-from-requires
+count-from-requires c κs = search needs
 
-enum-known-v : tie.Need-enum-known-v
-enum-known-v c = search needs
-
-enum-told : tie.Need-enum-told
-enum-told c = search needs
+serves-requires : tie.Need-serves-requires
+serves-requires c κs = search needs
 
 amount-requires : tie.Need-amount-requires
 amount-requires c κs = search needs
 
-bytes-for-requires : tie.Need-bytes-for-requires
-bytes-for-requires c κs =
-    let r = ready (c .before .before .before .before .before) in
-    let a = c .before .before .before .before .slot-at in
-    let n = c .before .before .before .before .before .before .before .before .before .before .args .n in
-    (omega (arith, c .amount .ensures, a .ensures .len, amount-small n (a .result .len) (r .countFits)), r .codeFits)
+bytes-numbered-requires : tie.Need-bytes-numbered-requires
+bytes-numbered-requires c κs = (items c, omega (arith, c .before .before .before .before .before .if1 .taken))
 
 store-requires : tie.Need-store-requires
 store-requires c κs =
-    let m = c .before in
-    let a = m .before .before .before .before .slot-at in
-    let r = ready (m .before .before .before .before .before) in
-    let start = m .before .before .before .before .before .before .before .before .before .before in
-    omega (arith, c .bytes-for .ensures, m .amount .ensures, a .ensures .len, amount-small (start .args .n) (a .result .len) (r .countFits), bytes-small (m .before .before .before .before .before .before .code .given .0 .0) (m .amount .result) (r .codeFits), r .near)
-
-enum-known-code-2 : tie.Need-enum-known-code-2
-enum-known-code-2 c = search needs
-
-moved-requires : tie.Need-moved-requires
-moved-requires c κs = search needs
+    let r = ready (c .before .before .before .before .before .before) in
+    omega (arith, c .bytes-numbered .ensures, items (c .before), bytes-small (shapeNumbered (c .before .before .before .before .before .before .before .before .before .args .word % 256)) (c .before .amount .result) (r .codeFits), r .near)
 
 returns : tie.Need-returns
 returns c =
-    let a = c .before .before .before .before in
-    rw (a .before .before .code .given .1, ← a .slot-at .ensures .same)
-    (step-stop _ _ _ _ _ _ _ _ (sym (c .before .v .given .1) ∙ c .before .before .before .check .ensures))
+    quick-next _ _ _ _ _ (c .before .before .before .before .before .before .before .if1 .taken) _ (c .before .before .before .before .before .before .slot-at .ensures .same) _ (c .before .before .before .before .before .count-from .ensures) _ (c .before .before .before .before .serves .ensures) (c .before .before .before .if2 .taken)
+    _ (c .before .before .amount .ensures) _ (c .before .bytes-numbered .ensures) _ (c .store .ensures)
+
+field-of-requires : tie.Need-field-of-requires
+field-of-requires c κs = search needs
+
+step-exactly-requires : tie.Need-step-exactly-requires
+step-exactly-requires c κs = rw (c .field-of .ensures .same) (c .before .before .before .before .pre)
 
 returns-2 : tie.Need-returns-2
-returns-2 c =
-    let told = c .before .before .before in
-    let a = told .before .before .before in
-    rw (a .before .before .code .given .1, ← a .slot-at .ensures .same)
-    (ap Next (c .store .ensures ∙ rw (c .before .bytes-for .ensures, c .before .before .amount .ensures))
-    ∙ step-next _ _ (slotOf (a .slot-at .result)) _ _ _ (sym (told .enum-told .given .1) ∙ told .before .before .check .ensures))
-
-returns-3 : tie.Need-returns-3
-unfolding stepped
-returns-3 c = rw (c .before .before .code2 .given .1) (ap Next (c .moved .ensures))
+returns-2 c = rw (← c .before .field-of .ensures .same) (c .step-exactly .ensures)
 
 pub step-spec : {M : Type 1} → statement M
 step-spec =
     tie.close
     (tie.spec
-    enum-known-code
     slot-at-requires
-    check-requires
-    enum-known-v
-    enum-told
+    count-from-requires
+    serves-requires
     amount-requires
-    bytes-for-requires
+    bytes-numbered-requires
     store-requires
-    enum-known-code-2
-    moved-requires
     returns
-    returns-2
-    returns-3)
+    field-of-requires
+    step-exactly-requires
+    returns-2)

@@ -1,33 +1,24 @@
--- In each branch the constant is the order.
+-- The leaf loop stores the bytes of the slot's value.
+use mathlib.Core.Path.{refl, ap, _∙_}
+use Rattle.record.specs.Bytes.{storeAt}
+use Rattle.packer.proofs.StoreLaws.{integers-asks, integers-value}
 use borrow.Author.Needs.{needs}
 use Rattle.packer.proofs.write.store_integers.Statement.{statement}
 use Rattle.packer.proofs.write.store_integers.Tie as tie
 
-store-width-requires : tie.Need-store-width-requires
-store-width-requires c κs = search needs
+store-requires : tie.Need-store-requires
+store-requires c κs = integers-asks _ _ _ _ _ _ _ (c .before .before .before .pre)
 
-store-width-requires-2 : tie.Need-store-width-requires-2
-store-width-requires-2 c κs = search needs
+mul-result : tie.Need-mul-result
+mul-result c = search needs
 
 same-length : tie.Need-same-length
 same-length c = search needs
 
 returns : tie.Need-returns
-returns c = rw (c .before .before .before .before .if1 .taken) (c .before .before .store-width .ensures)
-
-same-length-2 : tie.Need-same-length-2
-same-length-2 c = search needs
-
-returns-2 : tie.Need-returns-2
-returns-2 c = rw (c .before .before .before .before .if1 .left) (c .before .before .store-width2 .ensures)
+returns c =
+    let s = c .before .before .before .before .before .before in
+    (refl, c .before .before .store .ensures ∙ ap (storeAt (s .args .out .now) (s .args .at)) (integers-value _ _ _ _ _ _ _ (s .pre)))
 
 pub store-integers-spec : {M : Type 1} → statement M
-store-integers-spec =
-    tie.close
-    (tie.spec
-    store-width-requires
-    store-width-requires-2
-    same-length
-    returns
-    same-length-2
-    returns-2)
+store-integers-spec = tie.close (tie.spec store-requires mul-result same-length returns)

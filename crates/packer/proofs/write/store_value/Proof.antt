@@ -1,85 +1,228 @@
--- Each form has its leaf loop, which stores the bytes of the slot's value.
-use mathlib.Core.Path.{ap, _∙_}
-use lib.ListN.{length}
-use Rattle.layout.specs.declared.Shape.the-variants.{Text, Digits, Integers}
-use Rattle.record.specs.Bytes.{storeAt}
-use Rattle.packer.specs.Arguments.{slotOf}
-use Rattle.packer.specs.Writing.{Storable}
-use Rattle.packer.proofs.StoreLaws.{text-asks, text-value, digits-asks, digits-value, integers-asks, integers-value}
+-- In each arm the constants are those of the type's number.
+use Prim.Native.Nat.{ℕ, _+_, _≤_, _<_}
+use native.Mathlib.Omega.{arith}
+use mathlib.Core.Path.{_≡_}
+use Rattle.layout.specs.Words.{typeNumbered, shapeNumbered}
 use borrow.Author.Needs.{needs}
 use Rattle.packer.proofs.write.store_value.Statement.{statement}
 use Rattle.packer.proofs.write.store_value.Tie as tie
 
-enum-known-s : tie.Need-enum-known-s
-enum-known-s c = search needs
+any : (d : ℕ) → 0 ≤ d
+any d = omega arith
 
-as-text : (c : tie.After-known-told)
-    → Storable (c .before .before .before .before .before .args .area .now) (Text (c .before .s .given .0 .0)) (c .before .before .before .before .before .args .n) (slotOf (c .before .before .before .before .before .args .a)) (c .before .before .before .before .before .args .at) (length (c .before .before .before .before .before .args .out .now))
-as-text c = rw (c .before .s .given .1) at (c .before .before .before .before .before .pre)
+-- past six numbers (as many as `omega` splits by)
+six : (m d : ℕ) → m ≤ d → (d ≡ m → ⊥) → (d ≡ m + 1 → ⊥) → (d ≡ m + 2 → ⊥) → (d ≡ m + 3 → ⊥) → (d ≡ m + 4 → ⊥) → (d ≡ m + 5 → ⊥) → m + 6 ≤ d
+six m d h e₀ e₁ e₂ e₃ e₄ e₅ = omega arith
 
-as-digits : (c : tie.After-known-told2)
-    → Storable (c .before .before .before .before .before .args .area .now) (Digits (c .before .s2 .given .0 .0) (c .before .s2 .given .0 .1 .0)) (c .before .before .before .before .before .args .n) (slotOf (c .before .before .before .before .before .args .a)) (c .before .before .before .before .before .args .at) (length (c .before .before .before .before .before .args .out .now))
-as-digits c = rw (c .before .s2 .given .1) at (c .before .before .before .before .before .pre)
+one : (d : ℕ) → 12 ≤ d → (d ≡ 12 → ⊥) → d < 14 → d ≡ 13
+one d h e l = omega arith
 
-as-integers : (c : tie.After-known-told3)
-    → Storable (c .before .before .before .before .before .args .area .now) (Integers (c .before .s3 .given .0 .0) (c .before .s3 .given .0 .1 .0)) (c .before .before .before .before .before .args .n) (slotOf (c .before .before .before .before .before .args .a)) (c .before .before .before .before .before .args .at) (length (c .before .before .before .before .before .args .out .now))
-as-integers c = rw (c .before .s3 .given .1) at (c .before .before .before .before .before .pre)
+-- the last arm is the type number 13
+last : (c : tie.At-match-rest) → c .before .before .before .args .d ≡ 13
+last c =
+    let r = c .match .rest in
+    let d : ℕ = c .before .before .before .args .d in
+    let more : 6 ≤ d = six 0 d (any d) (r .0 .0 .0 .0 .0 .0 .0 .0 .0 .0 .0 .0 .1) (r .0 .0 .0 .0 .0 .0 .0 .0 .0 .0 .0 .1) (r .0 .0 .0 .0 .0 .0 .0 .0 .0 .0 .1) (r .0 .0 .0 .0 .0 .0 .0 .0 .0 .1) (r .0 .0 .0 .0 .0 .0 .0 .0 .1) (r .0 .0 .0 .0 .0 .0 .0 .1) in
+    let most : 12 ≤ d = six 6 d more (r .0 .0 .0 .0 .0 .0 .1) (r .0 .0 .0 .0 .0 .1) (r .0 .0 .0 .0 .1) (r .0 .0 .0 .1) (r .0 .0 .1) (r .0 .1) in
+    one d most (r .1) (c .before .before .before .pre .0)
 
-store-requires : tie.Need-store-requires
-store-requires c κs = text-asks _ _ _ _ _ _ (as-text (c .before))
+store-text-requires : tie.Need-store-text-requires
+unfolding shapeNumbered typeNumbered
+store-text-requires c κs = rw (c .before .match .keys1) at (c .before .before .before .before .pre .1)
 
-enum-known-s-2 : tie.Need-enum-known-s-2
-enum-known-s-2 c = search needs
+store-text-requires-2 : tie.Need-store-text-requires-2
+unfolding shapeNumbered typeNumbered
+store-text-requires-2 c κs = rw (c .before .match .keys2) at (c .before .before .before .before .pre .1)
 
 store-digits-requires : tie.Need-store-digits-requires
-store-digits-requires c κs = digits-asks _ _ _ _ _ _ _ (as-digits (c .before))
+unfolding shapeNumbered typeNumbered
+store-digits-requires c κs = rw (c .before .match .keys3) at (c .before .before .before .before .pre .1)
 
-enum-known-s-3 : tie.Need-enum-known-s-3
-enum-known-s-3 c = search needs
+store-digits-requires-2 : tie.Need-store-digits-requires-2
+unfolding shapeNumbered typeNumbered
+store-digits-requires-2 c κs = rw (c .before .match .keys4) at (c .before .before .before .before .pre .1)
+
+store-digits-requires-3 : tie.Need-store-digits-requires-3
+unfolding shapeNumbered typeNumbered
+store-digits-requires-3 c κs = rw (c .before .match .keys5) at (c .before .before .before .before .pre .1)
+
+store-digits-requires-4 : tie.Need-store-digits-requires-4
+unfolding shapeNumbered typeNumbered
+store-digits-requires-4 c κs = rw (c .before .match .keys6) at (c .before .before .before .before .pre .1)
 
 store-integers-requires : tie.Need-store-integers-requires
-store-integers-requires c κs = integers-asks _ _ _ _ _ _ _ (as-integers (c .before))
+unfolding shapeNumbered typeNumbered
+store-integers-requires c κs = rw (c .before .match .keys7) at (c .before .before .before .before .pre .1)
+
+store-integers-requires-2 : tie.Need-store-integers-requires-2
+unfolding shapeNumbered typeNumbered
+store-integers-requires-2 c κs = rw (c .before .match .keys8) at (c .before .before .before .before .pre .1)
+
+store-integers-requires-3 : tie.Need-store-integers-requires-3
+unfolding shapeNumbered typeNumbered
+store-integers-requires-3 c κs = rw (c .before .match .keys9) at (c .before .before .before .before .pre .1)
+
+store-integers-requires-4 : tie.Need-store-integers-requires-4
+unfolding shapeNumbered typeNumbered
+store-integers-requires-4 c κs = rw (c .before .match .keys10) at (c .before .before .before .before .pre .1)
+
+store-integers-requires-5 : tie.Need-store-integers-requires-5
+unfolding shapeNumbered typeNumbered
+store-integers-requires-5 c κs = rw (c .before .match .keys11) at (c .before .before .before .before .pre .1)
+
+store-integers-requires-6 : tie.Need-store-integers-requires-6
+unfolding shapeNumbered typeNumbered
+store-integers-requires-6 c κs = rw (c .before .match .keys12) at (c .before .before .before .before .pre .1)
+
+store-integers-requires-7 : tie.Need-store-integers-requires-7
+unfolding shapeNumbered typeNumbered
+store-integers-requires-7 c κs = rw (c .before .match .keys13) at (c .before .before .before .before .pre .1)
+
+store-integers-requires-8 : tie.Need-store-integers-requires-8
+unfolding shapeNumbered typeNumbered
+store-integers-requires-8 c κs = rw (last (c .before)) at (c .before .before .before .before .pre .1)
 
 same-length : tie.Need-same-length
 same-length c = search needs
 
 returns : tie.Need-returns
-returns c =
-    let k = c .before .before .before .before in
-    let s = k .before .before .before .before .before .args in
-    rw (k .before .s .given .1) (c .before .before .store .ensures ∙ ap (storeAt (s .out .now) (s .at)) (text-value _ _ _ _ _ _ (as-text k)))
+unfolding shapeNumbered typeNumbered
+returns c = rw (c .before .before .before .before .match .keys1) (c .before .before .store-text .ensures)
 
 same-length-2 : tie.Need-same-length-2
 same-length-2 c = search needs
 
 returns-2 : tie.Need-returns-2
-returns-2 c =
-    let k = c .before .before .before .before in
-    let s = k .before .before .before .before .before .args in
-    rw (k .before .s2 .given .1) (c .before .before .store-digits .ensures ∙ ap (storeAt (s .out .now) (s .at)) (digits-value _ _ _ _ _ _ _ (as-digits k)))
+unfolding shapeNumbered typeNumbered
+returns-2 c = rw (c .before .before .before .before .match .keys2) (c .before .before .store-text2 .ensures)
 
 same-length-3 : tie.Need-same-length-3
 same-length-3 c = search needs
 
 returns-3 : tie.Need-returns-3
-returns-3 c =
-    let k = c .before .before .before .before in
-    let s = k .before .before .before .before .before .args in
-    rw (k .before .s3 .given .1) (c .before .before .store-integers .ensures ∙ ap (storeAt (s .out .now) (s .at)) (integers-value _ _ _ _ _ _ _ (as-integers k)))
+unfolding shapeNumbered typeNumbered
+returns-3 c = rw (c .before .before .before .before .match .keys3) (c .before .before .store-digits .ensures)
+
+same-length-4 : tie.Need-same-length-4
+same-length-4 c = search needs
+
+returns-4 : tie.Need-returns-4
+unfolding shapeNumbered typeNumbered
+returns-4 c = rw (c .before .before .before .before .match .keys4) (c .before .before .store-digits2 .ensures)
+
+same-length-5 : tie.Need-same-length-5
+same-length-5 c = search needs
+
+returns-5 : tie.Need-returns-5
+unfolding shapeNumbered typeNumbered
+returns-5 c = rw (c .before .before .before .before .match .keys5) (c .before .before .store-digits3 .ensures)
+
+same-length-6 : tie.Need-same-length-6
+same-length-6 c = search needs
+
+returns-6 : tie.Need-returns-6
+unfolding shapeNumbered typeNumbered
+returns-6 c = rw (c .before .before .before .before .match .keys6) (c .before .before .store-digits4 .ensures)
+
+same-length-7 : tie.Need-same-length-7
+same-length-7 c = search needs
+
+returns-7 : tie.Need-returns-7
+unfolding shapeNumbered typeNumbered
+returns-7 c = rw (c .before .before .before .before .match .keys7) (c .before .before .store-integers .ensures)
+
+same-length-8 : tie.Need-same-length-8
+same-length-8 c = search needs
+
+returns-8 : tie.Need-returns-8
+unfolding shapeNumbered typeNumbered
+returns-8 c = rw (c .before .before .before .before .match .keys8) (c .before .before .store-integers2 .ensures)
+
+same-length-9 : tie.Need-same-length-9
+same-length-9 c = search needs
+
+returns-9 : tie.Need-returns-9
+unfolding shapeNumbered typeNumbered
+returns-9 c = rw (c .before .before .before .before .match .keys9) (c .before .before .store-integers3 .ensures)
+
+same-length-10 : tie.Need-same-length-10
+same-length-10 c = search needs
+
+returns-10 : tie.Need-returns-10
+unfolding shapeNumbered typeNumbered
+returns-10 c = rw (c .before .before .before .before .match .keys10) (c .before .before .store-integers4 .ensures)
+
+same-length-11 : tie.Need-same-length-11
+same-length-11 c = search needs
+
+returns-11 : tie.Need-returns-11
+unfolding shapeNumbered typeNumbered
+returns-11 c = rw (c .before .before .before .before .match .keys11) (c .before .before .store-integers5 .ensures)
+
+same-length-12 : tie.Need-same-length-12
+same-length-12 c = search needs
+
+returns-12 : tie.Need-returns-12
+unfolding shapeNumbered typeNumbered
+returns-12 c = rw (c .before .before .before .before .match .keys12) (c .before .before .store-integers6 .ensures)
+
+same-length-13 : tie.Need-same-length-13
+same-length-13 c = search needs
+
+returns-13 : tie.Need-returns-13
+unfolding shapeNumbered typeNumbered
+returns-13 c = rw (c .before .before .before .before .match .keys13) (c .before .before .store-integers7 .ensures)
+
+same-length-14 : tie.Need-same-length-14
+same-length-14 c = search needs
+
+returns-14 : tie.Need-returns-14
+unfolding shapeNumbered typeNumbered
+returns-14 c = rw (last (c .before .before .before .before)) (c .before .before .store-integers8 .ensures)
 
 pub store-value-spec : {M : Type 1} → statement M
 store-value-spec =
     tie.close
     (tie.spec
-    enum-known-s
-    store-requires
-    enum-known-s-2
+    store-text-requires
+    store-text-requires-2
     store-digits-requires
-    enum-known-s-3
+    store-digits-requires-2
+    store-digits-requires-3
+    store-digits-requires-4
     store-integers-requires
+    store-integers-requires-2
+    store-integers-requires-3
+    store-integers-requires-4
+    store-integers-requires-5
+    store-integers-requires-6
+    store-integers-requires-7
+    store-integers-requires-8
     same-length
     returns
     same-length-2
     returns-2
     same-length-3
-    returns-3)
+    returns-3
+    same-length-4
+    returns-4
+    same-length-5
+    returns-5
+    same-length-6
+    returns-6
+    same-length-7
+    returns-7
+    same-length-8
+    returns-8
+    same-length-9
+    returns-9
+    same-length-10
+    returns-10
+    same-length-11
+    returns-11
+    same-length-12
+    returns-12
+    same-length-13
+    returns-13
+    same-length-14
+    returns-14)

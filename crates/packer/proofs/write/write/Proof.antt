@@ -18,31 +18,29 @@ new-requires c κs = search needs
 loop-holds : tie.Need-loop-holds Inv-loop μ-loop
 loop-holds c = rw (c .new .ensures) (writing-none _ _ _ _ _ (c .before .before .before .before .pre))
 
-mul-field-of : tie.Need-mul-field-of Inv-loop μ-loop
-mul-field-of c = omega (arith, c .before .before .before .before .before .before .pre .prepared)
+mul-word : tie.Need-mul-word Inv-loop μ-loop
+mul-word c = omega (arith, c .before .before .before .before .before .before .pre .prepared)
 
-element-copy-out-field-of : tie.Need-element-copy-out-field-of Inv-loop μ-loop
-element-copy-out-field-of c = omega (arith, c .before .before .before .before .before .before .pre .prepared)
+element-copy-out-word : tie.Need-element-copy-out-word Inv-loop μ-loop
+element-copy-out-word c = omega (arith, c .before .before .before .before .before .before .pre .prepared)
 
-field-of-requires : tie.Need-field-of-requires Inv-loop μ-loop
-field-of-requires c κs = search needs
+slots-in-requires : tie.Need-slots-in-requires Inv-loop μ-loop
+slots-in-requires c κs = search needs
 
 put-requires : tie.Need-put-requires Inv-loop μ-loop
 put-requires c κs =
     let l = c .before .before .before .before in
-    writing-ready _ _ _ _ _ (l .before .before .before .before .before .pre) _ _ _ _ (l .loop .inv) (c .before .before .before .loop-test .taken) _ (c .before .field-of .ensures)
-
-slots-of-requires : tie.Need-slots-of-requires Inv-loop μ-loop
-slots-of-requires c κs = search needs
+    writing-ready _ _ _ _ _ (l .before .before .before .before .before .pre) _ _ _ _ (l .loop .inv) (c .before .before .before .loop-test .taken) _ (c .before .slots-in .ensures .field)
 
 loop-again : tie.Need-loop-again Inv-loop μ-loop
 loop-again c =
-    let p = c .before .before .before in
+    let p = c .before .before in
+    let w = p .before .before .slots-in .ensures in
     let l = p .before .before .before .before .before in
-    writing-next _ _ _ _ _ (l .before .before .before .before .before .pre) _ _ _ _ (l .loop .inv) (p .before .before .before .before .loop-test .taken) _ (p .before .before .field-of .ensures) _ _ (p .put .ensures) (p .put .kept .1 .1 .1 .1 .1 .1 .0) _ (c .slots-of .ensures)
+    writing-next _ _ _ _ _ (l .before .before .before .before .before .pre) _ _ _ _ (l .loop .inv) (p .before .before .before .before .loop-test .taken) _ (w .field) _ _ (p .put .ensures) (p .put .kept .1 .1 .1 .1 .1 .0) _ (w .taken)
 
 add-k : tie.Need-add-k Inv-loop μ-loop
-add-k c = omega (arith, loop-again c .standing .slots, c .before .before .before .before .before .before .before .before .before .before .before .before .before .pre .prepared)
+add-k c = omega (arith, loop-again c .standing .slots, c .before .before .before .before .before .before .before .before .before .before .before .before .pre .prepared)
 
 add-i : tie.Need-add-i Inv-loop μ-loop
 add-i c = omega arith
@@ -64,11 +62,10 @@ write-spec =
     μ-loop
     new-requires
     loop-holds
-    mul-field-of
-    element-copy-out-field-of
-    field-of-requires
+    mul-word
+    element-copy-out-word
+    slots-in-requires
     put-requires
-    slots-of-requires
     add-k
     add-i
     loop-less

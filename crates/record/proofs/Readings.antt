@@ -1,0 +1,144 @@
+-- A reading looks at the number of the slots that it is lent, and not at what they hold: it sets the first of them, and the others stay.
+use Prim.Native.Nat.{ℕ, suc, _+_, _-_, _*_, _/_, _%_, _≤_}
+use native.Mathlib.Nat.{zero-add, mul-comm}
+use native.Mathlib.Omega.{arith}
+use mathlib.Core.Path.{_≡_, refl, sym, ap, _∙_, subst}
+use mathlib.Core.Bool.{Bool, true, false, _&&_}
+use mathlib.Core.List.{List, [], _∷_, _++_}
+use lib.Dec.{eqb, leb}
+use lib.ListN.{length, take, drop}
+use lib.Seq.{take-at, drop-at}
+use borrow.Author.Tests.{ne-eqb, leb-true}
+use Rattle.layout.specs.declared.Code.{Code}
+use Rattle.layout.specs.declared.Code.the-variants.{Data, Move}
+use Rattle.layout.specs.declared.Count.{Count}
+use Rattle.layout.specs.declared.Field.{Field}
+use Rattle.layout.specs.declared.Refusal.the-variants.{NoRoom}
+use Rattle.layout.specs.Refusals.{if_then_else_, numberOf, Result, ok, refused}
+use Rattle.layout.specs.Layout.{maxLayout, fieldsOf, slotCount}
+use Rattle.layout.proofs.Laws.{bound, demanded, ok-inj, no-number-zero}
+use Rattle.record.specs.declared.Answer.{Answer}
+use Rattle.record.specs.Bytes.{part, storeAt}
+use Rattle.record.specs.Table.{maxSlots, maxRecord, maxArea, slotWidth, slotsOf, Value, areaBytes, slotNumbers, valueBytes}
+use Rattle.record.specs.Geometry.{amount, bytesFor, itemsIn, movedIn, sizesFit}
+use Rattle.record.specs.Reading.{Read, loaded, valuesFrom, reads, putInto, readEffect, read}
+use Rattle.record.proofs.Bytes.{and-true}
+use Rattle.record.proofs.Tables.{length-slots}
+
+-- ---- no field shows a value but those that take a slot
+
+few-if : (t : Bool) (v : Value) (vs : List Value) (k : ℕ) → length vs ≤ k → length (if t then v ∷ vs else []) ≤ suc k
+few-if true v vs k h = omega arith
+few-if false v vs k h = omega arith
+
+few-step : (bs : List ℕ) (at : ℕ) (k : Code) (u : Bool) (n : Count) (fs : List Field) → ((to : ℕ) → length (valuesFrom bs to fs) ≤ slotCount fs)
+    → length (valuesFrom bs at (record { code = k; unsigned = u; count = n } ∷ fs)) ≤ slotCount (record { code = k; unsigned = u; count = n } ∷ fs)
+unfolding valuesFrom slotCount
+few-step bs at (Data s) u n fs h =
+    let left = length bs - at in
+    let k = amount n (itemsIn s left) in
+    let b = bytesFor s k in
+    few-if (leb b left) (loaded s u k (part bs at b)) (valuesFrom bs (at + b) fs) (slotCount fs) (h (at + b))
+few-step bs at (Move m) u n fs h = h (movedIn (length bs) m n at)
+
+pub values-few : (bs : List ℕ) (at : ℕ) (fs : List Field) → length (valuesFrom bs at fs) ≤ slotCount fs
+unfolding valuesFrom slotCount
+values-few bs at [] = omega arith
+values-few bs at (f ∷ fs) = few-step bs at (f .code) (f .unsigned) (f .count) fs (λ to. values-few bs to fs)
+
+-- ---- a reading sets no more slots than it is lent, nor than a call may be lent
+
+pub slots-within : (layout slots bs area : List ℕ) → sizesFit layout slots bs area ≡ true → length slots ≤ slotWidth * maxSlots
+slots-within layout slots bs area e = leb-true (length slots) (slotWidth * maxSlots) (second (leb (length layout) maxLayout) (leb (length slots) (slotWidth * maxSlots)) (eqb (length slots % slotWidth) 0) (leb (length bs) maxRecord) (leb (length area) maxArea) e)
+  where
+    second : (a b c d e : Bool) → ((((a && b) && c) && d) && e) ≡ true → b ≡ true
+    second a b c d e h = and-true a b (and-true (a && b) c (and-true ((a && b) && c) d (and-true (((a && b) && c) && d) e h .0) .0) .0) .1
+
+pub record Few (slots : List ℕ) (n : ℕ) : Type 0 where
+  pub lent : n * slotWidth ≤ length slots
+  pub most : n ≤ maxSlots
+
+few-by : (slots : List ℕ) (k n : ℕ) → length slots ≤ slotWidth * maxSlots → k ≤ length (slotsOf slots) → n ≤ k → Few slots n
+few-by slots k n within enough few = let l : length (slotsOf slots) ≡ length slots / slotWidth = length-slots slots in record { lent = omega arith; most = omega arith }
+
+reads-few : (layout bs slots area : List ℕ) (mark : ℕ) (vs : List Value) → reads layout bs slots area mark ≡ ok vs → Few slots (length vs)
+unfolding reads
+reads-few layout bs slots area mark vs e =
+    let (fit, e₁) = demanded _ _ _ _ vs e in
+    let (fs, _, e₂) = bound (fieldsOf false layout) _ vs e₁ in
+    let (enough, e₃) = demanded _ _ _ _ vs e₂ in
+    let shown : List Value = valuesFrom bs 0 fs in
+    let (_, e₄) = demanded (leb (mark + length (valueBytes shown)) (length area)) NoRoom 0 (λ _. ok shown) vs e₃ in
+    let within : length slots ≤ slotWidth * maxSlots = slots-within layout slots bs area (and-true (sizesFit layout slots bs area) (leb mark (length area)) fit .0) in
+    few-by slots (slotCount fs) (length vs) within (leb-true (slotCount fs) (length (slotsOf slots)) enough) (subst (λ (ws : List Value). length ws ≤ slotCount fs) {x = shown} (ok-inj e₄) (values-few bs 0 fs))
+
+-- ---- what stood in the slots does not count
+
+pub length-slot-numbers : (start : ℕ) (vs : List Value) → length (slotNumbers start vs) ≡ slotWidth * length vs
+unfolding slotNumbers
+length-slot-numbers start [] = refl
+length-slot-numbers start (v ∷ vs) = omega (arith, length-slot-numbers (start + length (areaBytes v)) vs)
+
+-- what a reading leaves, over the slots ys: those that it set, and the others of ys
+abbrev pub over : List ℕ → Read → Read
+over ys r =
+    record {
+      answer = r .answer;
+      slots = if eqb (r .answer .number) 0 then storeAt ys 0 (take (r .answer .first * slotWidth) (r .slots)) else ys;
+      area = r .area;
+    }
+
+module _ (xs area : List ℕ) (mark : ℕ) where
+  module _ (vs : List Value) where
+    long : length (slotNumbers mark vs) ≡ length vs * slotWidth
+    long = length-slot-numbers mark vs ∙ mul-comm slotWidth (length vs)
+
+    set-over : (ys : List ℕ) → slotNumbers mark vs ++ drop (slotWidth * length vs) ys ≡ storeAt ys 0 (take (length vs * slotWidth) (slotNumbers mark vs ++ drop (slotWidth * length vs) xs))
+    set-over ys = rw (take-at (slotNumbers mark vs) (drop (slotWidth * length vs) xs) (length vs * slotWidth) long, zero-add, length-slot-numbers mark vs)
+
+    unset-same : drop (length vs * slotWidth) (slotNumbers mark vs ++ drop (slotWidth * length vs) xs) ≡ drop (length vs * slotWidth) xs
+    unset-same = drop-at (slotNumbers mark vs) (drop (slotWidth * length vs) xs) (length vs * slotWidth) long ∙ ap (λ (n : ℕ). drop n xs) (mul-comm slotWidth (length vs))
+
+  effect-over : (ys : List ℕ) (r : Result (List Value)) → readEffect ys area mark r ≡ over ys (readEffect xs area mark r)
+  unfolding putInto
+  effect-over ys (ok vs) = ap (λ (s : List ℕ). record { answer = putInto ys area mark vs .answer; slots = s; area = putInto ys area mark vs .area }) (set-over vs ys)
+  effect-over ys (refused why place) = rw (ne-eqb (numberOf why) 0 (λ z. no-number-zero why z))
+
+  effect-unset : (r : Result (List Value)) → readEffect xs area mark r .answer .number ≡ 0
+      → drop (readEffect xs area mark r .answer .first * slotWidth) (readEffect xs area mark r .slots) ≡ drop (readEffect xs area mark r .answer .first * slotWidth) xs
+  unfolding putInto
+  effect-unset (ok vs) z = unset-same vs
+  effect-unset (refused why place) z = no-number-zero why z
+
+  effect-few : (r : Result (List Value)) → ((vs : List Value) → r ≡ ok vs → Few xs (length vs)) → readEffect xs area mark r .answer .number ≡ 0 → Few xs (readEffect xs area mark r .answer .first)
+  unfolding putInto
+  effect-few (ok vs) h z = h vs refl
+  effect-few (refused why place) h z = no-number-zero why z
+
+module _ (layout bs area : List ℕ) (mark : ℕ) (xs : List ℕ) where
+  -- any slots will do in the place of ys, if they are as many
+  module _ (ys : List ℕ) (same : length xs ≡ length ys) where
+    reads-same : reads layout bs ys area mark ≡ reads layout bs xs area mark
+    unfolding reads
+    reads-same = rw (length-slots ys, length-slots xs, same)
+
+    pub read-over : read layout bs ys area mark ≡ over ys (read layout bs xs area mark)
+    unfolding read
+    read-over = rw reads-same (effect-over xs area mark ys (reads layout bs xs area mark))
+
+  module _ (z : read layout bs xs area mark .answer .number ≡ 0) where
+    -- the slots after those that are set stay as lent
+    pub read-unset : drop (read layout bs xs area mark .answer .first * slotWidth) (read layout bs xs area mark .slots) ≡ drop (read layout bs xs area mark .answer .first * slotWidth) xs
+    unfolding read
+    read-unset = effect-unset xs area mark (reads layout bs xs area mark) z
+
+    pub read-few : Few xs (read layout bs xs area mark .answer .first)
+    unfolding read
+    read-few = effect-few xs area mark (reads layout bs xs area mark) (reads-few layout bs xs area mark) z
+
+  -- what a call left has room for the slots that it set
+  pub set-few : {a : Answer} {xs′ area′ : List ℕ} → record { answer = a; slots = xs′; area = area′ } ≡ read layout bs xs area mark → a .number ≡ 0 → length xs′ ≡ length xs → a .first * slotWidth ≤ length xs′
+  set-few {a} p z e =
+      let same : read layout bs xs area mark .answer ≡ a = ap (λ (r : Read). r .answer) (sym p) in
+      let few : Few xs (read layout bs xs area mark .answer .first) = read-few (rw same z) in
+      rw e ((rw same at few) .lent)

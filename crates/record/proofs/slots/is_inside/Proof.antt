@@ -1,0 +1,31 @@
+-- The sum is made in 64 bits, where numbers of 32 bits do not wrap; so the tests are the definition's.
+use Prim.Native.Nat.{_*_, _≤_}
+use native.Mathlib.Omega.{arith}
+use borrow.Author.Tests.{le-leb, lt-leb}
+use Rattle.record.proofs.Bounds.{item-small, product-small}
+use borrow.Author.Needs.{needs}
+use Rattle.record.proofs.slots.is_inside.Statement.{statement}
+use Rattle.record.proofs.slots.is_inside.Tie as tie
+
+returns : tie.Need-returns
+returns c = simp (lt-leb _ _ (c .if1 .taken))
+
+item-size-requires : tie.Need-item-size-requires
+item-size-requires c κs = search needs
+
+small : (c : tie.After-struct-known) → c .before .before .before .args .a .len * c .before .item-size .result ≤ 4294967296 * 8
+small c =
+    let a = c .before .before .before .args .a in
+    product-small (a .len) (c .before .item-size .result) 4294967296 8 (omega arith) (omega (arith, c .before .item-size .ensures, item-small (a .kind)))
+
+mul-result : tie.Need-mul-result
+mul-result c = omega (arith, small c)
+
+add-result : tie.Need-add-result
+add-result c = omega (arith, small (c .before))
+
+returns-2 : tie.Need-returns-2
+returns-2 c = simp (le-leb _ _ (c .before .before .before .if1 .left), c .before .before .item-size .ensures)
+
+pub is-inside-spec : {M : Type 1} → statement M
+is-inside-spec = tie.close (tie.spec returns item-size-requires mul-result add-result returns-2)
