@@ -1,4 +1,0 @@
--- Laws of the calls for a C host.
-mod NumberLaws
-mod Calls
-pub mod Theorems

@@ -1,4 +1,0 @@
--- What the calls for a C host mean.
-pub mod Boundary
-pub mod Claims
-pub mod Steps

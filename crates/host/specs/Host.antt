@@ -1,0 +1,62 @@
+-- What the calls for a C host share (document 01, Slot tables): slots and replies are runs of bytes, each number four of them, big-endian.
+use Prim.Native.Nat.{ℕ, _*_, _/_, _%_}
+use mathlib.Core.Bool.{Bool, true, _&&_}
+use mathlib.Core.List.{List, [], _∷_, map}
+use lib.ListN.{length}
+use lib.Dec.{eqb, leb}
+use Rattle.layout.specs.Refusals.{if_then_else_}
+use Rattle.record.specs.declared.Answer.{Answer}
+use Rattle.record.specs.Bytes.{pieces, join, digits, number, ordered}
+use Rattle.record.specs.Table.{slotWidth, maxSlots}
+
+-- ---- numbers as bytes
+
+-- the w bytes of a number, the highest first
+unfoldable pub numberBytes : ℕ → ℕ → List ℕ
+unfolding digits
+numberBytes w x = ordered true (digits 256 w x)
+
+-- numbers of w bytes each, one after the other; and the n numbers that stand at the front of bs
+unfoldable pub bigEndian : ℕ → List ℕ → List ℕ
+unfolding join numberBytes
+bigEndian w xs = join (map (numberBytes w) xs)
+
+unfoldable pub bigEndianIn : ℕ → ℕ → List ℕ → List ℕ
+unfolding pieces number
+bigEndianIn w n bs = map (λ p. number 256 (ordered true p)) (pieces w n bs)
+
+-- the bytes of a number, of a slot, and of a reply, which is an answer's three numbers
+abbrev pub numberSize : ℕ
+numberSize = 4
+
+abbrev pub slotSize : ℕ
+slotSize = numberSize * slotWidth
+
+abbrev pub replySize : ℕ
+replySize = numberSize * 3
+
+-- the numbers of a run of bytes, and the bytes of a run of numbers
+unfoldable pub numbersIn : List ℕ → List ℕ
+unfolding bigEndianIn
+numbersIn bs = bigEndianIn numberSize (length bs / numberSize) bs
+
+unfoldable pub bytesOf : List ℕ → List ℕ
+unfolding bigEndian
+bytesOf xs = bigEndian numberSize xs
+
+-- the reply to an answer of three numbers
+unfoldable pub replyOf : Answer → List ℕ
+unfolding bytesOf
+replyOf a = bytesOf (a .number ∷ a .first ∷ a .second ∷ [])
+
+-- ---- what the calls share
+
+-- A reply of another size than the call's own: nothing is written. Slot bytes that are no whole slots: refused with 1. Else the call is
+-- served on the numbers that the bytes make, where more slots than a call may be lent are refused with 1.
+abbrev pub guarded : {A : Type 0} → ℕ → List ℕ → List ℕ → A → A → A → A
+guarded size reply slots unwritten refused served =
+    if eqb (length reply) size then (if eqb (length slots % slotSize) 0 then served else refused) else unwritten
+
+-- a run of so many slot bytes is taken apart: the slots are whole, and no more than a call may be lent
+abbrev pub slotsFit : ℕ → Bool
+slotsFit size = leb size (slotSize * maxSlots) && eqb (size % slotSize) 0

@@ -1,0 +1,2 @@
+-- Numbers, slots and replies as a C host lends them.
+pub mod Host

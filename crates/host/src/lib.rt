@@ -1,0 +1,42 @@
+// What the calls for a C host share: slots are lent, and replies written, as runs of bytes, each number four of them, big-endian.
+ghost use mathlib.Core.Path.{_≡_};
+ghost use lib.Dec.{eqb};
+ghost use lib.ListN.{length};
+ghost use Rattle.host.specs.Host.{replySize, replyOf, slotsFit};
+use record::Answer;
+
+pub mod numbers;
+
+// The bytes of a slot and of a reply; the numbers of the slots that a call may be lent.
+pub const SLOT_SIZE: usize = numbers::NUMBER_SIZE * record::SLOT_WIDTH;
+
+pub const REPLY_SIZE: usize = 12;
+
+pub const MAX_NUMBERS: usize = record::SLOT_WIDTH * record::MAX_SLOTS;
+
+// Whether a reply of so many bytes is one of three numbers.
+pub fn reply_fits(size: usize) -> bool
+    ensures { λ r. ⌜ r ≡ eqb size replySize ⌝ }
+{
+    size == REPLY_SIZE
+}
+
+// Whether a run of so many slot bytes is served: whole slots, and no more than a call may be lent.
+pub fn slots_fit(size: usize) -> bool
+    ensures { λ r. ⌜ r ≡ slotsFit size ⌝ }
+{
+    if MAX_NUMBERS * numbers::NUMBER_SIZE < size {
+        return false;
+    }
+    size % SLOT_SIZE == 0
+}
+
+// Writes an answer into the reply, and hands back its number.
+pub fn reply_with(reply: &mut [u8], a: Answer) -> u32
+    requires { ⌜ length (now reply) ≡ replySize ⌝ }
+    ensures { λ r. ⌜ (r ≡ a .number) × (now (reply .exit) ≡ replyOf a) ⌝ }
+{
+    let three: [u32; 3] = [a.number, a.first, a.second];
+    numbers::encode_run(reply, &three, 0, 3);
+    a.number
+}

@@ -1,0 +1,104 @@
+-- What each way out of a call leaves is what the definition gives.
+use Prim.Native.Nat.{ℕ, _*_, _%_, _<_}
+use native.Mathlib.Omega.{arith}
+use mathlib.Core.Path.{_≡_, sym, ap, _∙_}
+use mathlib.Core.Bool.{true, false}
+use mathlib.Core.List.{List}
+use borrow.Author.Tests.{lt-leb, eq-eqb, ne-eqb}
+use lib.Dec.{eqb, leb}
+use lib.ListN.{length, take}
+use Rattle.layout.specs.declared.Refusal.the-variants.{BadSize}
+use Rattle.layout.specs.Refusals.{numberOf}
+use Rattle.layout.specs.Layout.{maxLayout}
+use Rattle.record.specs.declared.Answer.{Answer}
+use Rattle.record.specs.Bytes.{storeAt}
+use Rattle.record.proofs.Bytes.{All}
+use Rattle.record.specs.Table.{maxSlots, slotWidth}
+use Rattle.record.specs.Geometry.{sizesFit}
+use Rattle.record.specs.Packing.{refusal, packs, pack}
+use Rattle.record.specs.Reading.{reads, read}
+use Rattle.record.proofs.Readings.{over, read-over}
+use Rattle.host.specs.Host.{numberSize, replySize, numbersIn, bytesOf, replyOf, slotsFit}
+use Rattle.host.proofs.NumberLaws.{length-numbersIn, bytes-stored}
+use Rattle.host.proofs.Guards.{and-false, Fit, guarded-unwritten, guarded-refused, guarded-served}
+use Rattle.host_record.specs.Calls.{packCall, curlewPack, readCall, curlewRead}
+
+-- more slots than a call may be lent are refused with 1
+module _ (layout ns bs area : List ℕ) (many : slotWidth * maxSlots < length ns) where
+  sizes-many : sizesFit layout ns bs area ≡ false
+  sizes-many = rw (lt-leb (length ns) (slotWidth * maxSlots) many, and-false (leb (length layout) maxLayout))
+
+  pack-many : record { answer = refusal BadSize 0; output = bs } ≡ pack layout ns area bs
+  unfolding pack packs
+  pack-many = rw sizes-many
+
+  read-many : (mark : ℕ) → record { answer = refusal BadSize 0; slots = ns; area = area } ≡ read layout bs ns area mark
+  unfolding read reads
+  read-many mark = rw sizes-many
+
+-- ---- packing
+
+module _ (layout slots area out : List ℕ) where
+  -- the call on numbers, and the reply
+  pub pack-replied : {ns out′ reply′ : List ℕ} {a : Answer} {r : ℕ} → ns ≡ numbersIn slots → record { answer = a; output = out′ } ≡ pack layout ns area out → (r ≡ a .number) × (reply′ ≡ replyOf a)
+      → record { returned = r; output = out′; reply = reply′ } ≡ packCall (pack layout (numbersIn slots) area out)
+  unfolding packCall
+  pack-replied e p q = rw (← e, ← p, q .0, q .1)
+
+  module _ (reply : List ℕ) where
+    pub pack-unwritten : eqb (length reply) replySize ≡ false → record { returned = numberOf BadSize; output = out; reply = reply } ≡ curlewPack layout slots area out reply
+    unfolding curlewPack
+    pack-unwritten h = guarded-unwritten replySize reply slots _ _ _ h
+
+    module _ (sized : eqb (length reply) replySize ≡ true) where
+      pub pack-refused : {a : Answer} {r : ℕ} {reply′ : List ℕ} → slotsFit (length slots) ≡ false → a ≡ refusal BadSize 0 → (r ≡ a .number) × (reply′ ≡ replyOf a)
+          → record { returned = r; output = out; reply = reply′ } ≡ curlewPack layout slots area out reply
+      unfolding curlewPack packCall
+      pack-refused {a} {r} {reply′} bad e q =
+          let here : record { returned = r; output = out; reply = reply′ } ≡ packCall (record { answer = refusal BadSize 0; output = out }) = rw (q .0, q .1, e) in
+          here ∙ guarded-refused replySize reply slots _ _ _ sized bad (λ many. ap packCall (pack-many layout (numbersIn slots) out area many))
+
+      pub pack-served : Fit (length slots) → packCall (pack layout (numbersIn slots) area out) ≡ curlewPack layout slots area out reply
+      unfolding curlewPack
+      pack-served f = guarded-served replySize reply slots _ _ _ sized f
+
+-- ---- reading
+
+module _ (layout bytes slots area : List ℕ) (mark : ℕ) where
+  module _ (ns : List ℕ) {ns′ area′ reply′ : List ℕ} {a : Answer} {r : ℕ} (size : length slots ≡ length ns * numberSize) (p : record { answer = a; slots = ns′; area = area′ } ≡ read layout bytes ns area mark)
+      (q : (r ≡ a .number) × (reply′ ≡ replyOf a)) where
+    -- the numbers lent for the slots may be any
+    lent : read layout bytes (numbersIn slots) area mark ≡ over (numbersIn slots) (record { answer = a; slots = ns′; area = area′ })
+    lent =
+        let same : length ns ≡ length (numbersIn slots) = rw length-numbersIn (omega arith) in
+        read-over layout bytes area mark ns (numbersIn slots) same ∙ ap (over (numbersIn slots)) (sym p)
+
+    -- the call on numbers, and the reply: a refusal leaves the slots
+    pub read-left : (a .number ≡ 0 → ⊥) → record { returned = r; slots = slots; area = area′; reply = reply′ } ≡ readCall slots (read layout bytes (numbersIn slots) area mark)
+    unfolding readCall
+    read-left h = rw (lent, ne-eqb (a .number) 0 h, q .0, q .1)
+
+    -- and an accepted reading the bytes of those that it did not set
+    pub read-set : {slots′ : List ℕ} → a .number ≡ 0 → All (λ b. b < 256) slots → slots′ ≡ storeAt slots 0 (bytesOf (take (a .first * slotWidth) ns′))
+        → record { returned = r; slots = slots′; area = area′; reply = reply′ } ≡ readCall slots (read layout bytes (numbersIn slots) area mark)
+    unfolding readCall
+    read-set h below s =
+        let whole : length slots % numberSize ≡ 0 = omega arith in
+        rw (lent, eq-eqb (a .number) 0 h, bytes-stored slots (take (a .first * slotWidth) ns′) whole below, s, q .0, q .1)
+
+  module _ (reply : List ℕ) where
+    pub read-unwritten : eqb (length reply) replySize ≡ false → record { returned = numberOf BadSize; slots = slots; area = area; reply = reply } ≡ curlewRead layout bytes slots area mark reply
+    unfolding curlewRead
+    read-unwritten h = guarded-unwritten replySize reply slots _ _ _ h
+
+    module _ (sized : eqb (length reply) replySize ≡ true) where
+      pub read-refused : {a : Answer} {r : ℕ} {reply′ : List ℕ} → slotsFit (length slots) ≡ false → a ≡ refusal BadSize 0 → (r ≡ a .number) × (reply′ ≡ replyOf a)
+          → record { returned = r; slots = slots; area = area; reply = reply′ } ≡ curlewRead layout bytes slots area mark reply
+      unfolding curlewRead readCall
+      read-refused {a} {r} {reply′} bad e q =
+          let here : record { returned = r; slots = slots; area = area; reply = reply′ } ≡ readCall slots (record { answer = refusal BadSize 0; slots = numbersIn slots; area = area }) = rw (q .0, q .1, e) in
+          here ∙ guarded-refused replySize reply slots _ _ _ sized bad (λ many. ap (readCall slots) (read-many layout (numbersIn slots) bytes area many mark))
+
+      pub read-served : Fit (length slots) → readCall slots (read layout bytes (numbersIn slots) area mark) ≡ curlewRead layout bytes slots area mark reply
+      unfolding curlewRead
+      read-served f = guarded-served replySize reply slots _ _ _ sized f
