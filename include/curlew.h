@@ -74,12 +74,12 @@
  * READING: THE MARK, AND RECORDS THAT ARE TOO SHORT
  *
  * The mark is the place in the area where the first value goes. The values follow one another from there
- * without gaps, in the order of the fields, and the slot of each gets its kind, start and length. The bytes
- * below the mark and after the last value stay as they were. To read several records into one area, give the
- * place that one reading answers as the mark of the next.
+ * without gaps, in the order of the fields, and the slot of each gets its kind, start and length. No other
+ * byte of the area is touched. To read several records into one area, give the place that one reading answers
+ * as the mark of the next.
  *
- * A field that needs more bytes than the record still has ends the reading: its slot and all later ones stay
- * as they were. It is no error. Clear the slots before you read, and a slot that is still CURLEW_UNSET
+ * Where the record has too few bytes left for a field, the reading ends there: that field's slot, and the slots
+ * of the fields behind it, stay as they were. It is no error. Clear the slots before you read, and a slot that is still CURLEW_UNSET
  * afterwards was not in the record. It never becomes a 0. Slots beyond those of the layout stay as well.
  *
  * A layout without X, @, `*` and counts of 0 may therefore grow: put new fields behind the old ones, and old
@@ -107,17 +107,17 @@
  *    6   CURLEW_NOT_SET      packing: the slot is not set                           the slot
  *    7   CURLEW_BAD_SLOT     packing: the slot's kind is above 3, or its value      the slot
  *                            does not lie inside the area
- *    8   CURLEW_WRONG_KIND   packing: a string where integers are due, or the       the slot
- *                            reverse
- *    9   CURLEW_BAD_LIST     packing: too few integers, or not exactly one where    the slot
- *                            the field has no count
+ *    8   CURLEW_WRONG_KIND   packing: the field wants integers and the slot has     the slot
+ *                            a string, or the other way round
+ *    9   CURLEW_BAD_LIST     packing: fewer integers than the count, or another     the slot
+ *                            number than one where the field has no count
  *   10   CURLEW_BAD_DIGIT    packing: a digit that counts is not a digit            the slot
- *   11   CURLEW_NO_ROOM      the result is longer than the output run, or the       0
- *                            values are longer than the area after the mark
+ *   11   CURLEW_NO_ROOM      the result does not fit the output run, or the         0
+ *                            values do not fit the area from the mark on
  *
- * The checks are made in this order: 1; then 2, 3 and 4 together, field by field from the left; then 5; then
- * 6 to 10 slot by slot, in this order within a slot; then 11. All are made before anything is written: a
- * refusal writes the reply and nothing else. A reply of a wrong size makes the call return 1 and write nothing
+ * The checks are made in this order: 1; then 2, 3 and 4 for each field in turn; then 5; then 6 to 10 for each
+ * slot in turn, the lower number first; then 11. No byte is written before the last of them: a refusal writes
+ * the reply and nothing else. A reply of a wrong size makes the call return 1 and write nothing
  * at all.
  *
  * After a packing that was accepted, the bytes of the output run behind the result stay as they were.
@@ -357,8 +357,8 @@ static inline const char *curlew_refusal(uint32_t number)
     case CURLEW_BAD_SLOTS: return "the number of slots does not suit the layout";
     case CURLEW_NOT_SET: return "the slot is not set";
     case CURLEW_BAD_SLOT: return "the slot has an unknown kind, or its value lies outside the area";
-    case CURLEW_WRONG_KIND: return "the slot holds a string where integers are due, or the reverse";
-    case CURLEW_BAD_LIST: return "the slot holds too few integers, or not exactly one";
+    case CURLEW_WRONG_KIND: return "the slot holds a string and the field wants integers, or the other way round";
+    case CURLEW_BAD_LIST: return "the slot holds fewer integers than the count, or not one where there is no count";
     case CURLEW_BAD_DIGIT: return "the slot's string has a character that is not a digit";
     case CURLEW_NO_ROOM: return "the result does not fit the run that is to hold it";
     default: return "unknown number";

@@ -94,7 +94,8 @@ int main()
 
     answer = pack("A5 S4", values, record);
     check(answer.number == CURLEW_BAD_LIST && answer.first == 1, "refusal");
-    check(std::string(curlew_refusal(answer.number)) == "the slot holds too few integers, or not exactly one", "text");
+    check(std::string(curlew_refusal(answer.number)) ==
+              "the slot holds fewer integers than the count, or not one where there is no count", "text");
 
     table none;
     record.clear();
