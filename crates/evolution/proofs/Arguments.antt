@@ -1,11 +1,11 @@
 -- Laws of `filled` and `argumentsFit`: of a layout's front, and what an accepted argument is good for.
-use Prim.Native.Nat.{ℕ, zero, suc, _+_, _-_, _≤_, _<_}
+use Prim.Native.Nat.{ℕ, zero, suc, _≤_, _<_}
 use native.Mathlib.Nat.{not-suc-le-zero, le-of-suc-le-suc}
 use native.Mathlib.Omega.{arith}
 use mathlib.Core.Path.{_≡_, refl, sym, ap, subst}
 use mathlib.Core.Bool.{Bool, true, _&&_, not}
 use mathlib.Core.List.{List, [], _∷_, _++_}
-use lib.ListN.{take, drop, length-map}
+use lib.ListN.{take, drop}
 use lib.Seq.{drop-nil}
 use lib.Dec.{T, leb, eqb, leb→le}
 use borrow.Author.Tests.{leb-true, eqb-true, not-true}
@@ -21,12 +21,13 @@ use Rattle.layout.specs.declared.Refusal.the-variants.{NotSet, BadSlot, WrongKi
 use Rattle.layout.specs.Refusals.{Result, ok, _>>=_}
 use Rattle.layout.specs.Words.{FitCode}
 use Rattle.layout.proofs.Laws.{AllSound, bound, demanded, demand-true}
-use Rattle.record.specs.Table.{Slot, shown, integersIn}
+use Rattle.record.specs.Table.{Slot, shown}
 use Rattle.record.specs.Geometry.{amount}
 use Rattle.record.specs.Packing.{insideArea, Filled, filled, nextSlot, argumentFits, argumentsFit, kindFits, amountFits, enough, digitsFit}
 use Rattle.layout.specs.Layout.{slotCount}
 use Rattle.evolution.specs.Claim.{plainCode, plainCount, plain}
-use Rattle.record.proofs.Bytes.{both, length-pieces}
+use Rattle.record.proofs.Bytes.{both}
+use Rattle.record.proofs.NumberLaws.{length-bigEndianIn}
 use Rattle.record.proofs.Fields.{Served}
 use Rattle.evolution.proofs.Run.{AllGood, Forward, ForwardFields, fieldsIn}
 
@@ -124,10 +125,10 @@ enough-le (Times n) have p e = leb-true n have e
 
 served-by : (area : List ℕ) (s : Shape) (n : Count) (a : Slot) → T (plainCount n) → kindFits s (a .kind) ≡ true → amountFits s n (a .len) ≡ true
     → digitsFit s (amount n (a .len)) (shown area a .items) ≡ true → Served s (amount n 0) (shown area a .items)
-unfolding digitsFit shown integersIn
+unfolding digitsFit shown
 served-by area (Text pad) n a p k c d = tt
 served-by area (Digits hex high) n a p k c d = subst (λ (t : Bool). T t) (sym (rw (plain-amount n p .1 (a .len)) at d)) tt
-served-by area (Integers w big) n a p k c d = rw (not-true (eqb (a .kind) 1) k, length-map, length-pieces) (enough-le n (a .len) p c)
+served-by area (Integers w big) n a p k c d = rw (not-true (eqb (a .kind) 1) k, length-bigEndianIn) (enough-le n (a .len) p c)
 
 served : (area : List ℕ) (s : Shape) (n : Count) (i : ℕ) (a : Slot) → T (plainCount n) → argumentFits area s n i a ≡ ok tt → Served s (amount n 0) (shown area a .items)
 unfolding argumentFits

@@ -1,6 +1,6 @@
 -- The slots of values just put into a table show those values: each stands in the area where its slot says.
-use Prim.Native.Nat.{ℕ, suc, _+_, _-_, _*_, _%_, _^_, _≤_, _<_}
-use native.Mathlib.Nat.{mod-eq-of-lt, mod-lt, one-le-pow, pow-le-pow-right}
+use Prim.Native.Nat.{ℕ, _+_, _-_, _*_, _%_, _^_, _≤_, _<_}
+use native.Mathlib.Nat.{mod-lt, one-le-pow, pow-le-pow-right}
 use native.Mathlib.Omega.{arith}
 use mathlib.Core.Path.{_≡_, refl, sym, ap, ap₂, _∙_}
 use mathlib.Core.Bool.{Bool, true, false, _||_}
@@ -15,15 +15,15 @@ use Rattle.layout.specs.declared.Shape.the-variants.{Text, Digits, Integers}
 use Rattle.layout.specs.declared.Count.{Count}
 use Rattle.layout.specs.Words.{FitCode}
 use Rattle.layout.specs.Refusals.{if_then_else_}
-use Rattle.record.specs.Bytes.{pieces, join, number, ordered, storeAt}
-use Rattle.record.specs.Table.{slotsOf, Value, integerBytes, integersIn, areaBytes, shown, slotNumbers, valueBytes}
+use Rattle.record.specs.Bytes.{join, storeAt}
+use Rattle.record.specs.Table.{slotsOf, Value, integerSize, integerBytes, integersIn, areaBytes, shown, slotNumbers, valueBytes}
 use Rattle.record.specs.Geometry.{amount, bytesFor}
 use Rattle.record.specs.Packing.{Filled}
 use Rattle.record.specs.Reading.{putInto, widened}
 use Rattle.record.proofs.Bytes.{All}
 use Rattle.evolution.specs.Claim.{readBack, setBy}
 use Rattle.evolution.proofs.Run.{Good, AllGood}
-use Rattle.record.proofs.Fields.{item, length-item, number-item}
+use Rattle.record.proofs.NumberLaws.{numbers-back}
 
 -- an integer fits eight bytes
 abbrev pub Proper : Value → Type 0
@@ -32,18 +32,6 @@ Proper v = eqb (v .kind) 1 ≡ false → All (λ x. x < 2 ^ 64) (v .items)
 abbrev pub AllProper : List Value → Type 0
 AllProper [] = Unit {0}
 AllProper (v ∷ vs) = Proper v × AllProper vs
-
--- integers come back from their bytes
-integers-in : (xs rest : List ℕ) → All (λ x. x < 2 ^ 64) xs → integersIn (length xs) (integerBytes xs ++ rest) ≡ xs
-unfolding integersIn integerBytes pieces join item
-integers-in [] rest h = refl
-integers-in (x ∷ xs) rest h =
-    let tail : List ℕ = integerBytes xs ++ rest in
-    let split : integerBytes (x ∷ xs) ++ rest ≡ item 8 true x ++ tail = append-assoc (item 8 true x) (integerBytes xs) rest in
-    ap (integersIn (suc (length xs))) split
-    ∙ ap₂ (λ (y : ℕ) (ys : List ℕ). y ∷ ys)
-    (ap (λ (p : List ℕ). number 256 (ordered true p)) (take-at (item 8 true x) tail 8 (length-item 8 true x)) ∙ number-item 8 true x ∙ mod-eq-of-lt (h .0))
-    (ap (integersIn (length xs)) (drop-at (item 8 true x) tail 8 (length-item 8 true x)) ∙ integers-in xs rest (h .1))
 
 -- a slot shows the value whose bytes stand at its start
 pub shows-one : (area rest : List ℕ) (start : ℕ) (v : Value) → Proper v → drop start area ≡ areaBytes v ++ rest
@@ -55,7 +43,7 @@ shows-one area rest start v h e = rw e (ap (λ (xs : List ℕ). record { kind = 
         → (if t then take (length (v .items)) ((if t then v .items else integerBytes (v .items)) ++ rest)
         else integersIn (length (v .items)) ((if t then v .items else integerBytes (v .items)) ++ rest)) ≡ v .items
     by-kind true k = take-at (v .items) rest (length (v .items)) refl
-    by-kind false k = integers-in (v .items) rest (k refl)
+    by-kind false k = numbers-back integerSize (v .items) rest (k refl)
 
 shows-from : (vs : List Value) → AllProper vs → (area rest more : List ℕ) (start : ℕ) → drop start area ≡ valueBytes vs ++ rest
     → map (shown area) (take (length vs) (slotsOf (slotNumbers start vs ++ more))) ≡ vs

@@ -7,16 +7,16 @@ use mathlib.Core.Bool.{Bool, true, false, not}
 use mathlib.Core.List.{List, _∷_}
 use borrow.Author.Tests.{eqb-true, leb-true}
 use lib.Dec.{eqb, T}
-use lib.ListN.{length, take, drop, length-map}
+use lib.ListN.{length, take, drop}
 use Rattle.layout.specs.declared.Shape.{Shape}
 use Rattle.layout.specs.declared.Shape.the-variants.{Text, Digits, Integers}
 use Rattle.layout.specs.declared.Count.{Count}
 use Rattle.layout.specs.declared.Count.the-variants.{Absent, Star, Times}
-use Rattle.record.specs.Bytes.{part, ceilDiv, pieces, number, ordered}
-use Rattle.record.specs.Table.{Slot, shown, integersIn}
+use Rattle.record.specs.Bytes.{part, ceilDiv, pieces, number, ordered, bigEndianIn}
+use Rattle.record.specs.Table.{Slot, shown, integerSize, integersIn}
 use Rattle.record.specs.Geometry.{amount, perByte}
 use Rattle.record.specs.Packing.{stored, lowBytes, enough, amountFits, allDigits, digitsFit, insideArea}
-use Rattle.record.proofs.Bytes.{length-pieces}
+use Rattle.record.proofs.NumberLaws.{length-bigEndianIn}
 use Rattle.record.proofs.Fields.{Served}
 use Rattle.record.proofs.Stores.{length-part}
 use Rattle.packer.specs.Writing.{Enough, Storable}
@@ -24,7 +24,7 @@ use Rattle.record.proofs.Bounds.{few-digits}
 use Rattle.packer.proofs.ArgumentLaws.{string-inside, integers-inside, shown-string, Checked}
 
 take-integers : (n len : ℕ) (l : List ℕ) → n ≤ len → take n (integersIn len l) ≡ integersIn n l
-unfolding integersIn pieces
+unfolding bigEndianIn pieces
 take-integers zero len l h = refl
 take-integers (suc n) zero l h = absurd (not-suc-le-zero h)
 take-integers (suc n) (suc len) l h = ap (λ (r : List ℕ). number 256 (ordered true (take 8 l)) ∷ r) (take-integers n len (drop 8 l) (le-of-suc-le-suc h))
@@ -44,12 +44,11 @@ not-string false e = refl
 
 -- a value has as many items as its slot says
 pub length-shown : (area : List ℕ) (a : Slot) → insideArea area a ≡ true → length (shown area a .items) ≡ a .len
-unfolding integersIn
 length-shown area a h = by (eqb (a .kind) 1) refl
   where
     by : (t : Bool) → eqb (a .kind) 1 ≡ t → length (shown area a .items) ≡ a .len
     by true e = ap length (shown-string area a e) ∙ length-part (a .len) (a .start) area (string-inside area a h e)
-    by false e = ap length (shown-integers area a e) ∙ simp (length-map, length-pieces)
+    by false e = ap length (shown-integers area a e) ∙ length-bigEndianIn integerSize (a .len) (drop (a .start) area)
 
 pub enough-items : (n : Count) (have : ℕ) → enough n have ≡ true → amount n have ≤ have
 enough-items Absent have e = let h : have ≡ 1 = eqb-true have 1 e in omega arith

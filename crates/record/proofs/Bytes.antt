@@ -1,6 +1,6 @@
 -- Laws of `fit`, `pieces`, `join`, `digits` and `number`.
 use Prim.Native.Nat.{ℕ, zero, suc, _+_, _-_, _*_, _/_, _%_, _^_, _<_}
-use native.Mathlib.Nat.{sub-zero, zero-sub, suc-sub-suc, mod-one, zero-add, zero-mul, suc-mul, add-mul-mod-self-left, add-mul-div-left, div-eq-of-lt, mod-eq-of-lt, pow-suc, pow-zero, mul-pos, suc-ne-zero}
+use native.Mathlib.Nat.{sub-zero, zero-sub, suc-sub-suc, mod-one, zero-add, zero-mul, suc-mul, add-mul-mod-self-left, add-mul-div-left, div-eq-of-lt, mod-eq-of-lt, pow-suc, pow-zero, mul-pos, suc-ne-zero, div-one, div-div-eq-div-mul, pow-succ'}
 use native.Mathlib.Omega.{arith}
 use mathlib.Core.Path.{_≡_, refl, sym, ap, ap₂, _∙_}
 use mathlib.Core.Bool.{Bool, true, false, _&&_}
@@ -27,6 +27,12 @@ ordered-ordered false ds = refl
 pub length-ordered : (h : Bool) (ds : List ℕ) → length (ordered h ds) ≡ length ds
 length-ordered true ds = length-reverse ds
 length-ordered false ds = refl
+
+-- the highest digit stands last
+pub digits-last : (b k n : ℕ) → digits b (suc k) n ≡ digits b k n ++ (n / b ^ k % b ∷ [])
+unfolding digits
+digits-last b zero n = rw (pow-zero, div-one)
+digits-last b (suc k) n = ap (λ (ds : List ℕ). n % b ∷ ds) (digits-last b k (n / b) ∙ rw (div-div-eq-div-mul n b (b ^ k), pow-succ' b k))
 
 -- every element has a property
 abbrev pub All : (ℕ → Type 0) → List ℕ → Type 0

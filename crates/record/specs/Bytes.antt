@@ -1,7 +1,7 @@
 -- Runs of bytes and digits: parts, fitting to a length, cutting into pieces, and numerals in any base.
 use Prim.Native.Nat.{ℕ, zero, suc, _+_, _-_, _*_, _/_, _%_}
 use mathlib.Core.Bool.{Bool, true, false}
-use mathlib.Core.List.{List, [], _∷_, _++_, reverse}
+use mathlib.Core.List.{List, [], _∷_, _++_, map, reverse}
 use lib.ListN.{length, take, drop, replicate}
 
 -- the n elements of xs from the place `start` on
@@ -43,7 +43,22 @@ abbrev pub ordered : Bool → List ℕ → List ℕ
 ordered true ds = reverse ds
 ordered false ds = ds
 
--- the number that the w bytes from the place `at` on make, the highest first
+-- ---- numbers as bytes, the highest byte first
+
+-- the w bytes of a number; and the number that the w bytes from the place `at` on make
+unfoldable pub numberBytes : ℕ → ℕ → List ℕ
+unfolding digits
+numberBytes w x = ordered true (digits 256 w x)
+
 unfoldable pub numberAt : ℕ → List ℕ → ℕ → ℕ
 unfolding number
 numberAt w bs at = number 256 (ordered true (part bs at w))
+
+-- numbers of w bytes each, one after the other; and the n such numbers at the front of bs
+unfoldable pub bigEndian : ℕ → List ℕ → List ℕ
+unfolding join numberBytes
+bigEndian w xs = join (map (numberBytes w) xs)
+
+unfoldable pub bigEndianIn : ℕ → ℕ → List ℕ → List ℕ
+unfolding pieces number
+bigEndianIn w n bs = map (λ p. number 256 (ordered true p)) (pieces w n bs)

@@ -1,11 +1,10 @@
 -- Slot tables (document 01, "Slot tables"): a run of slots, three numbers to a slot, and a value area of bytes.
 use Prim.Native.Nat.{ℕ, _+_}
-use mathlib.Core.Bool.{true}
 use mathlib.Core.List.{List, [], _∷_, map}
 use lib.ListN.{length, take, drop}
 use lib.Dec.{eqb}
 use Rattle.layout.specs.Refusals.{if_then_else_}
-use Rattle.record.specs.Bytes.{pieces, join, digits, number, ordered}
+use Rattle.record.specs.Bytes.{join, bigEndian, bigEndianIn}
 
 -- ---- sizes (the layout's and the count's stand in the crate `layout`)
 
@@ -48,27 +47,28 @@ pub record Value : Type 0 where
   pub kind : ℕ
   pub items : List ℕ
 
--- the bytes that an item takes in the area
+-- the bytes of an integer, and of an item of a kind, in the area
+abbrev pub integerSize : ℕ
+integerSize = 8
+
 abbrev pub itemSize : ℕ → ℕ
-itemSize kind = if eqb kind 1 then 1 else 8
+itemSize kind = if eqb kind 1 then 1 else integerSize
 
--- integers as the area holds them, eight bytes each, big-endian; and the n integers that stand at the front of bs
-unfoldable pub integerBytes : List ℕ → List ℕ
-unfolding join digits
-integerBytes xs = join (map (λ x. ordered true (digits 256 8 x)) xs)
+-- integers as the area holds them; and the n integers that stand at the front of bs
+abbrev pub integerBytes : List ℕ → List ℕ
+integerBytes xs = bigEndian integerSize xs
 
-unfoldable pub integersIn : ℕ → List ℕ → List ℕ
-unfolding pieces number
-integersIn n bs = map (λ p. number 256 (ordered true p)) (pieces 8 n bs)
+abbrev pub integersIn : ℕ → List ℕ → List ℕ
+integersIn n bs = bigEndianIn integerSize n bs
 
 -- a value's bytes in the area
 unfoldable pub areaBytes : Value → List ℕ
-unfolding integerBytes
+unfolding bigEndian
 areaBytes v = if eqb (v .kind) 1 then v .items else integerBytes (v .items)
 
 -- the value that a slot shows
 unfoldable pub shown : List ℕ → Slot → Value
-unfolding integersIn
+unfolding bigEndianIn
 shown area s =
     let bs = drop (s .start) area in
     record { kind = s .kind; items = if eqb (s .kind) 1 then take (s .len) bs else integersIn (s .len) bs }

@@ -11,6 +11,7 @@ use layout::Count;
 use layout::Refusal;
 use layout::Shape;
 
+pub mod numbers;
 pub mod slots;
 
 // The limits of document 01, and how many numbers make a slot.

@@ -4,7 +4,6 @@ ghost use mathlib.Core.Bool.{_&&_};
 ghost use Prim.Native.Nat.{_+_, _*_, _≤_, _<_};
 ghost use lib.Dec.{leb};
 ghost use lib.ListN.{length};
-ghost use Rattle.record.specs.Bytes.{numberAt};
 ghost use Rattle.record.specs.Table.{slotWidth, itemSize};
 ghost use Rattle.record.specs.Slots.{SlotAt};
 use super::SLOT_WIDTH;
@@ -46,18 +45,4 @@ pub fn is_inside(a: Argument, area: usize) -> bool
         return false;
     }
     a.start + a.len * item_size(kind) <= area
-}
-
-// The integer whose eight bytes stand at a place of the area, the highest first.
-pub fn integer_at(area: &[u8], at: usize) -> u64
-    requires { ⌜ at + 8 ≤ length (now area) ⌝ }
-    ensures { λ r. ⌜ r ≡ numberAt 8 (now (area .entry)) at ⌝ }
-{
-    let mut x: u64 = 0;
-    let mut j: usize = 0;
-    while j < 8 {
-        x = x * 256 + area[at + j] as u64;
-        j += 1;
-    }
-    x
 }

@@ -1,0 +1,37 @@
+// Numbers as bytes, the highest byte first, of any width.
+ghost use mathlib.Core.Path.{_≡_};
+ghost use Prim.Native.Nat.{_+_, _^_, _≤_, _<_};
+ghost use lib.ListN.{length};
+ghost use Rattle.record.specs.Bytes.{storeAt, numberBytes, numberAt};
+ghost use Rattle.record.specs.Table.{integerSize};
+
+// The bytes of an integer in the area, and the most that a number here has.
+pub const INTEGER_SIZE: usize = 8;
+
+// The number that the w bytes from a place on make.
+pub fn number_at(bytes: &[u8], at: usize, w: usize) -> u64
+    requires { ⌜ (at + w ≤ length (now bytes)) × (w ≤ integerSize) ⌝ }
+    ensures { λ r. ⌜ (r ≡ numberAt w (now (bytes .entry)) at) × (r < 256 ^ w) ⌝ }
+{
+    let mut x: u64 = 0;
+    let mut j: usize = 0;
+    while j < w {
+        x = x * 256 + bytes[at + j] as u64;
+        j += 1;
+    }
+    x
+}
+
+// Puts the w lowest bytes of a number at a place, the last one first.
+pub fn put_number(out: &mut [u8], at: usize, w: usize, x: u64)
+    requires { ⌜ at + w ≤ length (now out) ⌝ }
+    ensures { λ _. ⌜ now (out .exit) ≡ storeAt (now (out .entry)) at (numberBytes w x) ⌝ }
+{
+    let mut rest = x;
+    let mut left = w;
+    while 0 < left {
+        left -= 1;
+        out[at + left] = (rest % 256) as u8;
+        rest = rest / 256;
+    }
+}
