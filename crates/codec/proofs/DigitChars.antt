@@ -7,15 +7,15 @@ use mathlib.Core.Path.{_≡_, refl, sym, ap, _∙_}
 use mathlib.Core.Bool.{Bool, true, false}
 use mathlib.Core.List.{List, [], _∷_, _++_, map, map-append, reverse, reverse-cons, reverse-append}
 use lib.ListN.{length, take, drop, getD, length-take, length-drop, length-map}
-use lib.Seq.{getD-drop, getD-take, take-add, take-all, take-append-le, drop-append-add, length-take-le, ext-getD}
+use lib.Seq.{getD-drop, getD-take, take-append-le, drop-append-add, length-take-le, ext-getD}
 use Rattle.layout.specs.declared.Shape.the-variants.{Digits}
 use Rattle.record.specs.Bytes.{part, storeAt, ceilDiv, join, digits, number, ordered}
 use Rattle.record.specs.Geometry.{base, perByte}
 use Rattle.record.specs.Reading.{digitChar, loaded}
 use Rattle.record.proofs.Bytes.{All, digits-number, number-digits, length-digits, length-ordered, length-join}
-use Rattle.record.proofs.Stores.{length-part, length-storeAt, store-none, store-store}
+use Rattle.record.proofs.Stores.{length-part}
 use Rattle.codec.specs.Numerals.{placeOf, charsOf, fourChars}
-use Rattle.codec.proofs.ByteLaws.{store-both}
+use Rattle.codec.proofs.ByteLaws.{store-both, Grown, grown-more}
 use Rattle.codec.proofs.DigitLaws.{ordered-at, map-at}
 
 -- ---- the digits of a byte
@@ -146,30 +146,6 @@ shown-part : (hex high : Bool) (n : ℕ) (bs : List ℕ) (k count : ℕ) → k <
 unfolding loaded
 shown-part hex high n bs k count h l m =
     rw (chars-join hex high bs) (part-take n (k * perByte hex) count (join (map (charsOf hex high) bs)) m ∙ join-part (charsOf hex high) (perByte hex) (length-chars hex high) bs k count h l)
-
--- ---- a loop that stores a run piece by piece: d is d₀ with the first i elements of s put in from the place `to` on
-
-pub record Grown (d₀ : List ℕ) (to : ℕ) (s d : List ℕ) (i : ℕ) : Type 0 where
-  pub long : length d ≡ length d₀
-  pub is : d ≡ storeAt d₀ to (take i s)
-
-pub grown-none : {d s : List ℕ} {to : ℕ} → Grown d to s d 0
-grown-none {d} {s} {to} = record { long = refl; is = sym (store-none d to) }
-
-pub grown-more : {d₀ d d′ s : List ℕ} {to i : ℕ} (count : ℕ) → Grown d₀ to s d i → to + length s ≤ length d₀ → i + count ≤ length s → d′ ≡ storeAt d (to + i) (part s i count)
-    → Grown d₀ to s d′ (i + count)
-grown-more {d₀} {d} {d′} {s} {to} {i} count g room h q =
-    let li : length (take i s) ≡ i = length-take-le i s (omega arith) in
-    let place : to + i ≡ to + length (take i s) = omega arith in
-    let lc : length (part s i count) ≡ count = length-part count i s h in
-    let step : storeAt (storeAt d₀ to (take i s)) (to + length (take i s)) (part s i count) ≡ storeAt d₀ to (take i s ++ part s i count) = store-store d₀ to (take i s) (part s i count) (omega arith) in
-    record {
-      long = ap length q ∙ length-storeAt d (to + i) (part s i count) (omega (arith, g .long)) ∙ g .long;
-      is = q ∙ rw (g .is, take-add i count s, place) step;
-    }
-
-pub grown-done : {d₀ d s : List ℕ} {to i : ℕ} → Grown d₀ to s d i → length s ≡ i → d ≡ storeAt d₀ to s
-grown-done {d₀} {d} {s} {to} {i} g e = g .is ∙ ap (storeAt d₀ to) (take-all i s (omega arith))
 
 -- the turn of the loop that reads the byte number k
 pub chars-turn : (hex high : Bool) (n : ℕ) (bytes : List ℕ) (at k : ℕ) {d₀ d d′ : List ℕ} {to i count : ℕ} → at + ceilDiv n (perByte hex) ≤ length bytes → k < ceilDiv n (perByte hex) → i ≡ k * perByte hex → i < n

@@ -6,6 +6,7 @@ ghost use lib.Dec.{leb, ltb};
 ghost use lib.ListN.{length, take, drop, getD};
 ghost use Rattle.layout.specs.declared.Shape.the-variants.{Digits};
 ghost use Rattle.record.specs.Bytes.{part, storeAt, ceilDiv, digits, ordered};
+ghost use Rattle.record.specs.Table.{maxArea};
 ghost use Rattle.record.specs.Geometry.{base, perByte};
 ghost use Rattle.record.specs.Packing.{digitValue, allDigits, stored};
 ghost use Rattle.record.specs.Reading.{digitChar, loaded};
@@ -123,7 +124,7 @@ fn byte_of(area: &[u8], from: usize, count: usize, hex: bool, high: bool) -> u8
 
 // The byte of the digits from the number i on. Where they fill it, their count is a constant, and none is tested for being there.
 fn next_byte(area: &[u8], start: usize, have: usize, i: usize, hex: bool, high: bool) -> u8
-    requires { ⌜ (i ≤ 65536) × (start + have ≤ length (now area)) × DigitsAt hex (now area) start have ⌝ }
+    requires { ⌜ (i ≤ maxArea) × (start + have ≤ length (now area)) × DigitsAt hex (now area) start have ⌝ }
     ensures { λ r. ⌜ r ≡ byteOf hex high (drop i (valuesAt (now (area .entry)) start have)) ⌝ }
 {
     let per = record::per_byte(hex);
@@ -145,7 +146,7 @@ pub fn store(
     hex: bool,
     high: bool,
 )
-    requires { ⌜ (n ≤ 65536) × (start + len ≤ length (now area)) × (at + ceilDiv n (perByte hex) ≤ length (now out)) × (allDigits hex (take n (part (now area) start len)) ≡ true) ⌝ }
+    requires { ⌜ (n ≤ maxArea) × (start + len ≤ length (now area)) × (at + ceilDiv n (perByte hex) ≤ length (now out)) × (allDigits hex (take n (part (now area) start len)) ≡ true) ⌝ }
     ensures { λ _. ⌜ now (out .exit) ≡ storeAt (now (out .entry)) at (stored (Digits hex high) n (part (now (area .entry)) start len)) ⌝ }
 {
     let per = record::per_byte(hex);
@@ -273,7 +274,7 @@ fn write_next(area: &mut [u8], to: usize, b: u8, left: usize, hex: bool, high: b
 
 // Reads n digits, a byte a turn.
 pub fn load(area: &mut [u8], to: usize, bytes: &[u8], at: usize, n: usize, hex: bool, high: bool)
-    requires { ⌜ (n ≤ 65536) × (to + n ≤ length (now area)) × (at + ceilDiv n (perByte hex) ≤ length (now bytes)) ⌝ }
+    requires { ⌜ (n ≤ maxArea) × (to + n ≤ length (now area)) × (at + ceilDiv n (perByte hex) ≤ length (now bytes)) ⌝ }
     ensures { λ _. ⌜ ((u : Bool) → now (area .exit) ≡ storeAt (now (area .entry)) to (loaded (Digits hex high) u n (part (now (bytes .entry)) at (ceilDiv n (perByte hex))) .items)) ⌝ }
 {
     let mut i = 0;

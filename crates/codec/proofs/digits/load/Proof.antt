@@ -6,7 +6,8 @@ use Rattle.record.specs.Bytes.{part, ceilDiv, storeAt}
 use Rattle.record.specs.Geometry.{perByte}
 use Rattle.record.proofs.Stores.{add-run, length-part}
 use Rattle.codec.proofs.DigitLaws.{more-bytes, per-byte}
-use Rattle.codec.proofs.DigitChars.{Grown, grown-none, grown-done, shownChars, shown-any, length-shown, chars-turn}
+use Rattle.codec.proofs.ByteLaws.{Grown, grown-none, grown-done}
+use Rattle.codec.proofs.DigitChars.{shownChars, shown-any, length-shown, chars-turn}
 use native.Mathlib.Nat.{zero-mul}
 use Rattle.codec.proofs.digits.load.Statement.{statement}
 use Rattle.codec.proofs.digits.load.Tie as tie
