@@ -3,18 +3,19 @@ use Prim.Native.Nat.{ℕ, _≤_, _<_, min}
 use native.Mathlib.Omega.{arith}
 use mathlib.Core.Path.{sym, _≡_, ap, _∙_, subst}
 use mathlib.Core.Bool.{Bool}
-use mathlib.Core.List.{List}
+use mathlib.Core.List.{List, map}
 use lib.ListN.{length-append, length, take, length-take}
 use lib.Seq.{take-take, take-all}
 use borrow.Author.Tests.{eq-eqb, ne-eqb}
 use Rattle.layout.specs.Refusals.{Result, ok, refused, _>>=_}
 use Rattle.layout.proofs.Laws.{no-number-zero}
 use Rattle.record.specs.declared.Answer.{Answer}
-use Rattle.record.specs.Packing.{packs, pack, packEffect, Packed}
+use Rattle.record.specs.Table.{slotsOf, shown}
+use Rattle.record.specs.Packing.{packs, pack, packEffect, Packed, accepted}
 use Rattle.record.specs.Reading.{Read, read, putInto}
 use Rattle.record.proofs.Fields.{split}
-use Rattle.evolution.specs.Claim.{Layouts, Reading, packedBy, due, ReadsBack}
-use Rattle.evolution.specs.Calls.{PackedAndRead, thenRead, packedAndRead, Lent}
+use Rattle.evolution.specs.Claim.{Layouts, packedBy, fieldsBy, endOf, due, ReadsBack}
+use Rattle.evolution.specs.Calls.{Lent, PackedAndRead, packing, thenRead, packedAndRead, Meant, KeepsBack, ReadsBackAs}
 use Rattle.evolution.proofs.ReadsBack.{reads-back}
 
 -- an accepted record lies in the buffer
@@ -38,38 +39,59 @@ take-least cut n xs =
 -- ---- the two calls
 
 abbrev readPart : PackedAndRead → Read
-readPart x = record { answer = x .answer; slots = x .slots; area = x .area }
+readPart x = record { answer = x .answer; slots = x .table; area = x .values }
 
-module _ (writtenBy slots area output : List ℕ) (cut : ℕ) (readBy table values : List ℕ) (mark : ℕ) where
-  abbrev both : PackedAndRead
-  both = packedAndRead writtenBy slots area output cut readBy table values mark
-
-  module _ (a : Answer) (out : List ℕ) (called : record { answer = a; output = out } ≡ pack writtenBy slots area output) where
-    pub then-refused : (a .number ≡ 0 → ⊥) → record { answer = a; output = out; slots = table; area = values } ≡ both
+module _ (c : Lent) where
+  module _ (a : Answer) (out : List ℕ) (called : record { answer = a; output = out } ≡ packing c) where
+    pub then-refused : (a .number ≡ 0 → ⊥) → record { answer = a; output = out; table = c .table; values = c .values } ≡ packedAndRead c
     unfolding packedAndRead
     then-refused h = rw (← called, ne-eqb (a .number) 0 h)
 
-    pub then-read : a .number ≡ 0 → (k : ℕ) → k ≡ min cut (a .first) → (r : Answer) (table′ values′ : List ℕ)
-        → record { answer = r; slots = table′; area = values′ } ≡ read readBy (take k out) table values mark
-        → record { answer = r; output = out; slots = table′; area = values′ } ≡ both
+    pub then-read : a .number ≡ 0 → (k : ℕ) → k ≡ min (c .cut) (a .first) → (r : Answer) (table′ values′ : List ℕ)
+        → record { answer = r; slots = table′; area = values′ } ≡ read (c .readBy) (take k out) (c .table) (c .values) (c .mark)
+        → record { answer = r; output = out; table = table′; values = values′ } ≡ packedAndRead c
     unfolding packedAndRead
     then-read h k least r table′ values′ e =
         rw (← called, eq-eqb (a .number) 0 h)
-        (ap (thenRead (record { answer = a; output = out })) (e ∙ ap (λ (bs : List ℕ). read readBy bs table values mark) (ap (λ (i : ℕ). take i out) least ∙ sym (take-least cut (a .first) out))))
+        (ap (thenRead (record { answer = a; output = out }))
+        (e ∙ ap (λ (bs : List ℕ). read (c .readBy) bs (c .table) (c .values) (c .mark)) (ap (λ (i : ℕ). take i out) least ∙ sym (take-least (c .cut) (a .first) out))))
 
-  -- demand 3, of two calls that are lent what it says
-  demand-three : (l : Layouts) (packing layout : Bool) → Lent l packing layout writtenBy slots area output readBy → Reading l packing layout cut table values mark
-      → readPart both ≡ putInto table values mark (due l layout cut)
-  unfolding packedAndRead
-  demand-three l packing layout lent h =
-      let p : pack writtenBy slots area output ≡ packedBy l packing = rw (lent .writer, lent .arguments, lent .values, lent .buffer) in
-      let back : ReadsBack l = reads-back l in
-      let zero : packedBy l packing .answer .number ≡ 0 = ap (λ (a : Answer). a .number) (back .packings packing) in
-      rw (p, eq-eqb (packedBy l packing .answer .number) 0 zero, lent .reader) (back .readings packing layout cut table values mark h)
+  -- demand 3, of two calls that are such as it speaks of
+  module _ (l : Layouts) (packed layout : Bool) (h : Meant l packed layout c) where
+    same-packing : packing c ≡ packedBy l packed
+    same-packing = rw (h .writer, h .arguments, h .items, h .buffer)
 
-  -- so the effect of the calls has both parts of the promise
-  pub promised : (x : PackedAndRead) → x ≡ both
-      → (x ≡ both)
-      × ((l : Layouts) (packing layout : Bool) → Lent l packing layout writtenBy slots area output readBy → Reading l packing layout cut table values mark
-      → readPart x ≡ putInto table values mark (due l layout cut))
-  promised x e = (e, λ l packing layout lent h. ap readPart e ∙ demand-three l packing layout lent h)
+    back : ReadsBack l
+    back = reads-back l
+
+    accepts : packedBy l packed .answer .number ≡ 0
+    accepts = ap (λ (a : Answer). a .number) (back .packings packed)
+
+    -- what is left, as the claim says it
+    left : packedAndRead c ≡ thenRead (packedBy l packed) (putInto (c .table) (c .values) (c .mark) (due l layout (c .cut)))
+    unfolding packedAndRead
+    left =
+        rw (same-packing, eq-eqb (packedBy l packed .answer .number) 0 accepts, h .reader)
+        (ap (thenRead (packedBy l packed)) (back .readings packed layout (c .cut) (c .table) (c .values) (c .mark) (h .reading)))
+
+    kept : KeepsBack l packed layout c (packedAndRead c)
+    kept =
+        record {
+          packings =
+              same-packing
+              ∙ ap (λ (a : Answer). record { answer = a; output = packedBy l packed .output }) (back .packings packed)
+              ∙ ap (λ (x : PackedAndRead). record { answer = accepted (endOf (fieldsBy l packed)) 0; output = x .output }) (sym left);
+          readings = ap readPart left;
+          shows =
+              ap (λ (x : PackedAndRead). map (shown (x .values)) (take (length (due l layout (c .cut))) (slotsOf (x .table)))) left
+              ∙ ap (λ (r : Read). map (shown (r .area)) (take (length (due l layout (c .cut))) (slotsOf (r .slots)))) (sym (back .readings packed layout (c .cut) (c .table) (c .values) (c .mark) (h .reading)))
+              ∙ back .shows packed layout (c .cut) (c .table) (c .values) (c .mark) (h .reading);
+        }
+
+  -- so the effect of the calls keeps the whole promise
+  pub promised : (x : PackedAndRead) → x ≡ packedAndRead c → ReadsBackAs c x
+  promised x e =
+      record {
+        effect = e;
+        demand3 = λ l packed layout h. subst (KeepsBack l packed layout c) (sym e) (kept l packed layout h);
+      }

@@ -1,14 +1,16 @@
--- The premises of demand 3 can be met: an old layout, a new one, two arguments, and a reading of a cut record; what is due is computed.
+-- The premises of demand 3 can be met: an old layout, a new one, two arguments, and readings of both records by both layouts, cut and not cut;
+-- what is due is computed.
 use Prim.Native.Nat.{_-_, _^_}
 use native.Mathlib.Omega.{arith}
 use mathlib.Core.Path.{_≡_, refl}
-use mathlib.Core.Bool.{true, false}
+use mathlib.Core.Bool.{Bool, true, false}
 use mathlib.Core.List.{[], _∷_, _++_}
 use lib.ListN.{replicate}
 use Rattle.layout.specs.declared.Code.the-variants.{Data, Move}
 use Rattle.layout.specs.declared.Motion.the-variants.{Skip}
 use Rattle.layout.specs.declared.Shape.the-variants.{Text, Integers}
 use Rattle.layout.specs.declared.Count.the-variants.{Absent, Times}
+use Rattle.layout.specs.Refusals.{if_then_else_}
 use Rattle.layout.specs.Layout.{fieldsOf, slotCount}
 use Rattle.layout.specs.Quoted.{bytes}
 use Rattle.record.specs.Table.{slotsOf, valueBytes}
@@ -38,12 +40,21 @@ pair = record {
   old-room = omega arith;
 }
 
--- the new record, cut at 5 and read by the new layout from the mark 1 on
-reading : Reading pair true true 5 (replicate 6 9) (replicate 4 9) 1
+-- The old record and the new one, not cut and cut inside the added fields, each read by the old layout and by the new one, from the mark 1 on,
+-- into six nines and an area of twelve.
+whole : (packing layout : Bool) → Reading pair packing layout (if packing then 6 else 3) (replicate 6 9) (replicate 12 9) 1
 unfolding pair pack setBy filled slotsOf slotCount valueBytes
-reading = record { within = omega arith; sizes = tt; enough-slots = omega arith; room = omega arith }
+whole true true = record { within = omega arith; sizes = tt; enough-slots = omega arith; room = omega arith }
+whole true false = record { within = omega arith; sizes = tt; enough-slots = omega arith; room = omega arith }
+whole false true = record { within = omega arith; sizes = tt; enough-slots = omega arith; room = omega arith }
+whole false false = record { within = omega arith; sizes = tt; enough-slots = omega arith; room = omega arith }
 
--- cut at 5 the new layout shows its first field only; cut at 6 both
+cut-short : (layout : Bool) → Reading pair true layout 5 (replicate 6 9) (replicate 4 9) 1
+unfolding pair pack setBy filled slotsOf slotCount valueBytes
+cut-short true = record { within = omega arith; sizes = tt; enough-slots = omega arith; room = omega arith }
+cut-short false = record { within = omega arith; sizes = tt; enough-slots = omega arith; room = omega arith }
+
+-- cut at 5 the new layout shows its first field only, cut at 6 both; the old layout shows the first of the whole new record
 due-five : due pair true 5 ≡ record { kind = 1; items = 97 ∷ 98 ∷ 0 ∷ [] } ∷ []
 unfolding pair setBy filled slotsOf
 due-five = refl
@@ -51,3 +62,7 @@ due-five = refl
 due-six : due pair true 6 ≡ record { kind = 1; items = 97 ∷ 98 ∷ 0 ∷ [] } ∷ record { kind = 2; items = (2 ^ 64 - 2) ∷ [] } ∷ []
 unfolding pair setBy filled slotsOf
 due-six = refl
+
+due-old : due pair false 6 ≡ record { kind = 1; items = 97 ∷ 98 ∷ 0 ∷ [] } ∷ []
+unfolding pair setBy filled slotsOf
+due-old = refl

@@ -1,39 +1,72 @@
--- A packing and a reading one after the other, as `read_back` makes them.
+-- A packing and a reading one after the other, as `read_back` makes them, and what demand 3 says of the two.
 use Prim.Native.Nat.{ℕ}
 use mathlib.Core.Path.{_≡_}
 use mathlib.Core.Bool.{Bool}
-use mathlib.Core.List.{List}
-use lib.ListN.{take}
+use mathlib.Core.List.{List, map}
+use lib.ListN.{length, take}
 use lib.Dec.{eqb}
 use Rattle.layout.specs.Refusals.{if_then_else_}
 use Rattle.record.specs.declared.Answer.{Answer}
-use Rattle.record.specs.Packing.{Packed, pack}
-use Rattle.record.specs.Reading.{Read, read}
-use Rattle.evolution.specs.Claim.{Layouts, textOf, slotsBy, outputBy, recordOf}
+use Rattle.record.specs.Table.{slotsOf, shown}
+use Rattle.record.specs.Packing.{Packed, pack, accepted}
+use Rattle.record.specs.Reading.{Read, read, putInto}
+use Rattle.evolution.specs.Claim.{Layouts, Reading, textOf, fieldsBy, slotsBy, outputBy, recordOf, endOf, due}
 
--- all that the two calls leave: the last answer, the packer's output, and the reader's table and area
+-- all that the two calls are lent: the packer's four runs, the cut, and what the reader has beside the record
+pub record Lent : Type 0 where
+  pub writtenBy : List ℕ
+  pub slots : List ℕ
+  pub area : List ℕ
+  pub output : List ℕ
+  pub cut : ℕ
+  pub readBy : List ℕ
+  pub table : List ℕ
+  pub values : List ℕ
+  pub mark : ℕ
+
+-- all that they leave: the last answer, the packer's output, and the reader's table and area
 pub record PackedAndRead : Type 0 where
   pub answer : Answer
   pub output : List ℕ
-  pub slots : List ℕ
-  pub area : List ℕ
+  pub table : List ℕ
+  pub values : List ℕ
+
+abbrev pub packing : Lent → Packed
+packing c = pack (c .writtenBy) (c .slots) (c .area) (c .output)
 
 abbrev pub thenRead : Packed → Read → PackedAndRead
-thenRead p r = record { answer = r .answer; output = p .output; slots = r .slots; area = r .area }
+thenRead p r = record { answer = r .answer; output = p .output; table = r .slots; values = r .area }
 
 -- Where the packer refuses nothing is read; else its record, cut, is.
-unfoldable pub packedAndRead : List ℕ → List ℕ → List ℕ → List ℕ → ℕ → List ℕ → List ℕ → List ℕ → ℕ → PackedAndRead
-packedAndRead writtenBy slots area output cut readBy table values mark =
-    let p = pack writtenBy slots area output in
+unfoldable pub packedAndRead : Lent → PackedAndRead
+packedAndRead c =
+    let p = packing c in
     thenRead p
     (if eqb (p .answer .number) 0
-    then read readBy (take cut (recordOf p)) table values mark
-    else record { answer = p .answer; slots = table; area = values })
+    then read (c .readBy) (take (c .cut) (recordOf p)) (c .table) (c .values) (c .mark)
+    else record { answer = p .answer; slots = c .table; area = c .values })
 
--- what demand 3 has the two calls lent
-pub record Lent (l : Layouts) (packing layout : Bool) (writtenBy slots area output readBy : List ℕ) : Type 0 where
-  pub writer : writtenBy ≡ textOf l packing
-  pub arguments : slots ≡ slotsBy l packing
-  pub values : area ≡ l .area
-  pub buffer : output ≡ outputBy l packing
-  pub reader : readBy ≡ textOf l layout
+-- ---- demand 3 of the two calls
+
+-- the calls are such as the claim speaks of: one of its packings, and one of its readings of that record
+pub record Meant (l : Layouts) (packed layout : Bool) (c : Lent) : Type 0 where
+  pub writer : c .writtenBy ≡ textOf l packed
+  pub arguments : c .slots ≡ slotsBy l packed
+  pub items : c .area ≡ l .area
+  pub buffer : c .output ≡ outputBy l packed
+  pub reader : c .readBy ≡ textOf l layout
+  pub reading : Reading l packed layout (c .cut) (c .table) (c .values) (c .mark)
+
+-- the three parts of the claim, of what the calls leave
+pub record KeepsBack (l : Layouts) (packed layout : Bool) (c : Lent) (x : PackedAndRead) : Type 0 where
+  -- the packing was accepted with the end of the last field, and left this output
+  pub packings : packing c ≡ record { answer = accepted (endOf (fieldsBy l packed)) 0; output = x .output }
+  -- answer, table and area are those of the values due
+  pub readings : record { answer = x .answer; slots = x .table; area = x .values } ≡ putInto (c .table) (c .values) (c .mark) (due l layout (c .cut))
+  -- and each set slot shows its value
+  pub shows : map (shown (x .values)) (take (length (due l layout (c .cut))) (slotsOf (x .table))) ≡ due l layout (c .cut)
+
+-- THE EFFECT OF A CALL of `read_back`, and that it keeps demand 3
+pub record ReadsBackAs (c : Lent) (x : PackedAndRead) : Type 0 where
+  pub effect : x ≡ packedAndRead c
+  pub demand3 : (l : Layouts) (packed layout : Bool) → Meant l packed layout c → KeepsBack l packed layout c x

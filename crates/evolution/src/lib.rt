@@ -1,10 +1,6 @@
 // Old and new layouts over old and new records: what one layout packs, cut anywhere, read by another.
 // The claim of demand 3 is in specs/Claim.antt and its proof in proofs/ReadsBack.antt; `read_back` makes the calls of which it speaks.
-ghost use mathlib.Core.Path.{_≡_};
-ghost use mathlib.Core.Bool.{Bool};
-ghost use Rattle.record.specs.Reading.{putInto};
-ghost use Rattle.evolution.specs.Claim.{Layouts, Reading, due};
-ghost use Rattle.evolution.specs.Calls.{Lent, packedAndRead};
+ghost use Rattle.evolution.specs.Calls.{ReadsBackAs};
 use record::Answer;
 
 // Packs by one layout into `out`, cuts the record at `cut` (or not, where it is shorter), and reads it by another layout.
@@ -20,9 +16,19 @@ pub fn read_back(
     values: &mut [u8],
     mark: usize,
 ) -> Answer
-    ensures effect { λ r. ⌜ record { answer = r; output = now (out .exit); slots = now (table .exit); area = now (values .exit) } ≡ packedAndRead (now («written_by» .entry)) (now (slots .entry)) (now (area .entry)) (now (out .entry)) cut (now («read_by» .entry)) (now (table .entry)) (now (values .entry)) mark ⌝ }
-    ensures demand3 { λ r. ⌜ ((l : Layouts) (packing layout : Bool) → Lent l packing layout (now («written_by» .entry)) (now (slots .entry)) (now (area .entry)) (now (out .entry)) (now («read_by» .entry)) → Reading l packing layout cut (now (table .entry)) (now (values .entry)) mark
-        → record { answer = r; slots = now (table .exit); area = now (values .exit) } ≡ putInto (now (table .entry)) (now (values .entry)) mark (due l layout cut)) ⌝ }
+    ensures { λ r. ⌜ ReadsBackAs
+        (record {
+          writtenBy = now («written_by» .entry);
+          slots = now (slots .entry);
+          area = now (area .entry);
+          output = now (out .entry);
+          cut = cut;
+          readBy = now («read_by» .entry);
+          table = now (table .entry);
+          values = now (values .entry);
+          mark = mark;
+        })
+        (record { answer = r; output = now (out .exit); table = now (table .exit); values = now (values .exit) }) ⌝ }
 {
     let a = packer::pack(written_by, slots, area, out);
     let number = a.number;

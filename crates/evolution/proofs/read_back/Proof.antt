@@ -14,7 +14,7 @@ same-length : tie.Need-same-length
 same-length c = search needs
 
 returns : tie.Need-returns
-returns c = promised _ _ _ _ _ _ _ _ _ _ (then-refused _ _ _ _ _ _ _ _ _ _ _ (c .before .before .before .pack .ensures) (c .if1 .taken))
+returns c = promised _ _ (then-refused _ _ _ (c .before .before .before .pack .ensures) (c .if1 .taken))
 
 cast-least : tie.Need-cast-least
 cast-least c = search needs
@@ -49,8 +49,8 @@ returns-2 c =
     let read = c .before .before .before .before in
     let least = read .before .before .before .before in
     let branch = least .before .before in
-    promised _ _ _ _ _ _ _ _ _ _
-    (then-read _ _ _ _ _ _ _ _ _ _ _ (branch .before .before .before .pack .ensures) (branch .if1 .left) _ (least .least .ensures) _ _ _ (read .read .ensures))
+    promised _ _
+    (then-read _ _ _ (branch .before .before .before .pack .ensures) (branch .if1 .left) _ (least .least .ensures) _ _ _ (read .read .ensures))
 
 pub read-back-spec : {M : Type 1} → statement M
 read-back-spec =
