@@ -14,8 +14,8 @@ use Rattle.layout.specs.declared.Refusal.{Refusal}
 use Rattle.layout.specs.declared.Parsed.{Parsed}
 use Rattle.layout.specs.declared.Parsed.the-variants.{Fields, Refused}
 use Rattle.layout.specs.Refusals.{if_then_else_, Result, ok, refused}
-use Rattle.layout.specs.Layout.{takesSlot, toNat, slotCount}
-use Rattle.layout.specs.Words.{shapeNumbered, countFrom, fieldOf, decoded, Parses, slotsTaken}
+use Rattle.layout.specs.Layout.{maxLayout, takesSlot, toNat, slotCount}
+use Rattle.layout.specs.Words.{lastData, shapeNumbered, countFrom, fieldOf, decoded, Parses, slotsTaken}
 use Rattle.layout.proofs.Steps.{bit-le}
 use Rattle.layout.proofs.Numbered.{data-code, move-code}
 
@@ -52,14 +52,14 @@ module _ (w : ℕ) where
   unfolding fieldOf
   word-count = refl
 
-  pub word-shape : w % 256 < 14 → fieldOf w .code ≡ Data (shapeNumbered (w % 256))
+  pub word-shape : w % 256 ≤ lastData → fieldOf w .code ≡ Data (shapeNumbered (w % 256))
   unfolding fieldOf
-  word-shape h = data-code (w % 256) (omega arith)
+  word-shape h = data-code (w % 256) h
 
-  pub word-slot : w % 256 < 14 → slotsTaken (fieldOf w) ≡ 1
+  pub word-slot : w % 256 ≤ lastData → slotsTaken (fieldOf w) ≡ 1
   word-slot h = rw (word-shape h)
 
-  pub word-slotless : 14 ≤ w % 256 → slotsTaken (fieldOf w) ≡ 0
+  pub word-slotless : lastData < w % 256 → slotsTaken (fieldOf w) ≡ 0
   unfolding fieldOf
   word-slotless h = rw (move-code (w % 256) h)
 
@@ -81,7 +81,7 @@ pub record Learnt (o : Result (List Field)) (n slots : ℕ) (ws : List ℕ) : Ty
   pub fields : o ≡ ok (decoded n ws)
   pub taken : slots ≡ slotCount (decoded n ws)
   pub few : n ≤ length ws
-  pub room : length ws ≡ 256
+  pub room : length ws ≡ maxLayout
 
 pub parsed-fields : (o : Result (List Field)) (r : Parsed) (n slots : ℕ) (ws : List ℕ) → Parses o r ws → r ≡ Fields n slots → Learnt o n slots ws
 unfolding decoded

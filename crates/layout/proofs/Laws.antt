@@ -21,7 +21,7 @@ use Rattle.layout.specs.declared.Field.{Field}
 use Rattle.layout.specs.declared.Typed.{Typed}
 use Rattle.layout.specs.declared.Typed.the-variants.{Known, Unknown}
 use Rattle.layout.specs.declared.Refusal.{Refusal}
-use Rattle.layout.specs.declared.Refusal.the-variants.{BadSize, UnknownType, CountTooLarge, CountMisused, WrongSlots, NotSet, BadSlot, WrongKind, WrongAmount, BadDigit, NoRoom, MarkOutOfRange}
+use Rattle.layout.specs.declared.Refusal.the-variants.{UnknownType, CountTooLarge, CountMisused}
 use Rattle.layout.specs.Refusals.{if_then_else_, numberOf, Result, ok, refused, _>>=_, demand}
 use Rattle.layout.specs.Layout.{isDecimal, digitRun, decimal, typeOf, flagged, countOf, countLength, inLimit, hasMeaning, toNat, Step, space, field, bad, stepFrom, fieldAfter, fieldAt, stepOf, extra, before, fieldsFrom, fieldsOf}
 use Rattle.layout.specs.Words.{FitCode, rest}
@@ -49,18 +49,7 @@ demand-true true n p e = refl
 demand-true false n p e = no-refusal e
 
 pub no-number-zero {ℓ} : {X : Type ℓ} (n : Refusal) → numberOf n ≡ 0 → X
-no-number-zero BadSize e = absurd (suc-ne-zero _ e)
-no-number-zero UnknownType e = absurd (suc-ne-zero _ e)
-no-number-zero CountTooLarge e = absurd (suc-ne-zero _ e)
-no-number-zero CountMisused e = absurd (suc-ne-zero _ e)
-no-number-zero WrongSlots e = absurd (suc-ne-zero _ e)
-no-number-zero NotSet e = absurd (suc-ne-zero _ e)
-no-number-zero BadSlot e = absurd (suc-ne-zero _ e)
-no-number-zero WrongKind e = absurd (suc-ne-zero _ e)
-no-number-zero WrongAmount e = absurd (suc-ne-zero _ e)
-no-number-zero BadDigit e = absurd (suc-ne-zero _ e)
-no-number-zero NoRoom e = absurd (suc-ne-zero _ e)
-no-number-zero MarkOutOfRange e = absurd (suc-ne-zero _ e)
+no-number-zero n e = absurd (suc-ne-zero _ e)
 
 -- ---- the types
 

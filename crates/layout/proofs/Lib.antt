@@ -1,5 +1,5 @@
--- Laws of layout text. Laws, Numbered, Decoded, Places and the last laws of Steps are for the crates above; Numbers, Steps and Turns serve `parse`.
-mod Numbers
+-- Laws of layout text. Laws, Numbered, Decoded, Places and the last laws of Steps are for the crates above; Letters, Steps and Turns serve `parse`.
+mod Letters
 pub mod Steps
 mod Turns
 pub mod Laws

@@ -1,54 +1,55 @@
--- Laws of the types by number: the form that a number has, and how many bytes an integer has.
+-- Laws of the types by number: the form that a number has, what the type of a number takes, and how many bytes an integer has. A number passes or
+-- fails each test of `typeNumbered` by the range in which it lies.
 use Prim.Native.Nat.{ℕ, zero, suc, _-_, _*_, _/_, _%_, _^_, _≤_, _<_}
 use native.Mathlib.Omega.{arith}
+use native.Mathlib.Nat.{lt-of-not-le}
+use native.Mathlib.Decide.{decLe}
 use mathlib.Core.Path.{_≡_, refl, ap}
 use mathlib.Core.Bool.{Bool, true, false}
-use borrow.Author.Tests.{lt-ltb, le-ltb, le-leb, lt-leb}
+use borrow.Author.Tests.{lt-ltb, le-ltb, le-leb, lt-leb, ne-eqb}
 use lib.Dec.{eqb, leb, ltb}
 use Rattle.layout.specs.declared.Code.{Code}
 use Rattle.layout.specs.declared.Code.the-variants.{Data, Move}
 use Rattle.layout.specs.declared.Motion.the-variants.{Skip, Back, Goto}
 use Rattle.layout.specs.declared.Shape.{Shape}
 use Rattle.layout.specs.declared.Shape.the-variants.{Text, Digits, Integers}
+use Rattle.layout.specs.declared.Count.{Count}
 use Rattle.layout.specs.declared.Typed.{Typed}
 use Rattle.layout.specs.declared.Typed.the-variants.{Known, Unknown}
 use Rattle.layout.specs.Refusals.{if_then_else_}
-use Rattle.layout.specs.Layout.{takesSlot}
-use Rattle.layout.specs.Words.{widthNumbered, typeNumbered, known, shapeOf, shapeNumbered, FitCode}
+use Rattle.layout.specs.Layout.{takesFlag, takesSlot, hasMeaning}
+use Rattle.layout.specs.Words.{lastText, lastBinary, lastDigits, lastData, skipNumber, backNumber, gotoNumber, lastType, widthNumbered, typeNumbered, known, shapeOf, shapeNumbered, FitCode}
 use Rattle.layout.proofs.Steps.{type-fits, known-fits}
 
 -- ---- each form by its numbers
 
-text-code : (d : ℕ) → d < 2 → known (typeNumbered d) ≡ Data (Text (32 * d))
+text-code : (d : ℕ) → d ≤ lastText → known (typeNumbered d) ≡ Data (Text (32 * d))
 unfolding typeNumbered
-text-code d h = rw (lt-ltb d 2 h)
+text-code d h = rw (le-leb d lastText h)
 
-digits-code : (d : ℕ) → 2 ≤ d → d < 6 → known (typeNumbered d) ≡ Data (Digits (leb 4 d) (eqb (d % 2) 1))
+digits-code : (d : ℕ) → lastText < d → d ≤ lastDigits → known (typeNumbered d) ≡ Data (Digits (ltb lastBinary d) (eqb (d % 2) 1))
 unfolding typeNumbered
-digits-code d l h = rw (le-ltb d 2 l, lt-ltb d 6 h)
+digits-code d l h = rw (lt-leb d lastText l, le-leb d lastDigits h)
 
-integers-code : (d : ℕ) → 5 < d → d ≤ 13 → known (typeNumbered d) ≡ Data (Integers (widthNumbered d) (eqb (d % 2) 1))
+integers-code : (d : ℕ) → lastDigits < d → d ≤ lastData → known (typeNumbered d) ≡ Data (Integers (widthNumbered d) (eqb (d % 2) 1))
 unfolding typeNumbered
-integers-code d l h =
-    let k : 2 ≤ d = omega arith in
-    let m : d < 14 = omega arith in
-    rw (le-ltb d 2 k, le-ltb d 6 l, lt-ltb d 14 m)
+integers-code d l h = let k : lastText < d = omega arith in rw (lt-leb d lastText k, lt-leb d lastDigits l, le-leb d lastData h)
 
-pub shape-text : (d : ℕ) → d < 2 → shapeNumbered d ≡ Text (32 * d)
+pub shape-text : (d : ℕ) → d ≤ lastText → shapeNumbered d ≡ Text (32 * d)
 unfolding shapeNumbered
 shape-text d h = ap shapeOf (text-code d h)
 
-pub shape-digits : (d : ℕ) → 2 ≤ d → d < 6 → shapeNumbered d ≡ Digits (leb 4 d) (eqb (d % 2) 1)
+pub shape-digits : (d : ℕ) → lastText < d → d ≤ lastDigits → shapeNumbered d ≡ Digits (ltb lastBinary d) (eqb (d % 2) 1)
 unfolding shapeNumbered
 shape-digits d l h = ap shapeOf (digits-code d l h)
 
-pub shape-binary : (d : ℕ) → 2 ≤ d → d < 4 → shapeNumbered d ≡ Digits false (eqb (d % 2) 1)
-shape-binary d l h = let e = shape-digits d l (omega arith) in rw (lt-leb 4 d h) at e
+pub shape-binary : (d : ℕ) → lastText < d → d ≤ lastBinary → shapeNumbered d ≡ Digits false (eqb (d % 2) 1)
+shape-binary d l h = let e = shape-digits d l (omega arith) in rw (le-ltb lastBinary d h) at e
 
-pub shape-hex : (d : ℕ) → 4 ≤ d → d < 6 → shapeNumbered d ≡ Digits true (eqb (d % 2) 1)
-shape-hex d l h = let e = shape-digits d (omega arith) h in rw (le-leb 4 d l) at e
+pub shape-hex : (d : ℕ) → lastBinary < d → d ≤ lastDigits → shapeNumbered d ≡ Digits true (eqb (d % 2) 1)
+shape-hex d l h = let e = shape-digits d (omega arith) h in rw (lt-ltb lastBinary d l) at e
 
-pub shape-integers : (d : ℕ) → 5 < d → d ≤ 13 → shapeNumbered d ≡ Integers (widthNumbered d) (eqb (d % 2) 1)
+pub shape-integers : (d : ℕ) → lastDigits < d → d ≤ lastData → shapeNumbered d ≡ Integers (widthNumbered d) (eqb (d % 2) 1)
 unfolding shapeNumbered
 shape-integers d l h = ap shapeOf (integers-code d l h)
 
@@ -60,11 +61,11 @@ pub shape-trimmed : (d : ℕ) → d ≡ 1 → shapeNumbered d ≡ Text 32
 unfolding shapeNumbered typeNumbered
 shape-trimmed d e = ap shapeNumbered e
 
--- ---- up to 13 a number takes a slot, from 14 on it moves the cursor
+-- ---- what takes a slot, and what moves the cursor
 
-pub data-code : (d : ℕ) → d ≤ 13 → known (typeNumbered d) ≡ Data (shapeNumbered d)
+pub data-code : (d : ℕ) → d ≤ lastData → known (typeNumbered d) ≡ Data (shapeNumbered d)
 unfolding typeNumbered shapeNumbered
-data-code d h = let m : d < 14 = omega arith in rw (lt-ltb d 14 m) (shapes (ltb d 2) (ltb d 6) _ _ _)
+data-code d h = rw (le-leb d lastData h) (shapes (leb d lastText) (leb d lastDigits) _ _ _)
   where
     shapes : (text digits : Bool) (r s t : Shape)
         → known (if text then Known (Data r) else if digits then Known (Data s) else Known (Data t)) ≡ Data (shapeOf (known (if text then Known (Data r) else if digits then Known (Data s) else Known (Data t))))
@@ -72,18 +73,71 @@ data-code d h = let m : d < 14 = omega arith in rw (lt-ltb d 14 m) (shapes (ltb 
     shapes false true r s t = refl
     shapes false false r s t = refl
 
-moves : (skip back goto : Bool) → takesSlot (known (if skip then Known (Move Skip) else if back then Known (Move Back) else if goto then Known (Move Goto) else Unknown)) ≡ false
-moves true back goto = refl
-moves false true goto = refl
-moves false false true = refl
-moves false false false = refl
+abbrev moving : Bool → Bool → Bool → Typed
+moving skip back goto = if skip then Known (Move Skip) else if back then Known (Move Back) else if goto then Known (Move Goto) else Unknown
 
-pub move-code : (d : ℕ) → 13 < d → takesSlot (known (typeNumbered d)) ≡ false
+move-type : (d : ℕ) → lastData < d → typeNumbered d ≡ moving (eqb d skipNumber) (eqb d backNumber) (eqb d gotoNumber)
 unfolding typeNumbered
-move-code d h =
-    let two : 2 ≤ d = omega arith in
-    let six : 6 ≤ d = omega arith in
-    rw (le-ltb d 2 two, le-ltb d 6 six, le-ltb d 14 h) (moves (eqb d 14) (eqb d 15) (eqb d 16))
+move-type d h =
+    let text : lastText < d = omega arith in
+    let digits : lastDigits < d = omega arith in
+    rw (lt-leb d lastText text, lt-leb d lastDigits digits, lt-leb d lastData h)
+
+pub move-code : (d : ℕ) → lastData < d → takesSlot (known (typeNumbered d)) ≡ false
+move-code d h = rw (move-type d h) (moves (eqb d skipNumber) (eqb d backNumber) (eqb d gotoNumber))
+  where
+    moves : (skip back goto : Bool) → takesSlot (known (moving skip back goto)) ≡ false
+    moves true back goto = refl
+    moves false true goto = refl
+    moves false false true = refl
+    moves false false false = refl
+
+pub number-unknown : (d : ℕ) → lastType < d → typeNumbered d ≡ Unknown
+number-unknown d h =
+    let skip : d ≡ skipNumber → ⊥ = λ e. omega arith in
+    let back : d ≡ backNumber → ⊥ = λ e. omega arith in
+    let goto : d ≡ gotoNumber → ⊥ = λ e. omega arith in
+    let above : lastData < d = omega arith in
+    rw (move-type d above, ne-eqb d skipNumber skip, ne-eqb d backNumber back, ne-eqb d gotoNumber goto)
+
+pub slot-numbered : (d : ℕ) → leb d lastData ≡ takesSlot (known (typeNumbered d))
+slot-numbered d = elim (decLe d lastData) [
+  | yes h ↦ rw (le-leb d lastData h, data-code d h)
+  | no h ↦ (let k : lastData < d = lt-of-not-le h in rw (lt-leb d lastData k, move-code d k))
+]
+
+-- ---- the flag and the count
+
+pub flag-not : (d : ℕ) → d ≤ lastDigits → false ≡ takesFlag (known (typeNumbered d))
+unfolding typeNumbered
+flag-not d h = rw (le-leb d lastDigits h) (texts (leb d lastText) _ _ _)
+  where
+    texts : (text : Bool) (pad : ℕ) (hex high : Bool) → false ≡ takesFlag (known (if text then Known (Data (Text pad)) else Known (Data (Digits hex high))))
+    texts true pad hex high = refl
+    texts false pad hex high = refl
+
+pub flag-numbered : (d : ℕ) → lastDigits < d → leb d lastData ≡ takesFlag (known (typeNumbered d))
+flag-numbered d l = elim (decLe d lastData) [
+  | yes h ↦ rw (le-leb d lastData h, integers-code d l h)
+  | no h ↦ (let k : lastData < d = lt-of-not-le h in rw (lt-leb d lastData k, move-type d k) (moves (eqb d skipNumber) (eqb d backNumber) (eqb d gotoNumber)))
+]
+  where
+    moves : (skip back goto : Bool) → false ≡ takesFlag (known (moving skip back goto))
+    moves true back goto = refl
+    moves false true goto = refl
+    moves false false true = refl
+    moves false false false = refl
+
+module _ (packing : Bool) (d : ℕ) (n : Count) where
+  pub meaning-data : d ≤ lastData → true ≡ hasMeaning packing (known (typeNumbered d)) n
+  meaning-data h = rw (data-code d h)
+
+  pub meaning-back : lastData < d → (d ≡ skipNumber → ⊥) → (d ≡ gotoNumber → ⊥) → true ≡ hasMeaning packing (known (typeNumbered d)) n
+  meaning-back h skip goto = rw (move-type d h, ne-eqb d skipNumber skip, ne-eqb d gotoNumber goto) (backs (eqb d backNumber))
+    where
+      backs : (back : Bool) → true ≡ hasMeaning packing (known (moving false back false)) n
+      backs true = refl
+      backs false = refl
 
 -- a number from k on that is not k
 pub past : {d k : ℕ} → k ≤ d → (d ≡ k → ⊥) → suc k ≤ d
@@ -91,7 +145,7 @@ past h n = omega arith
 
 -- ---- the bytes of an integer
 
-power : (d k : ℕ) → 5 < d → d ≤ 13 → d / 2 - 3 ≡ k → 2 ^ k ≡ widthNumbered d
+power : (d k : ℕ) → lastDigits < d → d ≤ lastData → d / 2 - 3 ≡ k → 2 ^ k ≡ widthNumbered d
 power d zero l h e = let t : d < 8 = omega arith in rw (lt-ltb d 8 t)
 power d (suc zero) l h e =
     let s : 8 ≤ d = omega arith in
@@ -109,8 +163,8 @@ power d (suc (suc (suc zero))) l h e =
     rw (le-ltb d 8 r, le-ltb d 10 s, le-ltb d 12 t)
 power d (suc (suc (suc (suc k)))) l h e = absurd (omega arith)
 
-pub width-power : (d : ℕ) → 5 < d → d ≤ 13 → 2 ^ (d / 2 - 3) ≡ widthNumbered d
+pub width-power : (d : ℕ) → lastDigits < d → d ≤ lastData → 2 ^ (d / 2 - 3) ≡ widthNumbered d
 width-power d l h = power d (d / 2 - 3) l h refl
 
-pub shape-fits : (d : ℕ) → d ≤ 13 → FitCode (Data (shapeNumbered d))
+pub shape-fits : (d : ℕ) → d ≤ lastData → FitCode (Data (shapeNumbered d))
 shape-fits d h = let f : FitCode (known (typeNumbered d)) = known-fits (typeNumbered d) (type-fits d) in rw (data-code d h) at f

@@ -1,6 +1,6 @@
--- Absent step of the layout reader, on plain values: a count, a flag, a word, and the field at a type character.
+-- One step of the layout reader, on plain values: a count, a flag, a word, and the field at a type character.
 -- Assumes nothing.
-use Prim.Native.Nat.{ℕ, zero, suc, _+_, _-_, _*_, _/_, _%_, _≤_, _<_, min}
+use Prim.Native.Nat.{ℕ, zero, suc, _+_, _-_, _*_, _/_, _%_, _^_, _≤_, _<_, min}
 use native.Mathlib.Nat.{add-zero, suc-ne-zero}
 use native.Mathlib.Numerals.{add-one}
 use native.Mathlib.Omega.{arith}
@@ -8,7 +8,7 @@ use mathlib.Core.Path.{_≡_, refl, sym, ap, _∙_}
 use mathlib.Core.Bool.{Bool, true, false, _&&_, not, and-false}
 use mathlib.Core.List.{List, [], _∷_}
 use borrow.Author.Tests.{eq-eqb, ne-eqb, le-leb, lt-leb}
-use lib.Dec.{eqb, ltb}
+use lib.Dec.{eqb, leb, ltb}
 use lib.ListN.{length, getD, drop, drop-of-length-le, length-drop}
 use lib.Seq.{drop-cons, drop-drop}
 use Rattle.layout.specs.declared.Code.{Code}
@@ -21,11 +21,10 @@ use Rattle.layout.specs.declared.Typed.{Typed}
 use Rattle.layout.specs.declared.Typed.the-variants.{Known, Unknown}
 use Rattle.layout.specs.declared.Refusal.the-variants.{UnknownType, CountTooLarge, CountMisused}
 use Rattle.layout.specs.Refusals.{if_then_else_, refused}
-use Rattle.layout.specs.Layout.{isDecimal, digitRun, decimal, typeOf, takesFlag, flagged, countOf, countLength, inLimit, hasMeaning, toNat, takesSlot, field, bad, fieldAfter, fieldAt, stepOf}
+use Rattle.layout.specs.Layout.{maxCount, isDecimal, digitRun, decimal, typeOf, takesFlag, flagged, countOf, countLength, inLimit, hasMeaning, toNat, takesSlot, field, bad, fieldAfter, fieldAt, stepOf}
 use Rattle.layout.proofs.Laws.{decimal-held}
-use Rattle.layout.proofs.Numbers.{number-known}
-use Rattle.layout.specs.declared.Read.the-variants.{Item, Bad}
-use Rattle.layout.specs.Words.{typeNumbered, countFrom, known, fieldOf, wordOf, heldNumber, FitCode, FitCount, FieldOf, ReadAs}
+use Rattle.layout.specs.declared.Found.the-variants.{Item, Bad}
+use Rattle.layout.specs.Words.{lastText, lastDigits, lastData, skipNumber, backNumber, gotoNumber, lastType, typeNumbered, countFrom, known, Numbered, fieldOf, wordOf, overCount, heldNumber, NumberAt, CountAt, TailAt, FitCode, FitCount, FieldOf, FoundAs}
 
 -- ---- a decimal number from the place i on
 
@@ -42,11 +41,11 @@ module _ (s : List ℕ) (i v : ℕ) where
   unfolding decimal
   decimal-end h = rw (drop-of-length-le s h)
 
-  -- with one digit more the number, held at 4,097, is the same
+  -- with one digit more the number, held, is the same
   pub held-on : i < length s → isDecimal (getD s i 0) ≡ true
-      → min 4097 (decimal (min 4097 (10 * v + (getD s i 0 - 48))) (drop (suc i) s)) ≡ min 4097 (decimal v (drop i s))
+      → min overCount (decimal (min overCount (10 * v + (getD s i 0 - 48))) (drop (suc i) s)) ≡ min overCount (decimal v (drop i s))
   held-on h e =
-      sym (decimal-held 4097 (10 * v + (getD s i 0 - 48)) (drop (suc i) s)) ∙ ap (min 4097) (sym (decimal-on h e))
+      sym (decimal-held overCount (10 * v + (getD s i 0 - 48)) (drop (suc i) s)) ∙ ap (min overCount) (sym (decimal-on h e))
 
 pub is-decimal : (c : ℕ) → 48 ≤ c → c ≤ 57 → isDecimal c ≡ true
 is-decimal c h k = rw (le-leb 48 c h, le-leb c 57 k)
@@ -58,9 +57,6 @@ pub above-decimal : (c : ℕ) → 57 < c → isDecimal c ≡ false
 above-decimal c h = rw (lt-leb c 57 h, and-false)
 
 -- ---- the count at a place
-
-abbrev pub CountAt : List ℕ → ℕ → ℕ → ℕ → Type 0
-CountAt s at v e = (v ≡ heldNumber (countOf (drop at s))) × (e ≡ at + countLength (drop at s))
 
 module _ (s : List ℕ) (at : ℕ) where
   pub count-end : length s ≤ at → CountAt s at 0 at
@@ -77,10 +73,10 @@ module _ (s : List ℕ) (at : ℕ) where
       unfolding countOf countLength digitRun
       count-none e = rw (drop-cons s at 0 h, ne-eqb (getD s at 0) 42 no-star, e) (refl, sym (add-zero at))
 
-      pub count-number : isDecimal (getD s at 0) ≡ true → (v e : ℕ) → v ≡ min 4097 (decimal 0 (drop at s)) → e ≡ at + digitRun (drop at s) → CountAt s at (v + 2) e
+      pub count-number : isDecimal (getD s at 0) ≡ true → (v e : ℕ) → NumberAt s at v e → CountAt s at (v + 2) e
       unfolding countOf countLength
-      count-number d v e p q =
-          let n : suc (suc (min 4097 (decimal 0 (drop at s)))) ≡ v + 2 = omega arith in
+      count-number d v e (p, q) =
+          let n : suc (suc (min overCount (decimal 0 (drop at s)))) ≡ v + 2 = omega arith in
           (sym n ∙ (rw (drop-cons s at 0 h, ne-eqb (getD s at 0) 42 no-star, d)), q ∙ (rw (drop-cons s at 0 h, ne-eqb (getD s at 0) 42 no-star)))
 
 -- ---- the flag at a place
@@ -102,12 +98,8 @@ module _ (s : List ℕ) (at : ℕ) (k : Code) where
       and-true′ true = refl
       and-true′ false = refl
 
--- the flag and the count at a place, after a type k: the flag as a number, the count's number, and the place after them
-abbrev pub TailAt : List ℕ → ℕ → Code → ℕ → ℕ → ℕ → Type 0
-TailAt s at k u v e = (u ≡ toNat (flagged k (drop at s))) × (v ≡ heldNumber (countOf (drop (at + u) s))) × (e ≡ at + u + countLength (drop (at + u) s))
-
 pub tail-plain : (s : List ℕ) (at : ℕ) (k : Code) (v e : ℕ) → false ≡ flagged k (drop at s) → CountAt s at v e → TailAt s at k 0 v e
-tail-plain s at k v e flag count = (ap toNat flag, rw add-zero (count .0), rw add-zero (count .1))
+tail-plain s at k v e flag count = (ap toNat flag, rw add-zero count)
 
 -- ---- the number of a count
 
@@ -126,15 +118,19 @@ goto-meaning packing zero = refl
 goto-meaning packing (suc zero) = refl
 goto-meaning packing (suc (suc n)) = ap not (ne-eqb (suc (suc n)) 0 (suc-ne-zero _))
 
-pub held-over : (n : Count) → 4098 < heldNumber n → inLimit n ≡ false
+-- the number of the largest count
+abbrev lastCount : ℕ
+lastCount = suc overCount
+
+pub held-over : (n : Count) → lastCount < heldNumber n → inLimit n ≡ false
 held-over Absent h = absurd (omega arith)
 held-over Star h = absurd (omega arith)
-held-over (Times n) h = lt-leb n 4096 (omega arith)
+held-over (Times n) h = lt-leb n maxCount (omega arith)
 
-pub held-within : (n : Count) → heldNumber n ≤ 4098 → (inLimit n ≡ true) × (countFrom (heldNumber n) ≡ n)
+pub held-within : (n : Count) → heldNumber n ≤ lastCount → (inLimit n ≡ true) × (countFrom (heldNumber n) ≡ n)
 held-within Absent h = (refl, refl)
 held-within Star h = (refl, refl)
-held-within (Times n) h = let e : min 4097 n ≡ n = omega arith in (le-leb n 4096 (omega arith), ap Times e)
+held-within (Times n) h = let e : min overCount n ≡ n = omega arith in (le-leb n maxCount (omega arith), ap Times e)
 
 -- ---- a word and its field
 
@@ -173,23 +169,23 @@ width-fits false false false = (omega arith, omega arith)
 pub type-fits : (k : ℕ) → FitType (typeNumbered k)
 unfolding typeNumbered
 type-fits k =
-    chosen (ltb k 2) _ _ tt
-    (chosen (ltb k 6) _ _ tt
-    (chosen (ltb k 14) _ _ (width-fits (ltb k 8) (ltb k 10) (ltb k 12))
-    (chosen (eqb k 14) _ _ tt
-    (chosen (eqb k 15) _ _ tt
-    (chosen (eqb k 16) _ _ tt tt)))))
+    chosen (leb k lastText) _ _ tt
+    (chosen (leb k lastDigits) _ _ tt
+    (chosen (leb k lastData) _ _ (width-fits (ltb k 8) (ltb k 10) (ltb k 12))
+    (chosen (eqb k skipNumber) _ _ tt
+    (chosen (eqb k backNumber) _ _ tt
+    (chosen (eqb k gotoNumber) _ _ tt tt)))))
 
 pub known-fits : (t : Typed) → FitType t → FitCode (known t)
 known-fits (Known k) h = h
 known-fits Unknown h = tt
 
-count-fits : (n : ℕ) → n < 8388608 → FitCount (countFrom n)
+count-fits : (n : ℕ) → n < 2 ^ 23 → FitCount (countFrom n)
 count-fits zero h = tt
 count-fits (suc zero) h = tt
 count-fits (suc (suc n)) h = omega arith
 
-pub field-fits : (w : ℕ) (f : Field) → w < 4294967296 → f ≡ fieldOf w → FieldOf w f
+pub field-fits : (w : ℕ) (f : Field) → w < 2 ^ 32 → f ≡ fieldOf w → FieldOf w f
 unfolding fieldOf
 field-fits w f h e =
     record { same = e; code = rw e (known-fits (typeNumbered (w % 256)) (type-fits (w % 256))); count = rw e (count-fits (w / 512) (omega arith)) }
@@ -210,14 +206,14 @@ module _ (packing : Bool) (p c : ℕ) (cs : List ℕ) (no-space : c ≡ 32 → �
   step-unknown e = rw (ne-eqb c 32 no-space, at-unknown e)
 
   module _ (k : Code) (e : typeOf c ≡ Known k) (u : Bool) (flag : u ≡ flagged k cs) (v : ℕ) (held : v ≡ heldNumber (countOf (drop (toNat u) cs))) where
-    pub step-large : 4098 < v → stepOf packing p c cs ≡ bad CountTooLarge p
+    pub step-large : lastCount < v → stepOf packing p c cs ≡ bad CountTooLarge p
     unfolding stepOf fieldAfter
     step-large h =
         let n : Count = countOf (drop (toNat u) cs) in
         let over : inLimit n ≡ false = held-over n (omega arith) in
         rw (ne-eqb c 32 no-space, at-known k e, ← flag, over)
 
-    module _ (within : v ≤ 4098) where
+    module _ (within : v ≤ lastCount) where
       pub step-meaningless : hasMeaning packing k (countFrom v) ≡ false → stepOf packing p c cs ≡ bad CountMisused p
       unfolding stepOf fieldAfter
       step-meaningless m =
@@ -264,9 +260,10 @@ flag-within k (c ∷ cs) = omega (arith, bit-le (takesFlag k && eqb c 117))
 
 pub record Seen (text : List ℕ) (p d b v e : ℕ) : Type 0 where
   pub start : p < length text
-  pub low : d ≤ 16
+  pub low : d ≤ lastType
   pub no-space : getD text p 0 ≡ 32 → ⊥
   pub type : typeOf (getD text p 0) ≡ typeNumbered d
+  pub named : Numbered d
   pub tail : TailAt text (p + 1) (known (typeNumbered d)) b v e
 
 module _ (packing : Bool) (text : List ℕ) (p d b v e : ℕ) (s : Seen text p d b v e) where
@@ -277,7 +274,7 @@ module _ (packing : Bool) (text : List ℕ) (p d b v e : ℕ) (s : Seen text p d
   u = flagged k (drop (suc p) text)
 
   numbered : typeNumbered d ≡ Known k
-  numbered = number-known d (s .low)
+  numbered = s .named (s .low)
 
   typed : typeOf (getD text p 0) ≡ Known k
   typed = s .type ∙ numbered
@@ -294,33 +291,33 @@ module _ (packing : Bool) (text : List ℕ) (p d b v e : ℕ) (s : Seen text p d
       ap (λ (i : ℕ). drop i text) place ∙ sym (drop-drop (toNat u) (suc p) text)
 
   number : v ≡ heldNumber (countOf (drop (toNat u) (drop (suc p) text)))
-  number = s .tail .1 ∙ ap (λ (cs : List ℕ). heldNumber (countOf cs)) tail
+  number = s .tail .1 .0 ∙ ap (λ (cs : List ℕ). heldNumber (countOf cs)) tail
 
-  pub read-large : 4098 < v → ReadAs packing text p (Bad CountTooLarge)
+  pub read-large : lastCount < v → FoundAs packing text p (Bad CountTooLarge p)
   read-large h =
       record { step = step-large packing p _ _ (s .no-space) k typed u refl v number h; told = tt }
 
-  pub read-meaningless : v ≤ 4098 → hasMeaning packing k (countFrom v) ≡ false → ReadAs packing text p (Bad CountMisused)
+  pub read-meaningless : v ≤ lastCount → hasMeaning packing k (countFrom v) ≡ false → FoundAs packing text p (Bad CountMisused p)
   read-meaningless h m =
       record { step = step-meaningless packing p _ _ (s .no-space) k typed u refl v number h m; told = tt }
 
   more : e - (p + 1) ≡ toNat u + countLength (drop (toNat u) (drop (suc p) text))
   more =
       let l : countLength (drop (p + 1 + b) text) ≡ countLength (drop (toNat u) (drop (suc p) text)) = ap countLength tail in
-      omega (arith, s .tail .2, bit)
+      omega (arith, s .tail .1 .1, bit)
 
   inside : e ≤ length text
   inside =
       let f : toNat u ≤ length text - suc p = rw (← length-drop) (flag-within k (drop (suc p) text)) in
       let l : countLength (drop (p + 1 + b) text) ≤ length text - (p + 1 + b) = rw (← length-drop) (count-within (drop (p + 1 + b) text)) in
-      omega (arith, s .tail .2, bit, s .start)
+      omega (arith, s .tail .1 .1, bit, s .start)
 
-  pub read-item : v ≤ 4098 → hasMeaning packing k (countFrom v) ≡ true → (t : ℕ) → t ≡ toNat (takesSlot k)
-      → ReadAs packing text p (Item (d + 256 * b + 512 * v) (e - (p + 1)) t)
+  pub read-item : v ≤ lastCount → hasMeaning packing k (countFrom v) ≡ true → (t : ℕ) → t ≡ toNat (takesSlot k)
+      → FoundAs packing text p (Item (d + 256 * b + 512 * v) (e - (p + 1)) t)
   read-item h m t slot =
       let w : d + 256 * b + 512 * v ≡ wordOf d u v = ap (λ (x : ℕ). d + 256 * x + 512 * v) bit in
       let small : d < 256 = omega (arith, s .low) in
       record {
         step = rw (w, more) (step-field packing p _ _ (s .no-space) k typed u refl v number h d small numbered m);
-        told = (slot ∙ (rw (w, word-field d u v small)), omega (arith, inside, s .start, s .tail .2));
+        told = (slot ∙ (rw (w, word-field d u v small)), omega (arith, inside, s .start, s .tail .1 .1));
       }

@@ -9,10 +9,10 @@ use lib.ListN.{length, set, length-set}
 use Rattle.layout.specs.declared.Field.{Field}
 use Rattle.layout.specs.declared.Refusal.{Refusal}
 use Rattle.layout.specs.declared.Parsed.the-variants.{Fields, Refused}
-use Rattle.layout.specs.declared.Read.the-variants.{Item, Bad}
+use Rattle.layout.specs.declared.Found.the-variants.{Item, Bad}
 use Rattle.layout.specs.Refusals.{Result, ok, refused, _>>=_}
-use Rattle.layout.specs.Layout.{before, fieldsOf, slotCount}
-use Rattle.layout.specs.Words.{rest, fieldOf, decoded, Parses, stepBy, ReadAs}
+use Rattle.layout.specs.Layout.{maxLayout, before, fieldsOf, slotCount}
+use Rattle.layout.specs.Words.{rest, fieldOf, decoded, Parses, stepFound, FoundAs}
 use Rattle.layout.proofs.Laws.{at-byte, at-end}
 use Rattle.layout.proofs.Decoded.{decoded-length, decoded-more, slots-more, slots-le}
 
@@ -34,27 +34,27 @@ after-one fs f (refused n p) = refl
 
 pub record Reading (packing : Bool) (text : List ℕ) (at n slots : ℕ) (ws : List ℕ) : Type 0 where
   pub few : n ≤ at
-  pub room : length ws ≡ 256
+  pub room : length ws ≡ maxLayout
   pub within : at ≤ length text
   pub less : slots ≤ n
   pub so-far : rest packing text 0 ≡ after (decoded n ws) (rest packing text at)
   pub taken : slots ≡ slotCount (decoded n ws)
 
 module _ (packing : Bool) (text : List ℕ) where
-  pub reading-none : (ws : List ℕ) → length ws ≡ 256 → Reading packing text 0 0 0 ws
+  pub reading-none : (ws : List ℕ) → length ws ≡ maxLayout → Reading packing text 0 0 0 ws
   unfolding decoded slotCount
   reading-none ws h =
       record { few = omega arith; room = h; within = omega arith; less = omega arith; so-far = after-none (rest packing text 0); taken = refl }
 
-  module _ (at n slots : ℕ) (ws : List ℕ) (r : Reading packing text at n slots ws) (fits : length text ≤ 256) where
+  module _ (at n slots : ℕ) (ws : List ℕ) (r : Reading packing text at n slots ws) (fits : length text ≤ maxLayout) where
     pub reading-spaces : (p : ℕ) → at ≤ p → p ≤ length text → rest packing text at ≡ rest packing text p → Reading packing text p n slots ws
     reading-spaces p h k e =
         record { few = omega (arith, r .few); room = r .room; within = k; less = r .less; so-far = r .so-far ∙ ap (after (decoded n ws)) e; taken = r .taken }
 
-    pub reading-more : (w m k : ℕ) → at < length text → ReadAs packing text at (Item w m k) → Reading packing text (at + 1 + m) (n + 1) (slots + k) (set ws n w)
+    pub reading-more : (w m k : ℕ) → at < length text → FoundAs packing text at (Item w m k) → Reading packing text (at + 1 + m) (n + 1) (slots + k) (set ws n w)
     reading-more w m k h a =
         let step = a .step in
-        let e : rest packing text at ≡ before (stepBy at (Item w m k)) (rest packing text (suc at + m)) = rw step at (at-byte packing text at h) in
+        let e : rest packing text at ≡ before (stepFound (Item w m k)) (rest packing text (suc at + m)) = rw step at (at-byte packing text at h) in
         let d : decoded (n + 1) (set ws n w) ≡ decoded n ws ++ (fieldOf w ∷ []) = decoded-more n w ws (omega (arith, r .few, r .room)) in
         let next : at + 1 + m ≡ suc at + m = omega arith in
         record {
@@ -66,12 +66,12 @@ module _ (packing : Bool) (text : List ℕ) where
           taken = rw (d, slots-more (decoded n ws) (fieldOf w), ← r .taken, a .told .0);
         }
 
-    pub reading-bad : (why : Refusal) → at < length text → ReadAs packing text at (Bad why) → Parses (fieldsOf packing text) (Refused why at) ws
+    pub reading-bad : (why : Refusal) (place : ℕ) → at < length text → FoundAs packing text at (Bad why place) → Parses (fieldsOf packing text) (Refused why place) ws
     unfolding fieldsOf rest
-    reading-bad why h a =
+    reading-bad why place h a =
         let step = a .step in
-        let e : rest packing text at ≡ refused why at = rw step at (at-byte packing text at h) in
-        let o : fieldsOf packing text ≡ refused why at = r .so-far ∙ ap (after (decoded n ws)) e in
+        let e : rest packing text at ≡ refused why place = rw step at (at-byte packing text at h) in
+        let o : fieldsOf packing text ≡ refused why place = r .so-far ∙ ap (after (decoded n ws)) e in
         rw o (record { answer = refl; words = tt; room = r .room })
 
     pub reading-done : length text ≤ at → Parses (fieldsOf packing text) (Fields n slots) ws

@@ -1,4 +1,4 @@
--- The text of a layout (document 01, "Layout text", and lines 2, 3 and 4 of its table): from bytes to fields.
+-- The text of a layout (01, Layout text, and the numbers 2, 3 and 4 of its table): from bytes to fields.
 -- The types Code, Shape, Motion, Count and Field are the source's. A text is the list of its bytes, and a place is an index into it.
 use Prim.Native.Nat.{ℕ, zero, suc, _+_, _-_, _*_}
 use mathlib.Core.Bool.{Bool, true, false, _&&_, not}
@@ -18,17 +18,17 @@ use Rattle.layout.specs.declared.Refusal.{Refusal}
 use Rattle.layout.specs.declared.Refusal.the-variants.{UnknownType, CountTooLarge, CountMisused}
 use Rattle.layout.specs.Refusals.{if_then_else_, Result, ok, refused, _>>=_, demand}
 
--- ---- the limits ("Slot tables", sizes)
+-- ---- the limits (01, Slot tables, sizes)
 
--- "layout at most 256 bytes"
+-- the bytes of a layout
 abbrev pub maxLayout : ℕ
 maxLayout = 256
 
--- "a count at most 4,096"
+-- a count
 abbrev pub maxCount : ℕ
 maxCount = 4096
 
--- ---- the type characters ("What the work covers": `a A b B h H c s S i I w W x X @`)
+-- ---- the type characters (01, What the work covers)
 
 -- the pad of a text; hex or binary digits, high or low digit first; an integer's bytes, big- or little-endian
 unfoldable pub typeOf : ℕ → Typed
@@ -51,14 +51,14 @@ typeOf c =
     else if eqb c 64 then Known (Move Goto)  -- @
     else Unknown
 
--- "The flag is accepted after `c s S i I w W`"
+-- the types of integers take the flag (01, Layout text)
 abbrev pub takesFlag : Code → Bool
 takesFlag (Data (Text pad)) = false
 takesFlag (Data (Digits hex high)) = false
 takesFlag (Data (Integers w big)) = true
 takesFlag (Move m) = false
 
--- "`x X @` take no slot; every other field takes the next one."
+-- what moves the cursor has no slot, and everything else has one (01, Layout text)
 abbrev pub takesSlot : Code → Bool
 takesSlot (Data s) = true
 takesSlot (Move m) = false
@@ -99,13 +99,13 @@ unfolding digitRun
 countLength [] = 0
 countLength (c ∷ cs) = if eqb c 42 then 1 else digitRun (c ∷ cs)
 
--- line 3 is not due
+-- a count keeps to its limit, so that number 3 does not apply
 abbrev pub inLimit : Count → Bool
 inLimit Absent = true
 inLimit Star = true
 inLimit (Times n) = leb n maxCount
 
--- line 4 is not due: `@` has a count, and in packing `x` has no star
+-- a count means something after a type, so that number 4 does not apply: `@` has one, and in packing `x` has no star
 abbrev pub hasMeaning : Bool → Code → Count → Bool
 hasMeaning packing (Data s) n = true
 hasMeaning packing (Move Skip) Absent = true

@@ -1,37 +1,39 @@
 -- What a call is refused with (document 01, "Numbers that come back"): the numbers, and checks one after the other.
 -- The type Refusal is the source's: a case for each line of the table, in its order.
-use Prim.Native.Nat.{ℕ}
+use Prim.Native.Nat.{ℕ, suc}
 use mathlib.Core.Bool.{Bool, true, false}
 use Rattle.layout.specs.declared.Refusal.{Refusal}
-use Rattle.layout.specs.declared.Refusal.the-variants.{BadSize, UnknownType, CountTooLarge, CountMisused, WrongSlots, NotSet, BadSlot, WrongKind, WrongAmount, BadDigit, NoRoom, MarkOutOfRange}
+use Rattle.layout.specs.declared.Refusal.the-variants.{BadSize, UnknownType, CountTooLarge, CountMisused, WrongSlots, NotSet, BadSlot, WrongKind, WrongAmount, BadDigit, NoRoom}
 
 infixr 10 if_then_else_
 abbrev pub if_then_else_ {ℓ} : {A : Type ℓ} → Bool → A → A → A
 if_then_else_ true a b = a
 if_then_else_ false a b = b
 
--- the number of each line of the table
+-- the line of the table, counted from 0 as bytes and slots are
+abbrev pub lineOf : Refusal → ℕ
+lineOf BadSize = 0
+lineOf UnknownType = 1
+lineOf CountTooLarge = 2
+lineOf CountMisused = 3
+lineOf WrongSlots = 4
+lineOf NotSet = 5
+lineOf BadSlot = 6
+lineOf WrongKind = 7
+lineOf WrongAmount = 8
+lineOf BadDigit = 9
+lineOf NoRoom = 10
+
+-- its number: 0 is that of an accepted call, so the first line has 1
 abbrev pub numberOf : Refusal → ℕ
-numberOf BadSize = 1
-numberOf UnknownType = 2
-numberOf CountTooLarge = 3
-numberOf CountMisused = 4
-numberOf WrongSlots = 5
-numberOf NotSet = 6
-numberOf BadSlot = 7
-numberOf WrongKind = 8
-numberOf WrongAmount = 9
-numberOf BadDigit = 10
-numberOf NoRoom = 11
-numberOf MarkOutOfRange = 14
+numberOf why = suc (lineOf why)
 
 -- what a check gives: a value, or a refusal and its place
 pub data Result (A : Type 0) : Type 0 where
   ok : A → Result A
   refused : Refusal → ℕ → Result A
 
--- One check after the other, in a `do` block: the first refusal is the result. ("Each number is given exactly when its line
--- holds and no earlier check failed.")
+-- One check after the other, in a `do` block: the first that fails gives the result, and those after it are not looked at.
 infixl 20 _>>=_
 abbrev pub _>>=_ : {A B : Type 0} → Result A → (A → Result B) → Result B
 ok a >>= f = f a

@@ -1,6 +1,6 @@
--- The layout reader's promise: a field as one number, a word, and what `parse` answers and writes. Packer and reader rely on this alone
--- (document 01, "Layout text": "they rely on its promise alone").
-use Prim.Native.Nat.{ℕ, zero, suc, _+_, _*_, _/_, _%_, _≤_, _<_, min}
+-- The layout reader's promise: a field as one number, a word, and what `parse` answers and writes. Packer and reader see nothing else of it
+-- (01, Layout text).
+use Prim.Native.Nat.{ℕ, zero, suc, _+_, _*_, _/_, _%_, _^_, _≤_, _<_, min}
 use mathlib.Core.Path.{_≡_}
 use mathlib.Core.Bool.{Bool}
 use mathlib.Core.List.{List, map}
@@ -18,24 +18,50 @@ use Rattle.layout.specs.declared.Typed.{Typed}
 use Rattle.layout.specs.declared.Typed.the-variants.{Known, Unknown}
 use Rattle.layout.specs.declared.Parsed.{Parsed}
 use Rattle.layout.specs.declared.Parsed.the-variants.{Fields, Refused}
-use Rattle.layout.specs.declared.Read.{Read}
-use Rattle.layout.specs.declared.Read.the-variants.{Item, Bad}
+use Rattle.layout.specs.declared.Found.{Found}
+use Rattle.layout.specs.declared.Found.the-variants.{Item, Bad}
 use Rattle.layout.specs.Refusals.{if_then_else_, Result, ok, refused}
-use Rattle.layout.specs.Layout.{toNat, takesSlot, Step, field, bad, stepOf, fieldsFrom, slotCount}
+use Rattle.layout.specs.Layout.{maxLayout, maxCount, toNat, takesSlot, flagged, digitRun, decimal, countOf, countLength, Step, field, bad, stepOf, fieldsFrom, slotCount}
 
--- ---- the types by number
+-- ---- the types by number: texts, then digits, then integers, each up to its last number, take a slot; the moves stand behind a gap that has room
+-- for further types
 
+abbrev pub lastText : ℕ
+lastText = 1
+
+abbrev pub lastBinary : ℕ
+lastBinary = 3
+
+abbrev pub lastDigits : ℕ
+lastDigits = 5
+
+abbrev pub lastData : ℕ
+lastData = 13
+
+abbrev pub skipNumber : ℕ
+skipNumber = 24
+
+abbrev pub backNumber : ℕ
+backNumber = 25
+
+abbrev pub gotoNumber : ℕ
+gotoNumber = 26
+
+abbrev pub lastType : ℕ
+lastType = gotoNumber
+
+-- the bytes of an integer
 abbrev pub widthNumbered : ℕ → ℕ
 widthNumbered k = if ltb k 8 then 1 else if ltb k 10 then 2 else if ltb k 12 then 4 else 8
 
 unfoldable pub typeNumbered : ℕ → Typed
 typeNumbered k =
-    if ltb k 2 then Known (Data (Text (32 * k)))
-    else if ltb k 6 then Known (Data (Digits (leb 4 k) (eqb (k % 2) 1)))
-    else if ltb k 14 then Known (Data (Integers (widthNumbered k) (eqb (k % 2) 1)))
-    else if eqb k 14 then Known (Move Skip)
-    else if eqb k 15 then Known (Move Back)
-    else if eqb k 16 then Known (Move Goto)
+    if leb k lastText then Known (Data (Text (32 * k)))
+    else if leb k lastDigits then Known (Data (Digits (ltb lastBinary k) (eqb (k % 2) 1)))
+    else if leb k lastData then Known (Data (Integers (widthNumbered k) (eqb (k % 2) 1)))
+    else if eqb k skipNumber then Known (Move Skip)
+    else if eqb k backNumber then Known (Move Back)
+    else if eqb k gotoNumber then Known (Move Goto)
     else Unknown
 
 -- ---- a word: the number of the type, 256 for the flag, 512 for each unit of the count's number
@@ -56,7 +82,11 @@ abbrev pub shapeOf : Code → Shape
 shapeOf (Data s) = s
 shapeOf (Move m) = Text 0
 
--- the form of a type by its number: 0 to 13 take a slot
+-- a number up to the last is that of a type
+abbrev pub Numbered : ℕ → Type 0
+Numbered d = d ≤ lastType → typeNumbered d ≡ Known (known (typeNumbered d))
+
+-- the form of a type that takes a slot, by its number
 unfoldable pub shapeNumbered : ℕ → Shape
 unfolding typeNumbered
 shapeNumbered d = shapeOf (known (typeNumbered d))
@@ -65,7 +95,7 @@ unfoldable pub fieldOf : ℕ → Field
 unfolding typeNumbered
 fieldOf w = record { code = known (typeNumbered (w % 256)); unsigned = eqb (w / 256 % 2) 1; count = countFrom (w / 512) }
 
--- what every word's field keeps to: an integer has 1 to 8 bytes, and a count is far from wrapping
+-- what every word's field keeps to: an integer has 1 to 8 bytes, and a count is below what a word of 32 bits can hold
 abbrev pub FitCode : Code → Type 0
 FitCode (Data (Text pad)) = Unit {0}
 FitCode (Data (Digits hex high)) = Unit {0}
@@ -75,7 +105,7 @@ FitCode (Move m) = Unit {0}
 abbrev pub FitCount : Count → Type 0
 FitCount Absent = Unit {0}
 FitCount Star = Unit {0}
-FitCount (Times n) = n < 8388608
+FitCount (Times n) = n < 2 ^ 23
 
 pub record FieldOf (w : ℕ) (f : Field) : Type 0 where
   pub same : f ≡ fieldOf w
@@ -113,7 +143,7 @@ Decodes (refused n p) ws = Unit {0}
 pub record Parses (o : Result (List Field)) (r : Parsed) (ws : List ℕ) : Type 0 where
   pub answer : r ≡ parsedAs o
   pub words : Decodes o ws
-  pub room : length ws ≡ 256
+  pub room : length ws ≡ maxLayout
 
 -- ---- inside `parse`
 
@@ -129,22 +159,37 @@ pub record SpacesEnd (text : List ℕ) (at r : ℕ) : Type 0 where
   pub same : (packing : Bool) → rest packing text at ≡ rest packing text r
   pub stops : r < length text → getD text r 0 ≡ 32 → ⊥
 
--- the step that an answer of `read_field` stands for, at the place p
-abbrev pub stepBy : ℕ → Read → Step
-stepBy p (Item w m k) = field (fieldOf w) m
-stepBy p (Bad n) = bad n p
+-- the step that an answer of `read_field` stands for
+abbrev pub stepFound : Found → Step
+stepFound (Item w m k) = field (fieldOf w) m
+stepFound (Bad why place) = bad why place
 
 -- its slots are those of its field, and it ends inside a text of so many bytes
-abbrev pub Told : ℕ → ℕ → Read → Type 0
+abbrev pub Told : ℕ → ℕ → Found → Type 0
 Told size p (Item w m k) = (k ≡ slotsTaken (fieldOf w)) × (p + m < size)
-Told size p (Bad n) = Unit {0}
+Told size p (Bad why place) = Unit {0}
 
-pub record ReadAs (packing : Bool) (text : List ℕ) (p : ℕ) (r : Read) : Type 0 where
-  pub step : stepOf packing p (getD text p 0) (drop (suc p) text) ≡ stepBy p r
+pub record FoundAs (packing : Bool) (text : List ℕ) (p : ℕ) (r : Found) : Type 0 where
+  pub step : stepOf packing p (getD text p 0) (drop (suc p) text) ≡ stepFound r
   pub told : Told (length text) p r
 
--- a count's number, with a count above 4,096 held at 4,097
+-- a count above the limit is held at the first number above it
+abbrev pub overCount : ℕ
+overCount = suc maxCount
+
 abbrev pub heldNumber : Count → ℕ
 heldNumber Absent = 0
 heldNumber Star = 1
-heldNumber (Times n) = suc (suc (min 4097 n))
+heldNumber (Times n) = suc (suc (min overCount n))
+
+-- the number that the digits at a place make, held, and the place after them
+abbrev pub NumberAt : List ℕ → ℕ → ℕ → ℕ → Type 0
+NumberAt text at v e = (v ≡ min overCount (decimal 0 (drop at text))) × (e ≡ at + digitRun (drop at text))
+
+-- the number of the count at a place, held, and the place after it
+abbrev pub CountAt : List ℕ → ℕ → ℕ → ℕ → Type 0
+CountAt text at v e = (v ≡ heldNumber (countOf (drop at text))) × (e ≡ at + countLength (drop at text))
+
+-- the flag and the count at a place, after a type k: the flag as a number, the number of the count, held, and the place after both
+abbrev pub TailAt : List ℕ → ℕ → Code → ℕ → ℕ → ℕ → Type 0
+TailAt text at k u v e = (u ≡ toNat (flagged k (drop at text))) × CountAt text (at + u) v e

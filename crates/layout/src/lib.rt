@@ -2,9 +2,37 @@
 
 ghost use mathlib.Core.Path.{_≡_};
 ghost use Prim.Native.Nat.{_+_, _-_, _*_, _^_, _≤_, _<_, min};
-ghost use lib.ListN.{length, drop, getD};
-ghost use Rattle.layout.specs.Layout.{typeOf, digitRun, decimal, countOf, countLength, flagged, takesFlag, takesSlot, hasMeaning, toNat, fieldsOf};
-ghost use Rattle.layout.specs.Words.{SpacesEnd, typeNumbered, widthNumbered, countFrom, known, FieldOf, SlotsIn, heldNumber, ReadAs, Parses};
+ghost use lib.ListN.{length, getD};
+ghost use Rattle.layout.specs.Layout.{maxLayout, typeOf, takesFlag, hasMeaning, toNat, fieldsOf};
+ghost use Rattle.layout.specs.Words.{lastDigits, lastData, overCount, Numbered, typeNumbered, widthNumbered, countFrom, known, FieldOf, SlotsIn, SpacesEnd, NumberAt, CountAt, TailAt, FoundAs, Parses};
+
+// The limits of a layout and of a count (01, Slot tables, sizes). A field has a byte at least, so that so many words hold the fields of a layout.
+pub const MAX_LAYOUT: usize = 256;
+
+pub const MAX_COUNT: u32 = 4096;
+
+// Where a larger count is held, and the number that the largest count has in a word.
+const OVER_COUNT: u32 = MAX_COUNT + 1;
+
+const LAST_COUNT: u32 = MAX_COUNT + 2;
+
+// The types by number: texts come first, then digits, then integers, each up to its last number, and these take a slot.
+// The moves stand behind a gap that has room for further types.
+pub const LAST_TEXT: u32 = 1;
+
+pub const LAST_BINARY: u32 = 3;
+
+pub const LAST_DIGITS: u32 = 5;
+
+pub const LAST_DATA: u32 = 13;
+
+const SKIP: u32 = 24;
+
+const BACK: u32 = 25;
+
+const GOTO: u32 = 26;
+
+const LAST_TYPE: u32 = GOTO;
 
 // The form of a value that takes a slot.
 pub enum Shape {
@@ -29,7 +57,7 @@ pub enum Code {
     Move(Motion),
 }
 
-// The lines of document 01's table of numbers, in its order: 1 to 11.
+// What a call is refused with, in the order of the numbers (01, Numbers that come back).
 pub enum Refusal {
     BadSize,
     UnknownType,
@@ -42,7 +70,6 @@ pub enum Refusal {
     WrongAmount,
     BadDigit,
     NoRoom,
-    MarkOutOfRange,
 }
 
 pub enum Count {
@@ -69,10 +96,10 @@ pub enum Parsed {
     Refused(Refusal, usize),
 }
 
-// What `read_field` finds: the field's word, how many bytes follow its type character, and how many slots it takes; or a refusal.
-enum Read {
+// What `read_field` finds: the field's word, how many bytes follow its type character, and how many slots it takes; or a refusal and its place.
+enum Found {
     Item(u32, usize, usize),
-    Bad(Refusal),
+    Bad(Refusal, usize),
 }
 
 // A number that was read, and the place after it.
@@ -81,9 +108,6 @@ struct Numeral {
     next: usize,
 }
 
-// The types up to this number take a slot, those above it move the cursor.
-pub const LAST_DATA: u32 = 13;
-
 // What follows a type character: 1 for the flag, the number of the count, held, and the place after them.
 struct Tail {
     flag: u32,
@@ -91,19 +115,20 @@ struct Tail {
     next: usize,
 }
 
-// The number of the type whose character stands n places after `@`; above 16 where there is none. The arm of 18 fills gaps, so that the compiler makes a table.
+// The number of the type whose character stands n places after `@`; above the last where there is none. The arm of 28 fills gaps, so that the compiler
+// makes a table.
 fn letter(n: u8) -> u8
-    ensures { λ r. ⌜ (typeOf (n + 64) ≡ typeNumbered r) × (r ≤ 18) ⌝ }
+    ensures { λ r. ⌜ (typeOf (n + 64) ≡ typeNumbered r) × Numbered r × (r ≤ 28) ⌝ }
 {
     match n {
-        0 => 16,
+        0 => 26,
         1 => 1,
         2 => 3,
         8 => 5,
         9 => 11,
         19 => 9,
         23 => 13,
-        24 => 15,
+        24 => 25,
         33 => 0,
         34 => 2,
         35 => 6,
@@ -111,21 +136,21 @@ fn letter(n: u8) -> u8
         41 => 10,
         51 => 8,
         55 => 12,
-        56 => 14,
-        3..=7 | 36..=39 | 42 | 63 => 18,
-        _ => 17,
+        56 => 24,
+        3..=7 | 36..=39 | 42 | 63 => 28,
+        _ => 27,
     }
 }
 
-// The number of a type character's type, by which `type_numbered` computes it; above 16 for an unknown one. All of them are among the 64 characters from `@` on.
-fn number_of(c: u8) -> u8
-    ensures { λ r. ⌜ typeOf c ≡ typeNumbered r ⌝ }
+// The number of the type that a byte of the text names; above the last where it names none. All type characters are among the 64 from `@` on.
+fn type_number(c: u8) -> u32
+    ensures { λ r. ⌜ (typeOf c ≡ typeNumbered r) × Numbered r ⌝ }
 {
-    let n = letter(c % 64);
+    let n = letter(c % 64) as u32;
     if c / 64 == 1 { n } else { n + 32 }
 }
 
-fn width(k: u8) -> usize
+fn width(k: u32) -> usize
     ensures { λ r. ⌜ r ≡ widthNumbered k ⌝ }
 {
     if k < 8 {
@@ -139,38 +164,38 @@ fn width(k: u8) -> usize
 
 // The bytes of an integer of type d, as a power of two.
 pub fn width_power(d: u32) -> u32
-    requires { ⌜ (5 < d) × (d ≤ 13) ⌝ }
+    requires { ⌜ (lastDigits < d) × (d ≤ lastData) ⌝ }
     ensures { λ r. ⌜ (2 ^ r ≡ widthNumbered d) × (r ≤ 3) ⌝ }
 {
     d / 2 - 3
 }
 
-fn type_numbered(k: u8) -> Typed
+fn type_numbered(k: u32) -> Typed
     ensures { λ r. ⌜ r ≡ typeNumbered k ⌝ }
 {
-    if k < 2 {
-        return Typed::Known(Code::Data(Shape::Text(32 * k)));
+    if k <= LAST_TEXT {
+        return Typed::Known(Code::Data(Shape::Text((32 * k) as u8)));
     }
-    if k < 6 {
-        return Typed::Known(Code::Data(Shape::Digits(4 <= k, k % 2 == 1)));
+    if k <= LAST_DIGITS {
+        return Typed::Known(Code::Data(Shape::Digits(LAST_BINARY < k, k % 2 == 1)));
     }
-    if k < 14 {
+    if k <= LAST_DATA {
         return Typed::Known(Code::Data(Shape::Integers(width(k), k % 2 == 1)));
     }
-    if k == 14 {
+    if k == SKIP {
         return Typed::Known(Code::Move(Motion::Skip));
     }
-    if k == 15 {
+    if k == BACK {
         return Typed::Known(Code::Move(Motion::Back));
     }
-    if k == 16 {
+    if k == GOTO {
         return Typed::Known(Code::Move(Motion::Goto));
     }
     Typed::Unknown
 }
 
-// the place after the spaces from `at` on
-pub fn spaces_end(text: &[u8], at: usize) -> usize
+// The place after the spaces from `at` on.
+fn spaces_end(text: &[u8], at: usize) -> usize
     requires { ⌜ at ≤ length (now text) ⌝ }
     ensures { λ r. ⌜ SpacesEnd (now (text .entry)) at r ⌝ }
 {
@@ -185,18 +210,18 @@ pub fn spaces_end(text: &[u8], at: usize) -> usize
     i
 }
 
-// Absent more digit, held at 4,097.
+// A number with one digit more, held just above the limit.
 fn more(v: u32, c: u8) -> u32
-    requires { ⌜ (v ≤ 4097) × (48 ≤ c) ⌝ }
-    ensures { λ r. ⌜ r ≡ min 4097 (10 * v + (c - 48)) ⌝ }
+    requires { ⌜ (v ≤ overCount) × (48 ≤ c) ⌝ }
+    ensures { λ r. ⌜ r ≡ min overCount (10 * v + (c - 48)) ⌝ }
 {
     let n = 10 * v + (c - 48) as u32;
-    if n < 4097 { n } else { 4097 }
+    if n < OVER_COUNT { n } else { OVER_COUNT }
 }
 
-// the number that the decimal digits from `at` on make, held at 4,097, and the place after them
+// The number that the decimal digits from `at` on make, held just above the limit, and the place after them.
 fn number(text: &[u8], at: usize) -> Numeral
-    ensures { λ r. ⌜ (r .value ≡ min 4097 (decimal 0 (drop at (now (text .entry))))) × (r .next ≡ at + digitRun (drop at (now (text .entry)))) ⌝ }
+    ensures { λ r. ⌜ NumberAt (now (text .entry)) at (r .value) (r .next) ⌝ }
 {
     let mut v: u32 = 0;
     let mut i = at;
@@ -214,9 +239,9 @@ fn number(text: &[u8], at: usize) -> Numeral
     Numeral { value: v, next: i }
 }
 
-// the number of the count that stands at `at`, held, and the place after it
+// The number of the count that stands at `at`, held, and the place after it.
 fn count_at(text: &[u8], at: usize) -> Numeral
-    ensures { λ r. ⌜ (r .value ≡ heldNumber (countOf (drop at (now (text .entry))))) × (r .next ≡ at + countLength (drop at (now (text .entry)))) ⌝ }
+    ensures { λ r. ⌜ CountAt (now (text .entry)) at (r .value) (r .next) ⌝ }
 {
     if text.len() <= at {
         return Numeral { value: 0, next: at };
@@ -244,26 +269,19 @@ fn count_at(text: &[u8], at: usize) -> Numeral
     }
 }
 
-// whether the type of a number takes the flag
-fn takes_flag(d: u8) -> bool
+// Whether the type of a number takes the flag.
+fn takes_flag(d: u32) -> bool
     ensures { λ r. ⌜ r ≡ takesFlag (known (typeNumbered d)) ⌝ }
 {
-    if d < 6 {
+    if d <= LAST_DIGITS {
         return false;
     }
-    d < 14
+    d <= LAST_DATA
 }
 
-// How many slots a field of a type takes.
-pub fn slots_of(k: Code) -> usize
-    ensures { λ r. ⌜ r ≡ toNat (takesSlot k) ⌝ }
-{
-    if let Code::Data(_) = k { 1 } else { 0 }
-}
-
-// the flag and the count that stand at `at`, after the type character of the type with number d
-fn tail_at(text: &[u8], at: usize, d: u8) -> Tail
-    ensures { λ r. ⌜ (r .flag ≡ toNat (flagged (known (typeNumbered d)) (drop at (now (text .entry))))) × (r .value ≡ heldNumber (countOf (drop (at + r .flag) (now (text .entry))))) × (r .next ≡ at + r .flag + countLength (drop (at + r .flag) (now (text .entry)))) ⌝ }
+// The flag and the count that stand at `at`, after the type character of type d.
+fn tail_at(text: &[u8], at: usize, d: u32) -> Tail
+    ensures { λ r. ⌜ TailAt (now (text .entry)) at (known (typeNumbered d)) (r .flag) (r .value) (r .next) ⌝ }
 {
     if text.len() <= at {
         return Tail {
@@ -309,50 +327,50 @@ fn bit(b: bool) -> usize
     if b { 1 } else { 0 }
 }
 
-// number 4 is not due; type and count are given by their numbers
-fn has_meaning(packing: bool, d: u8, n: u32) -> bool
+// The count means something after the type, so that number 4 does not apply; both are given by their numbers.
+fn has_meaning(packing: bool, d: u32, n: u32) -> bool
     ensures { λ r. ⌜ r ≡ hasMeaning packing (known (typeNumbered d)) (countFrom n) ⌝ }
 {
-    if d < 14 {
+    if d <= LAST_DATA {
         return true;
     }
-    if d == 14 {
+    if d == SKIP {
         if n == 1 {
             return !packing;
         }
         return true;
     }
-    if d == 16 {
+    if d == GOTO {
         return n != 0;
     }
     true
 }
 
-// the field whose type character stands at p
-fn read_field(text: &[u8], packing: bool, p: usize) -> Read
+// The field whose type character stands at p.
+fn read_field(text: &[u8], packing: bool, p: usize) -> Found
     requires { ⌜ (p < length (now text)) × (getD (now text) p 0 ≡ 32 → ⊥) ⌝ }
-    ensures { λ r. ⌜ ReadAs packing (now (text .entry)) p r ⌝ }
+    ensures { λ r. ⌜ FoundAs packing (now (text .entry)) p r ⌝ }
 {
-    let d = number_of(text[p]);
-    if 16 < d {
-        return Read::Bad(Refusal::UnknownType);
+    let d = type_number(text[p]);
+    if LAST_TYPE < d {
+        return Found::Bad(Refusal::UnknownType, p);
     }
     let t = tail_at(text, p + 1, d);
     let v = t.value;
-    if 4098 < v {
-        return Read::Bad(Refusal::CountTooLarge);
+    if LAST_COUNT < v {
+        return Found::Bad(Refusal::CountTooLarge, p);
     }
     if !has_meaning(packing, d, v) {
-        return Read::Bad(Refusal::CountMisused);
+        return Found::Bad(Refusal::CountMisused, p);
     }
-    let word = d as u32 + 256 * t.flag + 512 * v;
+    let word = d + 256 * t.flag + 512 * v;
     let more = t.next - (p + 1);
-    Read::Item(word, more, bit(d < 14))
+    Found::Item(word, more, bit(d <= LAST_DATA))
 }
 
-// Reads a layout of at most 256 bytes: the first words become its fields.
-pub fn parse(text: &[u8], packing: bool, words: &mut [u32; 256]) -> Parsed
-    requires { ⌜ (length (now text) ≤ 256) × (length (now words) ≡ 256) ⌝ }
+// Reads a layout that keeps to its size: the first words become its fields.
+pub fn parse(text: &[u8], packing: bool, words: &mut [u32; MAX_LAYOUT]) -> Parsed
+    requires { ⌜ (length (now text) ≤ maxLayout) × (length (now words) ≡ maxLayout) ⌝ }
     ensures { λ r. ⌜ Parses (fieldsOf packing (now (text .entry))) r (now (words .exit)) ⌝ }
 {
     let mut at: usize = 0;
@@ -365,10 +383,10 @@ pub fn parse(text: &[u8], packing: bool, words: &mut [u32; 256]) -> Parsed
         }
         let s = read_field(text, packing, p);
         match s {
-            Read::Bad(why) => {
-                return Parsed::Refused(why, p);
+            Found::Bad(why, place) => {
+                return Parsed::Refused(why, place);
             }
-            Read::Item(w, more, k) => {
+            Found::Item(w, more, k) => {
                 words[n] = w;
                 n += 1;
                 slots += k;
@@ -391,7 +409,7 @@ pub fn count_from(n: u32) -> Count
     Count::Times((n - 2) as usize)
 }
 
-fn code_numbered(k: u8) -> Code
+fn code_numbered(k: u32) -> Code
     ensures { λ r. ⌜ r ≡ known (typeNumbered k) ⌝ }
 {
     let t = type_numbered(k);
@@ -406,7 +424,7 @@ pub fn field_of(word: u32) -> Field
     ensures { λ r. ⌜ FieldOf word r ⌝ }
 {
     let n = count_from(word / 512);
-    let k = code_numbered((word % 256) as u8);
+    let k = code_numbered(word % 256);
     Field {
         code: k,
         unsigned: word / 256 % 2 == 1,
@@ -414,9 +432,9 @@ pub fn field_of(word: u32) -> Field
     }
 }
 
-// How many slots the field of a word takes: the types that take one are those numbered below 14.
+// How many slots the field of a word takes.
 pub fn slots_in(word: u32) -> usize
     ensures { λ r. ⌜ SlotsIn word r ⌝ }
 {
-    if word % 256 < 14 { 1 } else { 0 }
+    if word % 256 <= LAST_DATA { 1 } else { 0 }
 }

@@ -5,7 +5,7 @@ use mathlib.Core.Path.{_≡_, refl, sym, ap, _∙_}
 use mathlib.Core.Bool.{Bool, true, false, _&&_, not}
 use mathlib.Core.List.{List}
 use borrow.Author.Tests.{le-leb, leb-true, eq-eqb, ne-eqb}
-use lib.Dec.{eqb, leb}
+use lib.Dec.{eqb, leb, ltb}
 use lib.ListN.{length, take, drop, length-take}
 use lib.Seq.{take-take, take-all}
 use Rattle.layout.specs.declared.Shape.{Shape}
@@ -13,7 +13,7 @@ use Rattle.layout.specs.declared.Shape.the-variants.{Text, Digits, Integers}
 use Rattle.layout.specs.declared.Count.{Count}
 use Rattle.layout.specs.declared.Refusal.the-variants.{NotSet, BadSlot, WrongKind, WrongAmount, BadDigit}
 use Rattle.layout.specs.Refusals.{ok}
-use Rattle.layout.specs.Words.{shapeNumbered}
+use Rattle.layout.specs.Words.{lastText, lastBinary, lastDigits, shapeNumbered}
 use Rattle.layout.proofs.Numbered.{shape-text, shape-digits}
 use Rattle.layout.proofs.Laws.{demanded, demand-true}
 use Rattle.record.specs.Bytes.{part}
@@ -138,14 +138,14 @@ module _ (area : List ℕ) (n : Count) (a : Slot) where
         fine s k (ne-eqb (a .kind) 0 (λ x. omega arith)) (le-leb (a .kind) 3 (omega arith))
         (rw string (le-leb (a .start + a .len * 1) (length area) (omega arith))) e₄ e₅ e₆
 
-    pub text-sound : (d : ℕ) → d < 2 → Sound true area (shapeNumbered d) n a
+    pub text-sound : (d : ℕ) → d ≤ lastText → Sound true area (shapeNumbered d) n a
     unfolding digitsFit
     text-sound d l = rw (shape-text d l) (record { fits = λ p k. string-fine (Text (32 * d)) k string refl refl })
 
-    pub digits-sound : (d : ℕ) → 2 ≤ d → d < 6 → (t : Bool) → t ≡ allDigits (leb 4 d) (part area (a .start) (min (amount n (a .len)) (a .len)))
+    pub digits-sound : (d : ℕ) → lastText < d → d ≤ lastDigits → (t : Bool) → t ≡ allDigits (ltb lastBinary d) (part area (a .start) (min (amount n (a .len)) (a .len)))
         → Sound t area (shapeNumbered d) n a
     digits-sound d l m t q =
-        let hex : Bool = leb 4 d in
+        let hex : Bool = ltb lastBinary d in
         let high : Bool = eqb (d % 2) 1 in
         let e : t ≡ digitsFit (Digits hex high) (amount n (a .len)) (shown area a .items) = q ∙ digits-part area hex high (amount n (a .len)) a string in
         rw (shape-digits d l m) (record { fits = λ p k. string-fine (Digits hex high) k string refl (sym e ∙ p) })

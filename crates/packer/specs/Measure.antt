@@ -11,7 +11,7 @@ use Rattle.layout.specs.declared.Count.{Count}
 use Rattle.layout.specs.declared.Field.{Field}
 use Rattle.layout.specs.Refusals.{Result, ok, refused, _>>=_}
 use Rattle.layout.specs.Words.{slotsTaken, decoded, FitCode, FitCount}
-use Rattle.layout.specs.Layout.{slotCount, takesSlot, toNat}
+use Rattle.layout.specs.Layout.{maxLayout, slotCount, takesSlot, toNat}
 use Rattle.record.specs.declared.Cursor.{Cursor}
 use Rattle.record.specs.Table.{Slot, slotWidth, maxSlots}
 use Rattle.record.specs.Geometry.{amount, bytesFor, backFrom, gotoIn}
@@ -62,7 +62,7 @@ Room (refused why place) size = ⊥
 -- the words hold n fields, and there is a slot for each that takes one (line 5 is passed)
 pub record Prepared (n : ℕ) (ws ns : List ℕ) : Type 0 where
   pub few : n ≤ length ws
-  pub room : length ws ≡ 256
+  pub room : length ws ≡ maxLayout
   pub slots : slotCount (decoded n ws) ≡ length ns / slotWidth
   pub limit : length ns ≤ slotWidth * maxSlots
 

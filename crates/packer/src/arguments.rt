@@ -4,7 +4,7 @@ ghost use mathlib.Core.Bool.{Bool, true, _&&_};
 ghost use Prim.Native.Nat.{ℕ, _+_, _*_, _≤_, _<_};
 ghost use lib.Dec.{leb};
 ghost use Rattle.layout.specs.declared.Shape.the-variants.{Integers};
-ghost use Rattle.layout.specs.Words.{shapeNumbered};
+ghost use Rattle.layout.specs.Words.{lastDigits, lastData, shapeNumbered};
 ghost use Rattle.record.specs.Table.{itemSize, shown};
 ghost use Rattle.record.specs.Packing.{kindFits, enough, amountFits, digitsFit, insideArea, argumentFits};
 ghost use Rattle.record.specs.Slots.{slotOf};
@@ -111,7 +111,7 @@ fn integers_serve(n: Count, a: Argument, area: &[u8]) -> bool
 
 // A string serves.
 fn string_serves(d: u32, n: Count, a: Argument, area: &[u8]) -> bool
-    requires { ⌜ (d < 6) × (a .start < 4294967296) × (a .len < 4294967296) ⌝ }
+    requires { ⌜ (d ≤ lastDigits) × (a .start < 4294967296) × (a .len < 4294967296) ⌝ }
     ensures { λ r. ⌜ Sound r (now (area .entry)) (shapeNumbered d) n (slotOf a) ⌝ }
 {
     if a.kind != 1 {
@@ -120,19 +120,24 @@ fn string_serves(d: u32, n: Count, a: Argument, area: &[u8]) -> bool
     if area.len() < a.start + a.len {
         return false;
     }
-    if d < 2 {
+    if d <= layout::LAST_TEXT {
         return true;
     }
     let items = record::amount(n, a.len);
-    codec::digits::all_digits(area, a.start, record::least(items, a.len), 4 <= d)
+    codec::digits::all_digits(
+        area,
+        a.start,
+        record::least(items, a.len),
+        layout::LAST_BINARY < d,
+    )
 }
 
 // The argument serves a field, by the number of the field's type. Where this does not hold, `check` finds what is wrong.
 pub fn serves(d: u32, n: Count, a: Argument, area: &[u8]) -> bool
-    requires { ⌜ (d ≤ 13) × (a .start < 4294967296) × (a .len < 4294967296) ⌝ }
+    requires { ⌜ (d ≤ lastData) × (a .start < 4294967296) × (a .len < 4294967296) ⌝ }
     ensures { λ r. ⌜ Sound r (now (area .entry)) (shapeNumbered d) n (slotOf a) ⌝ }
 {
-    if 5 < d {
+    if layout::LAST_DIGITS < d {
         return integers_serve(n, a, area);
     }
     string_serves(d, n, a, area)

@@ -18,7 +18,13 @@ pub mod measure;
 pub mod write;
 
 // What is left once there is a slot for each field that takes one.
-fn finish(words: &[u32; 256], n: usize, slots: &[u32], area: &[u8], output: &mut [u8]) -> Answer
+fn finish(
+    words: &[u32; layout::MAX_LAYOUT],
+    n: usize,
+    slots: &[u32],
+    area: &[u8],
+    output: &mut [u8],
+) -> Answer
     requires { ⌜ Prepared n (now words) (now slots) × (length (now output) ≤ maxRecord) ⌝ }
     ensures { λ r. ⌜ record { answer = r; output = now (output .exit) } ≡ packEffect (now (output .entry)) (finished (now (area .entry)) (slotsOf (now (slots .entry))) (decoded n (now (words .entry))) (now (output .entry))) ⌝ }
 {
@@ -42,7 +48,7 @@ pub fn pack(layout: &[u8], slots: &[u32], area: &[u8], output: &mut [u8]) -> Ans
     if !record::lengths_fit(layout.len(), slots.len(), output.len(), area.len()) {
         return Answer::refused(Refusal::BadSize, 0);
     }
-    let mut words: [u32; 256] = [0; 256];
+    let mut words: [u32; layout::MAX_LAYOUT] = [0; layout::MAX_LAYOUT];
     let p = layout::parse(layout, true, &mut words);
     match p {
         Parsed::Refused(why, place) => Answer::refused(why, place as u32),

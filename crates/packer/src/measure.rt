@@ -66,7 +66,7 @@ fn step(word: u32, slots: &[u32], area: &[u8], k: usize, c: Cursor) -> Turn
     ensures { λ r. ⌜ r ≡ turnOf (stepped (now (area .entry)) k (slotAt (now (slots .entry)) k) c (fieldOf word .code) (fieldOf word .count)) ⌝ }
 {
     let d = word % 256;
-    if d < 14 {
+    if d <= layout::LAST_DATA {
         let a = record::slots::slot_at(slots, k);
         let n = layout::count_from(word / 512);
         if arguments::serves(d, n, a, area) {
@@ -81,7 +81,7 @@ fn step(word: u32, slots: &[u32], area: &[u8], k: usize, c: Cursor) -> Turn
 }
 
 // The pass over the fields in the first n words.
-pub fn measure(words: &[u32; 256], n: usize, slots: &[u32], area: &[u8]) -> Measured
+pub fn measure(words: &[u32; layout::MAX_LAYOUT], n: usize, slots: &[u32], area: &[u8]) -> Measured
     requires { ⌜ Prepared n (now words) (now slots) ⌝ }
     ensures { λ r. ⌜ Measures (checked (now (area .entry)) 0 (slotsOf (now (slots .entry))) (decoded n (now (words .entry))) origin) r ⌝ }
 {

@@ -1,9 +1,9 @@
 // The writing pass: every field stored in the output.
 ghost use mathlib.Core.Path.{_≡_};
-ghost use Prim.Native.Nat.{_<_};
+ghost use Prim.Native.Nat.{_≤_, _<_};
 ghost use lib.ListN.{length};
 ghost use Rattle.layout.specs.declared.Shape.the-variants.{Text, Digits, Integers};
-ghost use Rattle.layout.specs.Words.{decoded, fieldOf, shapeNumbered};
+ghost use Rattle.layout.specs.Words.{lastData, decoded, fieldOf, shapeNumbered};
 ghost use Rattle.record.specs.Bytes.{storeAt};
 ghost use Rattle.record.specs.Table.{slotsOf, shown};
 ghost use Rattle.record.specs.Geometry.{bytesFor};
@@ -64,7 +64,7 @@ fn store_integers(
 // n items of a value of the type number d; tells how many bytes they fill. A call with constants for each type, so that the compiler makes
 // code of its own for each, and tests the type once.
 fn store_value(d: u32, n: usize, a: Argument, area: &[u8], out: &mut [u8], at: usize) -> usize
-    requires { ⌜ (d < 14) × Storable (now area) (shapeNumbered d) n (slotOf a) at (length (now out)) ⌝ }
+    requires { ⌜ (d ≤ lastData) × Storable (now area) (shapeNumbered d) n (slotOf a) at (length (now out)) ⌝ }
     ensures { λ r. ⌜ (r ≡ bytesFor (shapeNumbered d) n) × (now (out .exit) ≡ storeAt (now (out .entry)) at (stored (shapeNumbered d) n (shown (now (area .entry)) (slotOf a) .items))) ⌝ }
 {
     match d {
@@ -111,7 +111,7 @@ fn put(word: u32, slots: &[u32], area: &[u8], k: usize, c: Cursor, out: &mut [u8
     ensures { λ r. ⌜ (r ≡ advance c (fieldOf word .code) (fieldOf word .count) (slotAt (now (slots .entry)) k .len)) × (now (out .exit) ≡ put (now (area .entry)) (slotAt (now (slots .entry)) k) (now (out .entry)) c (fieldOf word .code) (fieldOf word .count)) ⌝ }
 {
     let d = word % 256;
-    if d < 14 {
+    if d <= layout::LAST_DATA {
         let a = record::slots::slot_at(slots, k);
         let n = layout::count_from(word / 512);
         let bytes = store_value(d, record::amount(n, a.len), a, area, out, c.at);
@@ -127,7 +127,13 @@ fn put(word: u32, slots: &[u32], area: &[u8], k: usize, c: Cursor, out: &mut [u8
 }
 
 // The pass over the fields in the first n words.
-pub fn write(words: &[u32; 256], n: usize, slots: &[u32], area: &[u8], out: &mut [u8])
+pub fn write(
+    words: &[u32; layout::MAX_LAYOUT],
+    n: usize,
+    slots: &[u32],
+    area: &[u8],
+    out: &mut [u8],
+)
     requires { ⌜ Writable (now area) n (now words) (now slots) (length (now out)) ⌝ }
     ensures { λ _. ⌜ now (out .exit) ≡ written (now (area .entry)) (slotsOf (now (slots .entry))) (decoded n (now (words .entry))) origin (now (out .entry)) ⌝ }
 {

@@ -3,6 +3,7 @@
 ghost use mathlib.Core.Path.{_≡_};
 ghost use Prim.Native.Nat.{_*_, _≤_};
 ghost use lib.ListN.{length};
+ghost use Rattle.layout.specs.Layout.{maxLayout};
 ghost use Rattle.layout.specs.Words.{decoded};
 ghost use Rattle.record.specs.Table.{slotWidth, maxSlots, maxRecord, valueBytes};
 ghost use Rattle.record.specs.Reading.{valuesFrom, read};
@@ -29,14 +30,14 @@ fn sizes_fit(layout: usize, slots: usize, bytes: usize, area: usize, mark: usize
 
 // Lines 5 and 11 for the fields of the words: enough slots for the `taken` that take one, and room for their values; else 0 and how many they are.
 fn fits(
-    words: &[u32; 256],
+    words: &[u32; layout::MAX_LAYOUT],
     n: usize,
     taken: usize,
     bytes: &[u8],
     slots: usize,
     room: usize,
 ) -> Answer
-    requires { ⌜ (n ≤ length (now words)) × (length (now words) ≡ 256) × (length (now bytes) ≤ maxRecord) × (slots ≤ slotWidth * maxSlots) ⌝ }
+    requires { ⌜ (n ≤ length (now words)) × (length (now words) ≡ maxLayout) × (length (now bytes) ≤ maxRecord) × (slots ≤ slotWidth * maxSlots) ⌝ }
     ensures { λ r. ⌜ r ≡ fitting slots taken room (length (valueBytes (valuesFrom (now (bytes .entry)) 0 (decoded n (now (words .entry)))))) ⌝ }
 {
     if slots / record::SLOT_WIDTH < taken {
@@ -56,7 +57,7 @@ pub fn check(layout: &[u8], bytes: &[u8], slots: &[u32], area: &[u8], mark: usiz
     if !sizes_fit(layout.len(), slots.len(), bytes.len(), area.len(), mark) {
         return Answer::refused(Refusal::BadSize, 0);
     }
-    let mut words: [u32; 256] = [0; 256];
+    let mut words: [u32; layout::MAX_LAYOUT] = [0; layout::MAX_LAYOUT];
     let p = layout::parse(layout, false, &mut words);
     match p {
         Parsed::Refused(why, place) => Answer::refused(why, place as u32),
@@ -74,7 +75,7 @@ pub fn read(layout: &[u8], bytes: &[u8], slots: &mut [u32], area: &mut [u8], mar
     if !sizes_fit(layout.len(), slots.len(), bytes.len(), area.len(), mark) {
         return Answer::refused(Refusal::BadSize, 0);
     }
-    let mut words: [u32; 256] = [0; 256];
+    let mut words: [u32; layout::MAX_LAYOUT] = [0; layout::MAX_LAYOUT];
     let p = layout::parse(layout, false, &mut words);
     match p {
         Parsed::Refused(why, place) => Answer::refused(why, place as u32),

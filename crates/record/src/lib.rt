@@ -1,8 +1,8 @@
 // The answer of a call, and the cursor of a run over a record.
 ghost use mathlib.Core.Path.{_≡_};
 ghost use Prim.Native.Nat.{_+_, _≤_, _<_, min, max};
-ghost use Rattle.layout.specs.Refusals.{numberOf};
-ghost use Rattle.layout.specs.Words.{FitCode, FitCount, shapeNumbered};
+ghost use Rattle.layout.specs.Refusals.{lineOf, numberOf};
+ghost use Rattle.layout.specs.Words.{lastData, FitCode, FitCount, shapeNumbered};
 ghost use Rattle.layout.specs.declared.Code.the-variants.{Data};
 ghost use Rattle.layout.specs.declared.Motion.the-variants.{Skip, Goto};
 ghost use Rattle.record.specs.Geometry.{lengthsFit, amount, perByte, bytesFor, backFrom, movedIn, gotoIn};
@@ -15,8 +15,6 @@ pub mod numbers;
 pub mod slots;
 
 // The limits of document 01, and how many numbers make a slot.
-pub const MAX_LAYOUT: usize = 256;
-
 pub const MAX_SLOTS: usize = 64;
 
 pub const MAX_RECORD: usize = 4096;
@@ -31,7 +29,7 @@ const MAX_NUMBERS: usize = SLOT_WIDTH * MAX_SLOTS;
 pub fn lengths_fit(layout: usize, slots: usize, bytes: usize, area: usize) -> bool
     ensures { λ r. ⌜ r ≡ lengthsFit layout slots bytes area ⌝ }
 {
-    if MAX_LAYOUT < layout {
+    if layout::MAX_LAYOUT < layout {
         return false;
     }
     if MAX_NUMBERS < slots {
@@ -53,24 +51,30 @@ pub struct Answer {
     pub second: u32,
 }
 
-// The number of a refusal, in the order of document 01's table.
+// The line of the table of numbers that a refusal stands on, from 0 on.
+fn line_of(why: Refusal) -> u8
+    ensures { λ r. ⌜ r ≡ lineOf why ⌝ }
+{
+    match why {
+        Refusal::BadSize => 0,
+        Refusal::UnknownType => 1,
+        Refusal::CountTooLarge => 2,
+        Refusal::CountMisused => 3,
+        Refusal::WrongSlots => 4,
+        Refusal::NotSet => 5,
+        Refusal::BadSlot => 6,
+        Refusal::WrongKind => 7,
+        Refusal::WrongAmount => 8,
+        Refusal::BadDigit => 9,
+        Refusal::NoRoom => 10,
+    }
+}
+
+// Its number.
 fn number_of(why: Refusal) -> u32
     ensures { λ r. ⌜ r ≡ numberOf why ⌝ }
 {
-    match why {
-        Refusal::BadSize => 1,
-        Refusal::UnknownType => 2,
-        Refusal::CountTooLarge => 3,
-        Refusal::CountMisused => 4,
-        Refusal::WrongSlots => 5,
-        Refusal::NotSet => 6,
-        Refusal::BadSlot => 7,
-        Refusal::WrongKind => 8,
-        Refusal::WrongAmount => 9,
-        Refusal::BadDigit => 10,
-        Refusal::NoRoom => 11,
-        Refusal::MarkOutOfRange => 14,
-    }
+    line_of(why) as u32 + 1
 }
 
 impl Answer {
@@ -146,16 +150,20 @@ pub fn bytes_for(s: Shape, n: usize) -> usize
 
 // The same for a type by its number, one that takes a slot.
 pub fn bytes_numbered(d: u32, n: usize) -> usize
-    requires { ⌜ (n < 4303355904) × (d ≤ 13) ⌝ }
+    requires { ⌜ (n < 4303355904) × (d ≤ lastData) ⌝ }
     ensures { λ r. ⌜ r ≡ bytesFor (shapeNumbered d) n ⌝ }
 {
-    if 5 < d {
+    if layout::LAST_DIGITS < d {
         return n << layout::width_power(d);
     }
-    if d < 2 {
+    if d <= layout::LAST_TEXT {
         return n;
     }
-    if d < 4 { (n + 7) / 8 } else { (n + 1) / 2 }
+    if d <= layout::LAST_BINARY {
+        (n + 7) / 8
+    } else {
+        (n + 1) / 2
+    }
 }
 
 impl Cursor {

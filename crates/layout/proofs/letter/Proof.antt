@@ -1,6 +1,6 @@
 use Prim.Native.Nat.{ℕ, _+_}
 use native.Mathlib.Omega.{arith}
-use mathlib.Core.Path.{_≡_, ap}
+use mathlib.Core.Path.{_≡_, refl, ap}
 use mathlib.Core.Bool.{false}
 use mathlib.Core.Logic.{⊎-elim}
 use borrow.Author.Tests.{ne-eqb}
@@ -13,67 +13,67 @@ use Rattle.layout.proofs.letter.Tie as tie
 
 returns : tie.Need-returns
 unfolding typeOf typeNumbered
-returns c = (ap (λ (n : ℕ). typeOf (n + 64)) (c .match .keys1), omega arith)
+returns c = (ap (λ (n : ℕ). typeOf (n + 64)) (c .match .keys1), λ h. refl, omega arith)
 
 returns-2 : tie.Need-returns-2
 unfolding typeOf typeNumbered
-returns-2 c = (ap (λ (n : ℕ). typeOf (n + 64)) (c .match .keys2), omega arith)
+returns-2 c = (ap (λ (n : ℕ). typeOf (n + 64)) (c .match .keys2), λ h. refl, omega arith)
 
 returns-3 : tie.Need-returns-3
 unfolding typeOf typeNumbered
-returns-3 c = (ap (λ (n : ℕ). typeOf (n + 64)) (c .match .keys3), omega arith)
+returns-3 c = (ap (λ (n : ℕ). typeOf (n + 64)) (c .match .keys3), λ h. refl, omega arith)
 
 returns-4 : tie.Need-returns-4
 unfolding typeOf typeNumbered
-returns-4 c = (ap (λ (n : ℕ). typeOf (n + 64)) (c .match .keys4), omega arith)
+returns-4 c = (ap (λ (n : ℕ). typeOf (n + 64)) (c .match .keys4), λ h. refl, omega arith)
 
 returns-5 : tie.Need-returns-5
 unfolding typeOf typeNumbered
-returns-5 c = (ap (λ (n : ℕ). typeOf (n + 64)) (c .match .keys5), omega arith)
+returns-5 c = (ap (λ (n : ℕ). typeOf (n + 64)) (c .match .keys5), λ h. refl, omega arith)
 
 returns-6 : tie.Need-returns-6
 unfolding typeOf typeNumbered
-returns-6 c = (ap (λ (n : ℕ). typeOf (n + 64)) (c .match .keys6), omega arith)
+returns-6 c = (ap (λ (n : ℕ). typeOf (n + 64)) (c .match .keys6), λ h. refl, omega arith)
 
 returns-7 : tie.Need-returns-7
 unfolding typeOf typeNumbered
-returns-7 c = (ap (λ (n : ℕ). typeOf (n + 64)) (c .match .keys7), omega arith)
+returns-7 c = (ap (λ (n : ℕ). typeOf (n + 64)) (c .match .keys7), λ h. refl, omega arith)
 
 returns-8 : tie.Need-returns-8
 unfolding typeOf typeNumbered
-returns-8 c = (ap (λ (n : ℕ). typeOf (n + 64)) (c .match .keys8), omega arith)
+returns-8 c = (ap (λ (n : ℕ). typeOf (n + 64)) (c .match .keys8), λ h. refl, omega arith)
 
 returns-9 : tie.Need-returns-9
 unfolding typeOf typeNumbered
-returns-9 c = (ap (λ (n : ℕ). typeOf (n + 64)) (c .match .keys9), omega arith)
+returns-9 c = (ap (λ (n : ℕ). typeOf (n + 64)) (c .match .keys9), λ h. refl, omega arith)
 
 returns-10 : tie.Need-returns-10
 unfolding typeOf typeNumbered
-returns-10 c = (ap (λ (n : ℕ). typeOf (n + 64)) (c .match .keys10), omega arith)
+returns-10 c = (ap (λ (n : ℕ). typeOf (n + 64)) (c .match .keys10), λ h. refl, omega arith)
 
 returns-11 : tie.Need-returns-11
 unfolding typeOf typeNumbered
-returns-11 c = (ap (λ (n : ℕ). typeOf (n + 64)) (c .match .keys11), omega arith)
+returns-11 c = (ap (λ (n : ℕ). typeOf (n + 64)) (c .match .keys11), λ h. refl, omega arith)
 
 returns-12 : tie.Need-returns-12
 unfolding typeOf typeNumbered
-returns-12 c = (ap (λ (n : ℕ). typeOf (n + 64)) (c .match .keys12), omega arith)
+returns-12 c = (ap (λ (n : ℕ). typeOf (n + 64)) (c .match .keys12), λ h. refl, omega arith)
 
 returns-13 : tie.Need-returns-13
 unfolding typeOf typeNumbered
-returns-13 c = (ap (λ (n : ℕ). typeOf (n + 64)) (c .match .keys13), omega arith)
+returns-13 c = (ap (λ (n : ℕ). typeOf (n + 64)) (c .match .keys13), λ h. refl, omega arith)
 
 returns-14 : tie.Need-returns-14
 unfolding typeOf typeNumbered
-returns-14 c = (ap (λ (n : ℕ). typeOf (n + 64)) (c .match .keys14), omega arith)
+returns-14 c = (ap (λ (n : ℕ). typeOf (n + 64)) (c .match .keys14), λ h. refl, omega arith)
 
 returns-15 : tie.Need-returns-15
 unfolding typeOf typeNumbered
-returns-15 c = (ap (λ (n : ℕ). typeOf (n + 64)) (c .match .keys15), omega arith)
+returns-15 c = (ap (λ (n : ℕ). typeOf (n + 64)) (c .match .keys15), λ h. refl, omega arith)
 
 returns-16 : tie.Need-returns-16
 unfolding typeOf typeNumbered
-returns-16 c = (ap (λ (n : ℕ). typeOf (n + 64)) (c .match .keys16), omega arith)
+returns-16 c = (ap (λ (n : ℕ). typeOf (n + 64)) (c .match .keys16), λ h. refl, omega arith)
 
 apart : (n k : ℕ) → (n ≡ k → ⊥) → eqb (n + 64) (k + 64) ≡ false
 apart n k h = ne-eqb (n + 64) (k + 64) (λ e. h (omega arith))
@@ -102,23 +102,23 @@ other c =
 
 returns-17 : tie.Need-returns-17
 unfolding typeNumbered
-returns-17 c = (other (c .before .before), omega arith)
+returns-17 c = (other (c .before .before), λ h. absurd (omega arith), omega arith)
 
 returns-18 : tie.Need-returns-18
 unfolding typeNumbered
-returns-18 c = (other (c .before .before .before), omega arith)
+returns-18 c = (other (c .before .before .before), λ h. absurd (omega arith), omega arith)
 
 returns-19 : tie.Need-returns-19
 unfolding typeOf typeNumbered
-returns-19 c = (⊎-elim (ap (λ (n : ℕ). typeOf (n + 64))) (ap (λ (n : ℕ). typeOf (n + 64))) (c .match .keys17), omega arith)
+returns-19 c = (⊎-elim (ap (λ (n : ℕ). typeOf (n + 64))) (ap (λ (n : ℕ). typeOf (n + 64))) (c .match .keys17), λ h. absurd (omega arith), omega arith)
 
 returns-20 : tie.Need-returns-20
 unfolding typeNumbered
-returns-20 c = (other (c .before), omega arith)
+returns-20 c = (other (c .before), λ h. absurd (omega arith), omega arith)
 
 returns-21 : tie.Need-returns-21
 unfolding typeNumbered
-returns-21 c = (other (c .before .before .before), omega arith)
+returns-21 c = (other (c .before .before .before), λ h. absurd (omega arith), omega arith)
 
 pub letter-spec : {M : Type 1} → statement M
 letter-spec =

@@ -8,6 +8,7 @@ use lib.ListN.{length, drop, getD}
 use borrow.Author.Needs.{needs}
 use denote.Ref.{now}
 use Rattle.layout.specs.Layout.{isDecimal, digitRun, decimal}
+use Rattle.layout.specs.Words.{overCount, NumberAt}
 use Rattle.layout.proofs.Laws.{run-on, run-stop, run-end}
 use Rattle.layout.proofs.Steps.{decimal-stop, decimal-end, held-on, is-decimal, below-decimal, above-decimal}
 use Rattle.layout.proofs.number.Statement.{statement}
@@ -15,16 +16,16 @@ use Rattle.layout.proofs.number.Tie as tie
 
 abbrev Inv-loop : tie.InvT-loop
 Inv-loop text at v₀ i₀ v i =
-    (v ≤ 4097) × (min 4097 (decimal v (drop i text)) ≡ min 4097 (decimal 0 (drop at text))) × (i + digitRun (drop i text) ≡ at + digitRun (drop at text))
+    (v ≤ overCount) × (min overCount (decimal v (drop i text)) ≡ min overCount (decimal 0 (drop at text))) × (i + digitRun (drop i text) ≡ at + digitRun (drop at text))
 
 abbrev μ-loop : tie.MeasureT-loop
 μ-loop text at v₀ i₀ v i = length text - i
 
 module _ (text : List ℕ) (at v i : ℕ) where
-  stopped : i < length text → isDecimal (getD text i 0) ≡ false → Inv-loop text at 0 0 v i → (v ≡ min 4097 (decimal 0 (drop at text))) × (i ≡ at + digitRun (drop at text))
+  stopped : i < length text → isDecimal (getD text i 0) ≡ false → Inv-loop text at 0 0 v i → NumberAt text at v i
   stopped h e inv = (omega (arith, decimal-stop text i v h e), omega (arith, run-stop text i h e))
 
-  ended : length text ≤ i → Inv-loop text at 0 0 v i → (v ≡ min 4097 (decimal 0 (drop at text))) × (i ≡ at + digitRun (drop at text))
+  ended : length text ≤ i → Inv-loop text at 0 0 v i → NumberAt text at v i
   ended h inv = (omega (arith, decimal-end text i v h), omega (arith, run-end text i h))
 
 loop-holds : tie.Need-loop-holds Inv-loop μ-loop

@@ -1,4 +1,4 @@
--- The types numbered below 14 take a slot, and the others none.
+-- The types up to the last number of data take a slot, and the others none.
 use mathlib.Core.Path.{refl, sym}
 use native.Mathlib.Omega.{arith}
 use Rattle.layout.proofs.Steps.{field-fits}

@@ -38,7 +38,7 @@ returns-4 : tie.Need-returns-4
 returns-4 c =
     let f = c .before .before .before in
     let takes = sym (not-false _ (c .before .if4 .left)) ∙ c .before .before .takes-flag .ensures in
-    (ap toNat (takes ∙ flag-here _ _ _ (f .before .before .before .if1 .left) (f .if3 .left)), c .count-at .ensures .0, c .count-at .ensures .1)
+    (ap toNat (takes ∙ flag-here _ _ _ (f .before .before .before .if1 .left) (f .if3 .left)), c .count-at .ensures)
 
 count-at-requires-2 : tie.Need-count-at-requires-2
 count-at-requires-2 c κs = search needs

@@ -2,7 +2,7 @@
 use Prim.Native.Nat.{ℕ, _+_, _≤_, _<_}
 use native.Mathlib.Omega.{arith}
 use mathlib.Core.Path.{_≡_}
-use Rattle.layout.specs.Words.{typeNumbered, shapeNumbered}
+use Rattle.layout.specs.Words.{lastData, typeNumbered, shapeNumbered}
 use borrow.Author.Needs.{needs}
 use Rattle.packer.proofs.write.store_value.Statement.{statement}
 use Rattle.packer.proofs.write.store_value.Tie as tie
@@ -14,11 +14,11 @@ any d = omega arith
 six : (m d : ℕ) → m ≤ d → (d ≡ m → ⊥) → (d ≡ m + 1 → ⊥) → (d ≡ m + 2 → ⊥) → (d ≡ m + 3 → ⊥) → (d ≡ m + 4 → ⊥) → (d ≡ m + 5 → ⊥) → m + 6 ≤ d
 six m d h e₀ e₁ e₂ e₃ e₄ e₅ = omega arith
 
-one : (d : ℕ) → 12 ≤ d → (d ≡ 12 → ⊥) → d < 14 → d ≡ 13
+one : (d : ℕ) → 12 ≤ d → (d ≡ 12 → ⊥) → d ≤ lastData → d ≡ lastData
 one d h e l = omega arith
 
--- the last arm is the type number 13
-last : (c : tie.At-match-rest) → c .before .before .before .args .d ≡ 13
+-- the last arm is the last type of data
+last : (c : tie.At-match-rest) → c .before .before .before .args .d ≡ lastData
 last c =
     let r = c .match .rest in
     let d : ℕ = c .before .before .before .args .d in
