@@ -1,5 +1,4 @@
 -- The fields of the words: what a loop over the words goes by, and what a caller of `parse` learns.
--- Assumes nothing.
 use Prim.Native.Nat.{ℕ, suc, _+_, _*_, _/_, _%_, _≤_, _<_, min}
 use native.Mathlib.Numerals.{add-one}
 use native.Mathlib.Omega.{arith}

@@ -53,33 +53,33 @@ no-number-zero n e = absurd (suc-ne-zero _ e)
 
 -- ---- the types
 
-abbrev SoundType : Typed → Type 0
-SoundType (Known k) = FitCode k
-SoundType Unknown = Unit {0}
+abbrev pub FitType : Typed → Type 0
+FitType (Known k) = FitCode k
+FitType Unknown = Unit {0}
 
-chosen : (t : Bool) (a b : Typed) → SoundType a → SoundType b → SoundType (if t then a else b)
-chosen true a b h k = h
-chosen false a b h k = k
+pub fit-either : (t : Bool) (a b : Typed) → FitType a → FitType b → FitType (if t then a else b)
+fit-either true a b h k = h
+fit-either false a b h k = k
 
-sound-type : (c : ℕ) → SoundType (typeOf c)
+sound-type : (c : ℕ) → FitType (typeOf c)
 unfolding typeOf
 sound-type c =
-    chosen (eqb c 97) _ _ tt
-    (chosen (eqb c 65) _ _ tt
-    (chosen (eqb c 98) _ _ tt
-    (chosen (eqb c 66) _ _ tt
-    (chosen (eqb c 104) _ _ tt
-    (chosen (eqb c 72) _ _ tt
-    (chosen (eqb c 99) _ _ (omega arith, omega arith)
-    (chosen (eqb c 115) _ _ (omega arith, omega arith)
-    (chosen (eqb c 83) _ _ (omega arith, omega arith)
-    (chosen (eqb c 105) _ _ (omega arith, omega arith)
-    (chosen (eqb c 73) _ _ (omega arith, omega arith)
-    (chosen (eqb c 119) _ _ (omega arith, omega arith)
-    (chosen (eqb c 87) _ _ (omega arith, omega arith)
-    (chosen (eqb c 120) _ _ tt
-    (chosen (eqb c 88) _ _ tt
-    (chosen (eqb c 64) _ _ tt tt)))))))))))))))
+    fit-either (eqb c 97) _ _ tt
+    (fit-either (eqb c 65) _ _ tt
+    (fit-either (eqb c 98) _ _ tt
+    (fit-either (eqb c 66) _ _ tt
+    (fit-either (eqb c 104) _ _ tt
+    (fit-either (eqb c 72) _ _ tt
+    (fit-either (eqb c 99) _ _ (omega arith, omega arith)
+    (fit-either (eqb c 115) _ _ (omega arith, omega arith)
+    (fit-either (eqb c 83) _ _ (omega arith, omega arith)
+    (fit-either (eqb c 105) _ _ (omega arith, omega arith)
+    (fit-either (eqb c 73) _ _ (omega arith, omega arith)
+    (fit-either (eqb c 119) _ _ (omega arith, omega arith)
+    (fit-either (eqb c 87) _ _ (omega arith, omega arith)
+    (fit-either (eqb c 120) _ _ tt
+    (fit-either (eqb c 88) _ _ tt
+    (fit-either (eqb c 64) _ _ tt tt)))))))))))))))
 
 abbrev pub AllSound : List Field → Type 0
 AllSound [] = Unit {0}
@@ -108,7 +108,7 @@ later-end at true (Move Goto) Absent u m h = tt
 later-end at true (Move Goto) Star u m h = (refl, h)
 later-end at true (Move Goto) (Times n) u m h = (refl, h)
 
-later-typed : (at : ℕ) (cs : List ℕ) (t : Typed) → SoundType t
+later-typed : (at : ℕ) (cs : List ℕ) (t : Typed) → FitType t
     → Later (stepFrom (elim t [ Known k ↦ fieldAfter true at k cs | Unknown ↦ refused UnknownType at ]))
     (stepFrom (elim t [ Known k ↦ fieldAfter false at k cs | Unknown ↦ refused UnknownType at ]))
 unfolding fieldAfter

@@ -1,5 +1,5 @@
--- One step of the layout reader, on plain values: a count, a flag, a word, and the field at a type character.
--- Assumes nothing.
+-- One step of the layout reader, on plain values: a count, a flag, a word, and the field at a type character. Each law rewrites a definition by
+-- what the code has tested.
 use Prim.Native.Nat.{ℕ, zero, suc, _+_, _-_, _*_, _/_, _%_, _^_, _≤_, _<_, min}
 use native.Mathlib.Nat.{add-zero, suc-ne-zero}
 use native.Mathlib.Numerals.{add-one}
@@ -22,9 +22,9 @@ use Rattle.layout.specs.declared.Typed.the-variants.{Known, Unknown}
 use Rattle.layout.specs.declared.Refusal.the-variants.{UnknownType, CountTooLarge, CountMisused}
 use Rattle.layout.specs.Refusals.{if_then_else_, refused}
 use Rattle.layout.specs.Layout.{maxCount, isDecimal, digitRun, decimal, typeOf, takesFlag, flagged, countOf, countLength, inLimit, hasMeaning, toNat, takesSlot, field, bad, fieldAfter, fieldAt, stepOf}
-use Rattle.layout.proofs.Laws.{decimal-held}
+use Rattle.layout.proofs.Laws.{FitType, fit-either, decimal-held}
 use Rattle.layout.specs.declared.Found.the-variants.{Item, Bad}
-use Rattle.layout.specs.Words.{lastText, lastDigits, lastData, skipNumber, backNumber, gotoNumber, lastType, typeNumbered, countFrom, known, Numbered, fieldOf, wordOf, overCount, heldNumber, NumberAt, CountAt, TailAt, FitCode, FitCount, FieldOf, FoundAs}
+use Rattle.layout.specs.Words.{lastText, lastDigits, lastData, skipNumber, backNumber, gotoNumber, lastType, typeNumbered, countFrom, known, HasType, fieldOf, wordOf, overCount, heldNumber, NumberAt, CountAt, TailAt, FitCode, FitCount, FieldOf, FoundAs}
 
 -- ---- a decimal number from the place i on
 
@@ -152,14 +152,6 @@ word-field c u n h =
     let high : wordOf c u n / 512 ≡ n = omega arith in
     rw (low, upper, flag, high, bit-of u)
 
-abbrev pub FitType : Typed → Type 0
-FitType (Known k) = FitCode k
-FitType Unknown = Unit {0}
-
-chosen : (t : Bool) (a b : Typed) → FitType a → FitType b → FitType (if t then a else b)
-chosen true a b h k = h
-chosen false a b h k = k
-
 width-fits : (a b c : Bool) → (0 < (if a then 1 else if b then 2 else if c then 4 else 8)) × ((if a then 1 else if b then 2 else if c then 4 else 8) ≤ 8)
 width-fits true b c = (omega arith, omega arith)
 width-fits false true c = (omega arith, omega arith)
@@ -169,12 +161,12 @@ width-fits false false false = (omega arith, omega arith)
 pub type-fits : (k : ℕ) → FitType (typeNumbered k)
 unfolding typeNumbered
 type-fits k =
-    chosen (leb k lastText) _ _ tt
-    (chosen (leb k lastDigits) _ _ tt
-    (chosen (leb k lastData) _ _ (width-fits (ltb k 8) (ltb k 10) (ltb k 12))
-    (chosen (eqb k skipNumber) _ _ tt
-    (chosen (eqb k backNumber) _ _ tt
-    (chosen (eqb k gotoNumber) _ _ tt tt)))))
+    fit-either (leb k lastText) _ _ tt
+    (fit-either (leb k lastDigits) _ _ tt
+    (fit-either (leb k lastData) _ _ (width-fits (ltb k 8) (ltb k 10) (ltb k 12))
+    (fit-either (eqb k skipNumber) _ _ tt
+    (fit-either (eqb k backNumber) _ _ tt
+    (fit-either (eqb k gotoNumber) _ _ tt tt)))))
 
 pub known-fits : (t : Typed) → FitType t → FitCode (known t)
 known-fits (Known k) h = h
@@ -263,7 +255,7 @@ pub record Seen (text : List ℕ) (p d b v e : ℕ) : Type 0 where
   pub low : d ≤ lastType
   pub no-space : getD text p 0 ≡ 32 → ⊥
   pub type : typeOf (getD text p 0) ≡ typeNumbered d
-  pub named : Numbered d
+  pub named : HasType d
   pub tail : TailAt text (p + 1) (known (typeNumbered d)) b v e
 
 module _ (packing : Bool) (text : List ℕ) (p d b v e : ℕ) (s : Seen text p d b v e) where

@@ -1,5 +1,4 @@
--- The turns of `parse`'s loop, on plain values.
--- Assumes nothing.
+-- The turns of `parse`'s loop, on plain values: what is read stands in front of what is to come, and each turn moves one field over.
 use Prim.Native.Nat.{ℕ, suc, _+_, _≤_, _<_}
 use native.Mathlib.Omega.{arith}
 use mathlib.Core.Path.{_≡_, refl, sym, ap, _∙_}

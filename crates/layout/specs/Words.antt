@@ -82,9 +82,9 @@ abbrev pub shapeOf : Code → Shape
 shapeOf (Data s) = s
 shapeOf (Move m) = Text 0
 
--- a number up to the last is that of a type
-abbrev pub Numbered : ℕ → Type 0
-Numbered d = d ≤ lastType → typeNumbered d ≡ Known (known (typeNumbered d))
+-- a number up to the last has a type
+abbrev pub HasType : ℕ → Type 0
+HasType d = d ≤ lastType → typeNumbered d ≡ Known (known (typeNumbered d))
 
 -- the form of a type that takes a slot, by its number
 unfoldable pub shapeNumbered : ℕ → Shape

@@ -4,12 +4,12 @@ ghost use mathlib.Core.Path.{_≡_};
 ghost use Prim.Native.Nat.{_+_, _-_, _*_, _^_, _≤_, _<_, min};
 ghost use lib.ListN.{length, getD};
 ghost use Rattle.layout.specs.Layout.{maxLayout, typeOf, takesFlag, hasMeaning, toNat, fieldsOf};
-ghost use Rattle.layout.specs.Words.{lastDigits, lastData, overCount, Numbered, typeNumbered, widthNumbered, countFrom, known, FieldOf, SlotsIn, SpacesEnd, NumberAt, CountAt, TailAt, FoundAs, Parses};
+ghost use Rattle.layout.specs.Words.{lastDigits, lastData, overCount, HasType, typeNumbered, widthNumbered, countFrom, known, FieldOf, SlotsIn, SpacesEnd, NumberAt, CountAt, TailAt, FoundAs, Parses};
 
 // The limits of a layout and of a count (01, Slot tables, sizes). A field has a byte at least, so that so many words hold the fields of a layout.
 pub const MAX_LAYOUT: usize = 256;
 
-pub const MAX_COUNT: u32 = 4096;
+const MAX_COUNT: u32 = 4096;
 
 // Where a larger count is held, and the number that the largest count has in a word.
 const OVER_COUNT: u32 = MAX_COUNT + 1;
@@ -118,7 +118,7 @@ struct Tail {
 // The number of the type whose character stands n places after `@`; above the last where there is none. The arm of 28 fills gaps, so that the compiler
 // makes a table.
 fn letter(n: u8) -> u8
-    ensures { λ r. ⌜ (typeOf (n + 64) ≡ typeNumbered r) × Numbered r × (r ≤ 28) ⌝ }
+    ensures { λ r. ⌜ (typeOf (n + 64) ≡ typeNumbered r) × HasType r × (r ≤ 28) ⌝ }
 {
     match n {
         0 => 26,
@@ -144,7 +144,7 @@ fn letter(n: u8) -> u8
 
 // The number of the type that a byte of the text names; above the last where it names none. All type characters are among the 64 from `@` on.
 fn type_number(c: u8) -> u32
-    ensures { λ r. ⌜ (typeOf c ≡ typeNumbered r) × Numbered r ⌝ }
+    ensures { λ r. ⌜ (typeOf c ≡ typeNumbered r) × HasType r ⌝ }
 {
     let n = letter(c % 64) as u32;
     if c / 64 == 1 { n } else { n + 32 }
@@ -202,7 +202,7 @@ fn spaces_end(text: &[u8], at: usize) -> usize
     let mut i = at;
     while i < text.len() {
         let c = text[i];
-        if c != 32 {
+        if c != b' ' {
             return i;
         }
         i += 1;
@@ -215,7 +215,7 @@ fn more(v: u32, c: u8) -> u32
     requires { ⌜ (v ≤ overCount) × (48 ≤ c) ⌝ }
     ensures { λ r. ⌜ r ≡ min overCount (10 * v + (c - 48)) ⌝ }
 {
-    let n = 10 * v + (c - 48) as u32;
+    let n = 10 * v + (c - b'0') as u32;
     if n < OVER_COUNT { n } else { OVER_COUNT }
 }
 
@@ -227,10 +227,10 @@ fn number(text: &[u8], at: usize) -> Numeral
     let mut i = at;
     while i < text.len() {
         let c = text[i];
-        if c < 48 {
+        if c < b'0' {
             return Numeral { value: v, next: i };
         }
-        if 57 < c {
+        if b'9' < c {
             return Numeral { value: v, next: i };
         }
         v = more(v, c);
@@ -247,19 +247,19 @@ fn count_at(text: &[u8], at: usize) -> Numeral
         return Numeral { value: 0, next: at };
     }
     let c = text[at];
-    if c < 42 {
+    if c < b'*' {
         return Numeral { value: 0, next: at };
     }
-    if 57 < c {
+    if b'9' < c {
         return Numeral { value: 0, next: at };
     }
-    if c == 42 {
+    if c == b'*' {
         return Numeral {
             value: 1,
             next: at + 1,
         };
     }
-    if c < 48 {
+    if c < b'0' {
         return Numeral { value: 0, next: at };
     }
     let n = number(text, at);
@@ -291,8 +291,8 @@ fn tail_at(text: &[u8], at: usize, d: u32) -> Tail
         };
     }
     let c = text[at];
-    if 57 < c {
-        if c != 117 {
+    if b'9' < c {
+        if c != b'u' {
             return Tail {
                 flag: 0,
                 value: 0,

@@ -1,3 +1,4 @@
+-- Each arm names its byte, so both sides compute; a byte of no arm differs from every type character.
 use Prim.Native.Nat.{ℕ, _+_}
 use native.Mathlib.Omega.{arith}
 use mathlib.Core.Path.{_≡_, refl, ap}

@@ -1,3 +1,4 @@
+-- The loop holds the number at the limit at every digit, and holding it once at the end gives the same.
 use Prim.Native.Nat.{ℕ, suc, _+_, _-_, _≤_, _<_, min}
 use mathlib.Core.Path.{_≡_, refl, _∙_}
 use mathlib.Core.Bool.{true, false}

@@ -1,3 +1,4 @@
+-- Every byte that the loop passes is a space, which the fields from there on do not see.
 use mathlib.Core.Path.{_≡_, refl, _∙_}
 use Prim.Native.Nat.{ℕ, _-_, _≤_}
 use native.Mathlib.Nat.{lt-irrefl, lt-of-lt-of-le}

@@ -1,3 +1,4 @@
+-- A flag is taken where the byte is `u` and the type takes it, and the count stands after it.
 use native.Mathlib.Omega.{arith}
 use mathlib.Core.Path.{sym, ap, _∙_}
 use borrow.Author.Tests.{not-true, not-false}

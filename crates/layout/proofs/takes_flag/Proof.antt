@@ -1,3 +1,4 @@
+-- Digits and texts have the numbers up to the last of digits, and from there on integers up to the last of data.
 use Rattle.layout.proofs.Numbered.{flag-not, flag-numbered}
 use Rattle.layout.proofs.takes_flag.Statement.{statement}
 use Rattle.layout.proofs.takes_flag.Tie as tie
