@@ -1,7 +1,4 @@
--- Laws of the packer's passes.
-mod Bounds
-mod ArgumentLaws
-mod MeasureLaws
+-- Laws of the writing pass and of the whole call.
 mod StoreLaws
 mod RunLaws
 mod WriteLaws

@@ -24,11 +24,11 @@ use Rattle.record.specs.Geometry.{amount, bytesFor, gotoIn}
 use Rattle.record.specs.Packing.{Run, cursorOf, store, goto, stored, packOne, packAll, filled, nextSlot, argumentFits, argumentsFit}
 use Rattle.record.proofs.Fields.{length-stored}
 use Rattle.record.proofs.Moves.{Within, length-store, pack-within, held, store-held}
-use Rattle.packer.specs.Measure.{past, moved, advance, stepped, checked, Room}
+use Rattle.arguments.specs.Measure.{past, moved, advance, stepped, checked, HasRoom}
 use Rattle.packer.specs.Writing.{putMove, put, written}
-use Rattle.packer.proofs.ArgumentLaws.{Checked, checked-argument}
+use Rattle.arguments.proofs.ArgumentLaws.{Checked, checked-argument}
 use Rattle.packer.proofs.StoreLaws.{length-shown, served}
-use Rattle.packer.proofs.MeasureLaws.{stepped-advance}
+use Rattle.arguments.proofs.MeasureLaws.{stepped-advance}
 
 -- ---- one field
 
@@ -119,7 +119,7 @@ measured-as area (f ∷ fs) k ts r w = measured-field area fs (measured-as area 
 
 abbrev WrittenAs : List ℕ → List Field → Type 0
 WrittenAs area fs =
-    (k : ℕ) (ts : List Slot) (r : Run) (size : ℕ) (lent : List ℕ) → Within r → Room (checked area k ts fs (cursorOf r)) size
+    (k : ℕ) (ts : List Slot) (r : Run) (size : ℕ) (lent : List ℕ) → Within r → HasRoom (checked area k ts fs (cursorOf r)) size
     → written area ts fs (cursorOf r) (held r lent) ≡ held (packAll r (filled area ts fs)) lent
 
 written-field : (area : List ℕ) (fs : List Field) → WrittenAs area fs → (code : Code) (u : Bool) (n : Count) → WrittenAs area (record { code = code; unsigned = u; count = n } ∷ fs)
@@ -133,18 +133,18 @@ written-field area fs ih (Data s) u n k ts r size lent w room = by (argumentFits
     after = packOne r (Data s) n (shown area t .items)
 
     by : (o : Result (Unit {0})) → argumentFits area s n k t ≡ o
-        → Room ((o >>= (λ _. ok (advance (cursorOf r) (Data s) n (t .len)))) >>= checked area (k + 1) (drop 1 ts) fs) size
+        → HasRoom ((o >>= (λ _. ok (advance (cursorOf r) (Data s) n (t .len)))) >>= checked area (k + 1) (drop 1 ts) fs) size
         → written area (drop 1 ts) fs (advance (cursorOf r) (Data s) n (t .len)) (put area t (held r lent) (cursorOf r) (Data s) n)
         ≡ held (packAll after (filled area (drop 1 ts) fs)) lent
     by (ok v) e room =
         let p = packs-data area t r s n w (checked-argument area s n k t e) in
-        let room′ : Room (checked area (k + 1) (drop 1 ts) fs (cursorOf after)) size = rw (p .cursor) at room in
+        let room′ : HasRoom (checked area (k + 1) (drop 1 ts) fs (cursorOf after)) size = rw (p .cursor) at room in
         rw (p .cursor, p .bytes lent) (ih (k + 1) (drop 1 ts) after size lent (pack-within r (Data s) n (shown area t .items) w) room′)
     by (refused why place) e room = absurd room
 written-field area fs ih (Move m) u n k ts r size lent w room =
     let p = packs-move area (nextSlot ts) r m n w in
     let after : Run = packOne r (Move m) n [] in
-    let room′ : Room (checked area (k + 0) ts fs (cursorOf after)) size = rw (p .cursor) at room in
+    let room′ : HasRoom (checked area (k + 0) ts fs (cursorOf after)) size = rw (p .cursor) at room in
     rw (p .cursor, p .bytes lent) (ih (k + 0) ts after size lent (pack-within r (Move m) n [] w) room′)
 
 pub written-as : (area : List ℕ) (fs : List Field) → WrittenAs area fs
@@ -154,11 +154,11 @@ written-as area (f ∷ fs) k ts r size lent w room = written-field area fs (writ
 
 -- ---- room
 
-pub room-ok : (o : Result Cursor) (size : ℕ) → Room o size → (d : Cursor) × (o ≡ ok d) × (d .end ≤ size)
+pub room-ok : (o : Result Cursor) (size : ℕ) → HasRoom o size → (d : Cursor) × (o ≡ ok d) × (d .end ≤ size)
 room-ok (ok d) size h = (d, refl, h)
 room-ok (refused why place) size h = absurd h
 
-pub room-step : (o : Result Cursor) (g : Cursor → Result Cursor) (size : ℕ) → Room (o >>= g) size → (d : Cursor) × (o ≡ ok d) × Room (g d) size
+pub room-step : (o : Result Cursor) (g : Cursor → Result Cursor) (size : ℕ) → HasRoom (o >>= g) size → (d : Cursor) × (o ≡ ok d) × HasRoom (g d) size
 room-step (ok d) g size h = (d, refl, h)
 room-step (refused why place) g size h = absurd h
 
@@ -169,7 +169,7 @@ advance-grows c (Move Skip) n have = omega arith
 advance-grows c (Move Back) n have = omega arith
 advance-grows c (Move Goto) n have = omega arith
 
-pub room-end : (area : List ℕ) (fs : List Field) (k : ℕ) (ts : List Slot) (c : Cursor) (size : ℕ) → Room (checked area k ts fs c) size → c .end ≤ size
+pub room-end : (area : List ℕ) (fs : List Field) (k : ℕ) (ts : List Slot) (c : Cursor) (size : ℕ) → HasRoom (checked area k ts fs c) size → c .end ≤ size
 unfolding checked
 room-end area [] k ts c size h = h
 room-end area (f ∷ fs) k ts c size h =

@@ -21,7 +21,7 @@ use Rattle.record.proofs.Fields.{Served}
 use Rattle.record.proofs.Stores.{length-part}
 use Rattle.packer.specs.Writing.{Enough, Storable}
 use Rattle.record.proofs.Bounds.{few-digits}
-use Rattle.packer.proofs.ArgumentLaws.{string-inside, integers-inside, shown-string, Checked}
+use Rattle.arguments.proofs.ArgumentLaws.{string-inside, integers-inside, shown-string, Checked}
 
 take-integers : (n len : ℕ) (l : List ℕ) → n ≤ len → take n (integersIn len l) ≡ integersIn n l
 unfolding bigEndianIn pieces

@@ -16,8 +16,8 @@ use Rattle.record.specs.declared.Cursor.{Cursor}
 use Rattle.record.specs.Table.{Slot, slotsOf, slotWidth, maxSlots, maxRecord, maxArea}
 use Rattle.record.specs.Geometry.{sizesFit, lengthsFit}
 use Rattle.record.specs.Packing.{start, cursorOf, packAll, filled, packed, argumentsFit, accepted, refusal, packs, packEffect, pack}
-use Rattle.packer.specs.declared.measure.Measured.the-variants.{Length, Refused}
-use Rattle.packer.specs.Measure.{origin, checked, Room, measuredOf}
+use Rattle.arguments.specs.declared.Measured.the-variants.{Length, Refused}
+use Rattle.arguments.specs.Measure.{origin, checked, HasRoom, measuredOf}
 use Rattle.packer.specs.Writing.{written}
 use Rattle.packer.specs.Whole.{finished}
 use Rattle.record.proofs.Tables.{length-slots}
@@ -57,7 +57,7 @@ module _ (area : List ℕ) (ts : List Slot) (fs : List Field) (output : List ℕ
         rw (passed .0, lt-leb _ _ l)
 
     module _ (h : len ≤ length output) where
-      pub finish-room : Room (checked area 0 ts fs origin) (length output)
+      pub finish-room : HasRoom (checked area 0 ts fs origin) (length output)
       unfolding packed
       finish-room = rw (measured, passed .0) (omega (arith, passed .1))
 

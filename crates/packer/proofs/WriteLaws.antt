@@ -23,13 +23,13 @@ use Rattle.record.specs.Geometry.{amount, bytesFor}
 use Rattle.record.specs.Packing.{stored, argumentFits, nextSlot}
 use Rattle.record.specs.declared.slots.Argument.{Argument}
 use Rattle.record.specs.Slots.{slotOf, slotAt}
-use Rattle.packer.specs.Measure.{origin, past, advance, stepped, checked, Room}
+use Rattle.arguments.specs.Measure.{origin, past, advance, stepped, checked, HasRoom}
 use Rattle.packer.specs.Writing.{put, written, Storable, Movable, Puttable, Writable}
 use Rattle.record.proofs.SlotLaws.{next-slot}
-use Rattle.packer.proofs.Bounds.{advance-within}
-use Rattle.packer.proofs.ArgumentLaws.{checked-argument}
+use Rattle.arguments.proofs.Bounds.{advance-within}
+use Rattle.arguments.proofs.ArgumentLaws.{checked-argument}
 use Rattle.packer.proofs.StoreLaws.{amounts-enough}
-use Rattle.packer.proofs.MeasureLaws.{stepped-advance, Standing, standing-none, field-here, standing-next, standing-slot, slot-here}
+use Rattle.arguments.proofs.MeasureLaws.{stepped-advance, Standing, standing-none, field-here, standing-next, standing-slot, slot-here}
 use Rattle.packer.proofs.RunLaws.{room-ok, room-step, room-end}
 
 -- ---- one field
@@ -87,7 +87,7 @@ pub record Writing (area : List ℕ) (n : ℕ) (ws ns lent out : List ℕ) (i k 
   pub standing : Standing n ws ns i k
   pub within : c .at ≤ c .end
   pub long : length out ≡ length lent
-  pub room : Room (checked area k (drop k (slotsOf ns)) (drop i (decoded n ws)) c) (length lent)
+  pub room : HasRoom (checked area k (drop k (slotsOf ns)) (drop i (decoded n ws)) c) (length lent)
   pub same : written area (drop k (slotsOf ns)) (drop i (decoded n ws)) c out ≡ written area (slotsOf ns) (decoded n ws) origin lent
 
 put-here : (area ns out : List ℕ) (k : ℕ) (c : Cursor) (code : Code) (n : Count) → slotWidth * (k + toNat (takesSlot code)) ≤ length ns
@@ -115,7 +115,7 @@ module _ (area : List ℕ) (n : ℕ) (ws ns lent : List ℕ) (fine : Writable ar
 
       -- the step that the field takes, and the room after it
       stepping : (d : Cursor) × (stepped area k (slotAt ns k) c (f .code) (f .count) ≡ ok d)
-          × Room (checked area (k + slotsTaken f) (drop (k + slotsTaken f) (slotsOf ns)) (drop (i + 1) (decoded n ws)) d) (length lent)
+          × HasRoom (checked area (k + slotsTaken f) (drop (k + slotsTaken f) (slotsOf ns)) (drop (i + 1) (decoded n ws)) d) (length lent)
       unfolding checked
       stepping =
           let s = slot-here area ns k c (f .code) (f .count) slot in

@@ -1,5 +1,3 @@
--- What the passes of the packer compute. The definition of packing itself stands in the crate `record`.
-pub mod Arguments
-pub mod Measure
+-- What the writing pass computes. The definition of packing itself stands in the crate `record`.
 pub mod Writing
 pub mod Whole

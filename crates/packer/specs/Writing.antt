@@ -19,7 +19,7 @@ use Rattle.record.specs.Table.{Slot, slotsOf, shown, maxRecord}
 use Rattle.record.specs.Geometry.{amount, bytesFor, gotoIn}
 use Rattle.record.specs.Packing.{stored, nextSlot, kindFits, digitsFit, insideArea}
 use Rattle.record.specs.Slots.{slotAt}
-use Rattle.packer.specs.Measure.{origin, moved, advance, stepped, checked, Room, Ready, Prepared}
+use Rattle.arguments.specs.Measure.{origin, moved, advance, stepped, checked, HasRoom, Ready, Prepared}
 
 -- `x` stores zeros; `@` past the highest position fills the gap with them
 abbrev pub putMove : List ℕ → Cursor → Motion → Count → List ℕ
@@ -65,11 +65,11 @@ pub record Movable (c : Cursor) (m : Motion) (n : Count) (size : ℕ) : Type 0 w
 pub record Puttable (area ns : List ℕ) (k : ℕ) (c : Cursor) (code : Code) (n : Count) (size : ℕ) : Type 0 where
   pub ready : Ready ns k c code n
   pub within : c .at ≤ c .end
-  pub room : Room (stepped area k (slotAt ns k) c code n) size
+  pub room : HasRoom (stepped area k (slotAt ns k) c code n) size
   pub limit : size ≤ maxRecord
 
 -- all fields have
 pub record Writable (area : List ℕ) (n : ℕ) (ws ns : List ℕ) (size : ℕ) : Type 0 where
   pub prepared : Prepared n ws ns
-  pub room : Room (checked area 0 (slotsOf ns) (decoded n ws) origin) size
+  pub room : HasRoom (checked area 0 (slotsOf ns) (decoded n ws) origin) size
   pub limit : size ≤ maxRecord

@@ -6,16 +6,14 @@ ghost use lib.ListN.{length};
 ghost use Rattle.layout.specs.Words.{decoded};
 ghost use Rattle.record.specs.Table.{slotsOf, maxRecord};
 ghost use Rattle.record.specs.Packing.{packEffect, pack};
-ghost use Rattle.packer.specs.Measure.{Prepared};
+ghost use Rattle.arguments.specs.Measure.{Prepared};
 ghost use Rattle.packer.specs.Whole.{finished};
+use arguments::Measured;
 use layout::Parsed;
 use layout::Refusal;
-use measure::Measured;
 use record::Answer;
 
-pub mod arguments;
-pub mod measure;
-pub mod write;
+mod write;
 
 // What is left once there is a slot for each field that takes one.
 fn finish(
@@ -28,7 +26,7 @@ fn finish(
     requires { ⌜ Prepared n (now words) (now slots) × (length (now output) ≤ maxRecord) ⌝ }
     ensures { λ r. ⌜ record { answer = r; output = now (output .exit) } ≡ packEffect (now (output .entry)) (finished (now (area .entry)) (slotsOf (now (slots .entry))) (decoded n (now (words .entry))) (now (output .entry))) ⌝ }
 {
-    let m = measure::measure(words, n, slots, area);
+    let m = arguments::measure(words, n, slots, area);
     match m {
         Measured::Refused(why, k) => Answer::refused(why, k as u32),
         Measured::Length(len) => {

@@ -9,7 +9,7 @@ ghost use Rattle.record.specs.Table.{slotsOf, shown};
 ghost use Rattle.record.specs.Geometry.{bytesFor};
 ghost use Rattle.record.specs.Packing.{stored};
 ghost use Rattle.record.specs.Slots.{slotOf, slotAt};
-ghost use Rattle.packer.specs.Measure.{origin, moved, advance};
+ghost use Rattle.arguments.specs.Measure.{origin, moved, advance};
 ghost use Rattle.packer.specs.Writing.{putMove, put, written, Storable, Movable, Puttable, Writable};
 use layout::Code;
 use layout::Count;

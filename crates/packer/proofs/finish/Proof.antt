@@ -4,8 +4,8 @@ use native.Mathlib.Omega.{arith}
 use mathlib.Core.Path.{_≡_, sym, _∙_}
 use Rattle.layout.specs.Words.{decoded}
 use Rattle.record.specs.Table.{slotsOf}
-use Rattle.packer.specs.declared.measure.Measured.the-variants.{Length}
-use Rattle.packer.specs.Measure.{origin, checked, measuredOf}
+use Rattle.arguments.specs.declared.Measured.the-variants.{Length}
+use Rattle.arguments.specs.Measure.{origin, checked, measuredOf}
 use Rattle.packer.proofs.WholeLaws.{finish-refused, finish-full, finish-room, finish-done}
 use borrow.Author.Needs.{needs}
 use Rattle.packer.proofs.finish.Statement.{statement}

@@ -1,0 +1,4 @@
+-- Laws of the check of an argument and of the measuring pass.
+pub mod Bounds
+pub mod ArgumentLaws
+pub mod MeasureLaws

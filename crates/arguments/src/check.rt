@@ -1,0 +1,144 @@
+// The check of one argument: lines 6 to 10 of the table.
+ghost use mathlib.Core.Path.{_≡_};
+ghost use mathlib.Core.Bool.{Bool, true, _&&_};
+ghost use Prim.Native.Nat.{ℕ, _+_, _*_, _≤_, _<_};
+ghost use lib.Dec.{leb};
+ghost use Rattle.layout.specs.declared.Shape.the-variants.{Integers};
+ghost use Rattle.layout.specs.Words.{lastDigits, lastData, shapeNumbered};
+ghost use Rattle.record.specs.Table.{itemSize, shown};
+ghost use Rattle.record.specs.Packing.{kindFits, enough, amountFits, digitsFit, insideArea, argumentFits};
+ghost use Rattle.record.specs.Slots.{slotOf};
+ghost use Rattle.arguments.specs.Checks.{verdictOf, Sound};
+use layout::Count;
+use layout::Refusal;
+use layout::Shape;
+use record::slots::Argument;
+
+// What a check answers: nothing is wrong, or the refusal and its place.
+pub enum Verdict {
+    Fits,
+    Refused(Refusal, usize),
+}
+
+// Line 8 is not due.
+fn kind_fits(s: Shape, kind: usize) -> bool
+    ensures { λ r. ⌜ r ≡ kindFits s kind ⌝ }
+{
+    match s {
+        Shape::Text(_) => kind == 1,
+        Shape::Digits(_, _) => kind == 1,
+        Shape::Integers(_, _) => kind != 1,
+    }
+}
+
+fn is_enough(n: Count, have: usize) -> bool
+    ensures { λ r. ⌜ r ≡ enough n have ⌝ }
+{
+    match n {
+        Count::Absent => have == 1,
+        Count::Star => true,
+        Count::Times(m) => m <= have,
+    }
+}
+
+// Line 9 is not due.
+fn amount_fits(s: Shape, n: Count, have: usize) -> bool
+    ensures { λ r. ⌜ r ≡ amountFits s n have ⌝ }
+{
+    match s {
+        Shape::Text(_) => true,
+        Shape::Digits(_, _) => true,
+        Shape::Integers(_, _) => is_enough(n, have),
+    }
+}
+
+// Line 10 is not due.
+fn digits_fit(s: Shape, n: usize, a: Argument, area: &[u8]) -> bool
+    requires { ⌜ (kindFits s (a .kind) ≡ true) × (insideArea (now area) (slotOf a) ≡ true) ⌝ }
+    ensures { λ r. ⌜ r ≡ digitsFit s n (shown (now (area .entry)) (slotOf a) .items) ⌝ }
+{
+    match s {
+        Shape::Text(_) => true,
+        Shape::Digits(hex, _) => {
+            codec::digits::all_digits(area, a.start, record::least(n, a.len), hex)
+        }
+        Shape::Integers(_, _) => true,
+    }
+}
+
+// The argument in slot number k serves a field.
+pub fn check(s: Shape, n: Count, a: Argument, k: usize, area: &[u8]) -> Verdict
+    requires { ⌜ (a .start < 4294967296) × (a .len < 4294967296) ⌝ }
+    ensures { λ r. ⌜ r ≡ verdictOf (argumentFits (now (area .entry)) s n k (slotOf a)) ⌝ }
+{
+    if a.kind == 0 {
+        return Verdict::Refused(Refusal::NotSet, k);
+    }
+    if !record::slots::is_inside(a, area.len()) {
+        return Verdict::Refused(Refusal::BadSlot, k);
+    }
+    if !kind_fits(s, a.kind) {
+        return Verdict::Refused(Refusal::WrongKind, k);
+    }
+    if !amount_fits(s, n, a.len) {
+        return Verdict::Refused(Refusal::WrongAmount, k);
+    }
+    if !digits_fit(s, record::amount(n, a.len), a, area) {
+        return Verdict::Refused(Refusal::BadDigit, k);
+    }
+    Verdict::Fits
+}
+
+// ---- the quick test: the usual argument, which serves, is spared the lines
+
+// Integers serve: where this holds, nothing is wrong with them.
+fn integers_serve(n: Count, a: Argument, area: &[u8]) -> bool
+    requires { ⌜ (a .start < 4294967296) × (a .len < 4294967296) ⌝ }
+    ensures { λ r. ⌜ ((w : ℕ) (big : Bool) → Sound r (now (area .entry)) (Integers w big) n (slotOf a)) ⌝ }
+{
+    let kind = a.kind;
+    if kind < 2 {
+        return false;
+    }
+    if 3 < kind {
+        return false;
+    }
+    if area.len() < a.start + a.len * 8 {
+        return false;
+    }
+    is_enough(n, a.len)
+}
+
+// A string serves.
+fn string_serves(d: u32, n: Count, a: Argument, area: &[u8]) -> bool
+    requires { ⌜ (d ≤ lastDigits) × (a .start < 4294967296) × (a .len < 4294967296) ⌝ }
+    ensures { λ r. ⌜ Sound r (now (area .entry)) (shapeNumbered d) n (slotOf a) ⌝ }
+{
+    if a.kind != 1 {
+        return false;
+    }
+    if area.len() < a.start + a.len {
+        return false;
+    }
+    if d <= layout::LAST_TEXT {
+        return true;
+    }
+    let items = record::amount(n, a.len);
+    codec::digits::all_digits(
+        area,
+        a.start,
+        record::least(items, a.len),
+        layout::LAST_BINARY < d,
+    )
+}
+
+// The argument serves a field, by the number of the field's type. Where this does not hold, `check` finds what is wrong.
+pub fn serves(d: u32, n: Count, a: Argument, area: &[u8]) -> bool
+    requires { ⌜ (d ≤ lastData) × (a .start < 4294967296) × (a .len < 4294967296) ⌝ }
+    ensures { λ r. ⌜ Sound r (now (area .entry)) (shapeNumbered d) n (slotOf a) ⌝ }
+{
+    if layout::LAST_DIGITS < d {
+        return integers_serve(n, a, area);
+    }
+    string_serves(d, n, a, area)
+}
