@@ -1,6 +1,7 @@
 //! A call with everything lent to it, and what is found after it.
 
 use crate::twin;
+use std::ops::{Deref, DerefMut};
 
 #[derive(Clone, Copy, PartialEq, Eq, Debug)]
 pub enum Which {
@@ -8,16 +9,50 @@ pub enum Which {
     Read,
 }
 
-/// Everything that is lent to a call. In packing `record` is the output buffer.
-#[derive(Clone)]
-pub struct Call {
-    pub which: Which,
+pub const CALLS: [Which; 2] = [Which::Pack, Which::Read];
+
+impl Which {
+    /// The numbers that such a call can give.
+    pub fn numbers(self) -> &'static [u32] {
+        match self {
+            Which::Pack => &[0, 1, 2, 3, 4, 5, 6, 7, 8, 9, 10, 11],
+            Which::Read => &[0, 1, 2, 3, 4, 5, 11],
+        }
+    }
+}
+
+/// The runs that a call may be lent; those that are not lent to it stay empty.
+/// In packing `record` is the output buffer.
+#[derive(Clone, PartialEq, Eq, Default)]
+pub struct Runs {
     pub layout: Vec<u8>,
     pub record: Vec<u8>,
     pub slots: Vec<u8>,
     pub area: Vec<u8>,
-    pub mark: usize,
     pub reply: Vec<u8>,
+}
+
+impl Runs {
+    /// The runs that are lent to such a call, each with its name, in the order of its C form.
+    pub fn lent(&mut self, which: Which) -> Vec<(&'static str, &mut Vec<u8>)> {
+        let layout = ("layout", &mut self.layout);
+        let record = ("record", &mut self.record);
+        let slots = ("slots", &mut self.slots);
+        let area = ("area", &mut self.area);
+        let reply = ("reply", &mut self.reply);
+        match which {
+            Which::Pack => vec![layout, slots, area, record, reply],
+            Which::Read => vec![layout, record, slots, area, reply],
+        }
+    }
+}
+
+/// Everything that is lent to a call.
+#[derive(Clone)]
+pub struct Call {
+    pub which: Which,
+    pub runs: Runs,
+    pub mark: usize,
     /// Lend empty runs as null pointers.
     pub null: bool,
 }
@@ -26,23 +61,53 @@ pub struct Call {
 #[derive(Clone, PartialEq, Eq)]
 pub struct After {
     pub returned: u32,
-    pub layout: Vec<u8>,
-    pub record: Vec<u8>,
-    pub slots: Vec<u8>,
-    pub area: Vec<u8>,
-    pub reply: Vec<u8>,
+    pub runs: Runs,
+}
+
+impl Deref for Call {
+    type Target = Runs;
+
+    fn deref(&self) -> &Runs {
+        &self.runs
+    }
+}
+
+impl DerefMut for Call {
+    fn deref_mut(&mut self) -> &mut Runs {
+        &mut self.runs
+    }
+}
+
+impl Deref for After {
+    type Target = Runs;
+
+    fn deref(&self) -> &Runs {
+        &self.runs
+    }
+}
+
+impl DerefMut for After {
+    fn deref_mut(&mut self) -> &mut Runs {
+        &mut self.runs
+    }
 }
 
 impl Call {
+    /// A call with its mark at 0 and no null pointers.
+    pub fn new(which: Which, runs: Runs) -> Call {
+        Call {
+            which,
+            runs,
+            mark: 0,
+            null: false,
+        }
+    }
+
     /// The state in which nothing has been written.
     pub fn untouched(&self, returned: u32) -> After {
         After {
             returned,
-            layout: self.layout.clone(),
-            record: self.record.clone(),
-            slots: self.slots.clone(),
-            area: self.area.clone(),
-            reply: self.reply.clone(),
+            runs: self.runs.clone(),
         }
     }
 
@@ -77,21 +142,22 @@ pub fn numbers(bytes: &[u8]) -> Vec<u32> {
 /// Runs the call on the twin.
 pub fn by_twin(call: &Call) -> After {
     let mut after = call.untouched(0);
+    let runs = &mut after.runs;
     after.returned = match call.which {
         Which::Pack => twin::pack_call(
             &call.layout,
             &call.slots,
             &call.area,
-            &mut after.record,
-            &mut after.reply,
+            &mut runs.record,
+            &mut runs.reply,
         ),
         Which::Read => twin::read_call(
             &call.layout,
             &call.record,
-            &mut after.slots,
-            &mut after.area,
+            &mut runs.slots,
+            &mut runs.area,
             call.mark,
-            &mut after.reply,
+            &mut runs.reply,
         ),
     };
     after

@@ -1,11 +1,15 @@
 //! Random calls: most are accepted or refused late, some are damaged in one place.
 
-use crate::call::{numbers, words, Call, Judge, Which};
+use crate::call::{numbers, words, Call, Judge, Runs, Which};
 use crate::dice::Dice;
 use crate::evolution;
-use crate::layouts::{random_arguments, random_specs, spelled, Spec};
+use crate::layouts::{random_arguments, random_specs, spelled, takers, Spec};
+use crate::limits::{
+    AREA_MAX, COUNT_MAX, LAYOUT_MAX, RECORD_MAX, REPLY_BYTES, SLOTS_MAX, SLOT_BYTES, SLOT_NUMBERS,
+    SLOT_RUN_MAX,
+};
 use crate::twin;
-use crate::values::Value;
+use crate::values::{slot, Value};
 
 /// Room in which a call is tried out to learn how much it needs.
 pub struct Scratch {
@@ -17,9 +21,9 @@ pub struct Scratch {
 impl Scratch {
     pub fn new() -> Scratch {
         Scratch {
-            record: vec![0; twin::RECORD_MAX],
-            slots: vec![0; twin::SLOTS_MAX * twin::SLOT_BYTES],
-            area: vec![0; twin::AREA_MAX],
+            record: vec![0; RECORD_MAX],
+            slots: vec![0; SLOT_RUN_MAX],
+            area: vec![0; AREA_MAX],
         }
     }
 
@@ -45,8 +49,8 @@ impl Scratch {
 }
 
 /// A table with the values in any order, with gaps between them.
-fn scattered(dice: &mut Dice, values: &[Value]) -> (Vec<u8>, Vec<u8>) {
-    let mut slots = vec![0; values.len() * 3];
+pub fn scattered(dice: &mut Dice, values: &[Value]) -> (Vec<u8>, Vec<u8>) {
+    let mut slots = vec![0; values.len() * SLOT_BYTES];
     let mut area = Vec::new();
     let backwards = dice.once_in(3);
     for step in 0..values.len() {
@@ -59,29 +63,25 @@ fn scattered(dice: &mut Dice, values: &[Value]) -> (Vec<u8>, Vec<u8>) {
             let gap = dice.below(6);
             area.extend(dice.bytes(gap));
         }
-        let slot = [
-            values[at].kind(),
-            area.len() as u32,
-            values[at].items() as u32,
-        ];
-        slots[at * 3..at * 3 + 3].copy_from_slice(&slot);
+        let value = slot(values[at].kind(), area.len(), values[at].items());
+        slots[at * SLOT_BYTES..(at + 1) * SLOT_BYTES].copy_from_slice(&value);
         area.extend(values[at].bytes());
     }
     if dice.once_in(3) {
         let rest = dice.below(9);
         area.extend(dice.bytes(rest));
     }
-    (words(&slots), area)
+    (slots, area)
 }
 
 /// Lets some `a` or `A` field take its string from anywhere in the area.
 fn share_area(dice: &mut Dice, specs: &[Spec], slots: &mut [u8], area_len: usize) {
     let takers = specs.iter().filter(|s| s.takes_slot());
-    for (spec, slot) in takers.zip(slots.chunks_exact_mut(12)) {
+    for (spec, place) in takers.zip(slots.chunks_exact_mut(SLOT_BYTES)) {
         if b"aA".contains(&spec.letter) && dice.once_in(8) {
             let start = dice.between(0, area_len);
             let length = dice.between(0, area_len - start);
-            slot.copy_from_slice(&words(&[1, start as u32, length as u32]));
+            place.copy_from_slice(&slot(1, start, length));
         }
     }
 }
@@ -106,13 +106,13 @@ fn damage_text(dice: &mut Dice, text: &mut Vec<u8>) {
     }
 }
 
-fn damage_slot(dice: &mut Dice, slots: &mut Vec<u8>, area_len: usize) {
+pub fn damage_slot(dice: &mut Dice, slots: &mut Vec<u8>, area_len: usize) {
     let mut all = numbers(slots);
     if let Some(at) = one_in(dice, all.len()) {
         let old = all[at];
         let end = area_len as u32;
         let bit = 1 << dice.below(32);
-        all[at] = match at % 3 {
+        all[at] = match at % SLOT_NUMBERS {
             0 => dice.pick(&[0, 1, 2, 3, 4, 256, 0x0100_0001, u32::MAX]),
             _ => dice.pick(&[
                 old.wrapping_add(1),
@@ -138,25 +138,30 @@ fn damage_bytes(dice: &mut Dice, bytes: &mut [u8]) {
     }
 }
 
-fn damage_slot_run(dice: &mut Dice, slots: &mut Vec<u8>) {
+pub fn damage_slot_run(dice: &mut Dice, slots: &mut Vec<u8>) {
     let len = match dice.below(4) {
-        0 => slots.len().saturating_sub(12),
-        1 => slots.len() + 12,
-        2 => slots.len() + dice.between(1, 11),
-        _ => dice.pick(&[768, 769, 780, 4]),
+        0 => slots.len().saturating_sub(SLOT_BYTES),
+        1 => slots.len() + SLOT_BYTES,
+        2 => slots.len() + dice.between(1, SLOT_BYTES - 1),
+        _ => dice.pick(&[SLOT_RUN_MAX, SLOT_RUN_MAX + 1, SLOT_RUN_MAX + SLOT_BYTES, 4]),
     };
     slots.resize(len, 1);
 }
 
 fn damage_sizes(dice: &mut Dice, call: &mut Call) {
     match dice.below(6) {
-        0 => call.layout.resize(256, b' '),
-        1 => call.layout.resize(257, b' '),
-        2 => call.area.resize(65536, 7),
-        3 => call.area.resize(65537, 7),
-        4 => call.record.resize(4096, 0x20),
-        _ => call.record.resize(4097, 0x20),
+        0 => call.layout.resize(LAYOUT_MAX, b' '),
+        1 => call.layout.resize(LAYOUT_MAX + 1, b' '),
+        2 => call.area.resize(AREA_MAX, 7),
+        3 => call.area.resize(AREA_MAX + 1, 7),
+        4 => call.record.resize(RECORD_MAX, 0x20),
+        _ => call.record.resize(RECORD_MAX + 1, 0x20),
     }
+}
+
+pub fn damage_reply(dice: &mut Dice, reply: &mut Vec<u8>) {
+    let size = reply.len();
+    reply.resize(dice.pick(&[0, 4, size - 1, size + 1]), 9);
 }
 
 fn damage(dice: &mut Dice, call: &mut Call) {
@@ -167,7 +172,7 @@ fn damage(dice: &mut Dice, call: &mut Call) {
         9..=11 => damage_bytes(dice, &mut call.area),
         12 | 13 => damage_slot_run(dice, &mut call.slots),
         14 => damage_sizes(dice, call),
-        _ => call.reply.resize(dice.pick(&[0, 4, 11, 13]), 9),
+        _ => damage_reply(dice, &mut call.reply),
     }
 }
 
@@ -177,24 +182,23 @@ fn random_pack(dice: &mut Dice, scratch: &mut Scratch) -> Call {
     let values = random_arguments(dice, &specs);
     let (mut slots, area) = scattered(dice, &values);
     share_area(dice, &specs, &mut slots, area.len());
-    let mut call = Call {
-        which: Which::Pack,
+    let runs = Runs {
         layout,
-        record: Vec::new(),
         slots,
         area,
-        mark: 0,
-        reply: dice.bytes(12),
-        null: dice.once_in(2),
+        reply: dice.bytes(REPLY_BYTES),
+        ..Runs::default()
     };
+    let mut call = Call::new(Which::Pack, runs);
+    call.null = dice.once_in(2);
     let length = scratch.packed_length(&call).unwrap_or(100);
     let room = match dice.below(8) {
         0 => length.saturating_sub(1),
         1 | 2 => length + dice.below(20),
-        3 => dice.pick(&[0, 10, 4096, 4096]),
+        3 => dice.pick(&[0, 10, RECORD_MAX, RECORD_MAX]),
         _ => length,
     };
-    call.record = dice.bytes(room.min(4096));
+    call.record = dice.bytes(room.min(RECORD_MAX));
     if dice.once_in(3) {
         damage(dice, &mut call);
     }
@@ -204,7 +208,7 @@ fn random_pack(dice: &mut Dice, scratch: &mut Scratch) -> Call {
 /// A record that some layout packed, or just bytes.
 fn random_record(dice: &mut Dice, specs: &[Spec], scratch: &mut Scratch) -> Vec<u8> {
     let mut specs: Vec<Spec> = specs.to_vec();
-    specs.retain(|s| s.letter != b'x' || s.or_all(5000) <= 4096);
+    specs.retain(|s| s.letter != b'x' || s.or_all(COUNT_MAX + 1) <= COUNT_MAX);
     let layout = spelled(dice, &mut specs);
     let arguments = random_arguments(dice, &specs);
     let (slots, area) = scattered(dice, &arguments);
@@ -213,7 +217,7 @@ fn random_record(dice: &mut Dice, specs: &[Spec], scratch: &mut Scratch) -> Vec<
         return scratch.record[..answer.first as usize].to_vec();
     }
     let len = match dice.below(20) {
-        0 => dice.pick(&[4095, 4096, 1000]),
+        0 => dice.pick(&[RECORD_MAX - 1, RECORD_MAX, 1000]),
         1..=4 => dice.below(300),
         _ => dice.below(40),
     };
@@ -227,11 +231,11 @@ fn random_record(dice: &mut Dice, specs: &[Spec], scratch: &mut Scratch) -> Vec<
 }
 
 /// A mark and an area length around what the values need.
-fn random_room(dice: &mut Dice, need: usize) -> (usize, usize) {
+pub fn random_room(dice: &mut Dice, need: usize) -> (usize, usize) {
     let mark = match dice.below(8) {
         0 => 0,
         1 => dice.below(300),
-        2 => 65536usize.saturating_sub(need),
+        2 => AREA_MAX.saturating_sub(need),
         _ => dice.below(20),
     };
     let end = mark + need;
@@ -244,15 +248,15 @@ fn random_room(dice: &mut Dice, need: usize) -> (usize, usize) {
     };
     let mark = match dice.below(60) {
         0 => area + 1,
-        1 => dice.pick(&[usize::MAX, 1 << 32, 65537]),
+        1 => dice.pick(&[usize::MAX, 1 << 32, AREA_MAX + 1]),
         2 => area,
         _ => mark,
     };
-    (mark, area.min(65536))
+    (mark, area.min(AREA_MAX))
 }
 
-fn random_slots(dice: &mut Dice, count: usize) -> Vec<u8> {
-    let mut slots = dice.bytes(count * 12);
+pub fn random_slots(dice: &mut Dice, count: usize) -> Vec<u8> {
+    let mut slots = dice.bytes(count * SLOT_BYTES);
     if dice.once_in(2) {
         slots
             .iter_mut()
@@ -273,27 +277,22 @@ fn reading(
     let need = scratch.value_bytes(layout, record).unwrap_or(50);
     let (mark, area_len) = random_room(dice, need);
     let surplus = dice.pick(&[0, 0, 0, 1, 3]);
-    Call {
-        which: Which::Read,
+    let slots = if takers <= SLOTS_MAX {
+        (takers + surplus).min(SLOTS_MAX)
+    } else {
+        takers
+    };
+    let runs = Runs {
         layout: layout.to_vec(),
         record: record.to_vec(),
-        slots: random_slots(
-            dice,
-            if takers <= 64 {
-                (takers + surplus).min(64)
-            } else {
-                takers
-            },
-        ),
+        slots: random_slots(dice, slots),
         area: dice.bytes(area_len),
-        mark,
-        reply: dice.bytes(12),
-        null: dice.once_in(2),
-    }
-}
-
-fn count_takers(specs: &[Spec]) -> usize {
-    specs.iter().filter(|s| s.takes_slot()).count()
+        reply: dice.bytes(REPLY_BYTES),
+    };
+    let mut call = Call::new(Which::Read, runs);
+    call.mark = mark;
+    call.null = dice.once_in(2);
+    call
 }
 
 fn random_read(dice: &mut Dice, scratch: &mut Scratch) -> Call {
@@ -303,7 +302,7 @@ fn random_read(dice: &mut Dice, scratch: &mut Scratch) -> Call {
     if dice.once_in(3) {
         record.truncate(dice.below(record.len() + 1));
     }
-    let mut call = reading(dice, scratch, &layout, &record, count_takers(&specs));
+    let mut call = reading(dice, scratch, &layout, &record, takers(&specs));
     if dice.once_in(6) {
         damage(dice, &mut call);
     }
@@ -323,10 +322,10 @@ fn every_cut(dice: &mut Dice, scratch: &mut Scratch, judge: &mut dyn Judge) {
         .step_by(step)
         .chain(Some(record.len()))
     {
-        let call = reading(dice, scratch, &layout, &record[..cut], count_takers(&specs));
+        let call = reading(dice, scratch, &layout, &record[..cut], takers(&specs));
         judge.compare("every cut", &call);
         if cut % 4 == 0 {
-            let call = reading(dice, scratch, &other, &record[..cut], count_takers(&others));
+            let call = reading(dice, scratch, &other, &record[..cut], takers(&others));
             judge.compare("every cut, other layout", &call);
         }
     }

@@ -2,10 +2,11 @@
 //!
 //! The outcome is computed from the arguments alone, not by the twin.
 
-use crate::call::{numbers, Call, Judge, Which};
+use crate::call::{numbers, Call, Judge, Runs, Which};
 use crate::dice::Dice;
 use crate::fixed::was_read;
-use crate::layouts::{plain_spec, random_arguments, spelled, Count, Spec};
+use crate::layouts::{plain_spec, random_arguments, spelled, takers, Count, Spec};
+use crate::limits::{AREA_MAX, RECORD_MAX, REPLY_BYTES, SLOTS_MAX, SLOT_BYTES};
 use crate::values::{table, Value};
 
 /// How many bytes a plain field fills in packing.
@@ -20,10 +21,6 @@ fn fills(spec: &Spec) -> usize {
 
 fn total(specs: &[Spec]) -> usize {
     specs.iter().map(fills).sum()
-}
-
-fn takers(specs: &[Spec]) -> usize {
-    specs.iter().filter(|s| s.takes_slot()).count()
 }
 
 fn cut_or_padded(bytes: &[u8], count: usize, pad: u8) -> Vec<u8> {
@@ -86,7 +83,7 @@ fn expected(specs: &[Spec], arguments: &[Value], cut: usize) -> Vec<Value> {
 /// An old layout and a new one that adds fields at its end, both within the sizes.
 fn random_layouts(dice: &mut Dice) -> (Vec<Spec>, Vec<Spec>) {
     let len = if dice.once_in(12) {
-        dice.between(0, 64)
+        dice.between(0, SLOTS_MAX)
     } else {
         dice.between(0, 8)
     };
@@ -94,7 +91,7 @@ fn random_layouts(dice: &mut Dice) -> (Vec<Spec>, Vec<Spec>) {
     if dice.once_in(5) && len > 0 {
         new[len - 1].count = Count::Number(0);
     }
-    while total(&new) > 4096 || takers(&new) > 64 {
+    while total(&new) > RECORD_MAX || takers(&new) > SLOTS_MAX {
         new.pop();
     }
     let old = new[..dice.between(0, new.len())].to_vec();
@@ -103,31 +100,32 @@ fn random_layouts(dice: &mut Dice) -> (Vec<Spec>, Vec<Spec>) {
 
 fn packing(dice: &mut Dice, layout: Vec<u8>, arguments: &[Value], room: usize) -> Call {
     let (slots, area) = table(arguments, 0);
-    Call {
-        which: Which::Pack,
+    let runs = Runs {
         layout,
         record: dice.bytes(room),
         slots,
         area,
-        mark: 0,
-        reply: dice.bytes(12),
-        null: dice.once_in(2),
-    }
+        reply: dice.bytes(REPLY_BYTES),
+    };
+    let mut call = Call::new(Which::Pack, runs);
+    call.null = dice.once_in(2);
+    call
 }
 
 fn reading(dice: &mut Dice, layout: &[u8], record: &[u8], slots: usize, need: usize) -> Call {
     let mark = dice.pick(&[0, 0, 1, 7, 30]);
     let rest = dice.pick(&[0, 0, 1, 9]);
-    Call {
-        which: Which::Read,
+    let runs = Runs {
         layout: layout.to_vec(),
         record: record.to_vec(),
-        slots: dice.bytes(slots * 12),
+        slots: dice.bytes(slots * SLOT_BYTES),
         area: dice.bytes(mark + need + rest),
-        mark,
-        reply: dice.bytes(12),
-        null: dice.once_in(2),
-    }
+        reply: dice.bytes(REPLY_BYTES),
+    };
+    let mut call = Call::new(Which::Read, runs);
+    call.mark = mark;
+    call.null = dice.once_in(2);
+    call
 }
 
 fn check_reading(
@@ -139,9 +137,9 @@ fn check_reading(
 ) {
     let need: usize = values.iter().map(|v| v.bytes().len()).sum();
     let surplus = dice.pick(&[0, 0, 1, 2]);
-    let slots = (takers(&reader.specs) + surplus).min(64);
+    let slots = (takers(&reader.specs) + surplus).min(SLOTS_MAX);
     let call = reading(dice, &reader.text, record, slots, need);
-    if call.area.len() <= 65536 {
+    if call.area.len() <= AREA_MAX {
         let after = was_read(&call, values);
         judge.expect("old and new layouts", &call, &after);
     }
@@ -197,7 +195,7 @@ fn pack_by(
     arguments: &[Value],
 ) -> Vec<u8> {
     let end = total(&writer.specs);
-    let room = (end + dice.pick(&[0, 0, 1, 30])).min(4096);
+    let room = (end + dice.pick(&[0, 0, 1, 30])).min(RECORD_MAX);
     let values = &arguments[..takers(&writer.specs)];
     let call = packing(dice, writer.text.clone(), values, room);
     let after = judge.compare("packing by a plain layout", &call);

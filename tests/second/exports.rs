@@ -1,5 +1,7 @@
 //! The twin behind C entry points, as a library of its own.
 
+mod limits;
+mod slots;
 mod twin;
 
 use std::slice;

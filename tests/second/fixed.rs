@@ -1,7 +1,11 @@
 //! Calls whose outcome is written out by hand: the examples of the papers and the edges.
 
-use crate::call::{words, After, Call, Judge, Which};
-use crate::values::{ints, table, text, uints, Value};
+use crate::call::{After, Call, Judge, Runs, Which};
+use crate::limits::{
+    AREA_MAX, COUNT_MAX, ITEM_BYTES, KIND_MAX, LAYOUT_MAX, RECORD_MAX, REPLY_BYTES, SLOTS_MAX,
+    SLOT_BYTES, SLOT_RUN_MAX,
+};
+use crate::values::{ints, slot, table, text, uints, Value};
 
 const OLD_OUT: u8 = 0xee;
 const OLD_SLOT: u8 = 0xbb;
@@ -9,32 +13,32 @@ const OLD_AREA: u8 = 0xcc;
 const OLD_REPLY: u8 = 0xdd;
 const MARK: usize = 3;
 const ROOM: usize = 4;
+/// A count that is too large by one.
+const OVER: usize = COUNT_MAX + 1;
 
 pub fn packing(layout: impl AsRef<[u8]>, values: &[Value]) -> Call {
     let (slots, area) = table(values, 0);
-    Call {
-        which: Which::Pack,
+    let runs = Runs {
         layout: layout.as_ref().to_vec(),
-        record: vec![OLD_OUT; 4096],
+        record: vec![OLD_OUT; RECORD_MAX],
         slots,
         area,
-        mark: 0,
-        reply: vec![OLD_REPLY; 12],
-        null: false,
-    }
+        reply: vec![OLD_REPLY; REPLY_BYTES],
+    };
+    Call::new(Which::Pack, runs)
 }
 
 pub fn reading(layout: impl AsRef<[u8]>, record: impl AsRef<[u8]>, slots: usize) -> Call {
-    Call {
-        which: Which::Read,
+    let runs = Runs {
         layout: layout.as_ref().to_vec(),
         record: record.as_ref().to_vec(),
-        slots: vec![OLD_SLOT; slots * 12],
+        slots: vec![OLD_SLOT; slots * SLOT_BYTES],
         area: vec![OLD_AREA; 200],
-        mark: MARK,
-        reply: vec![OLD_REPLY; 12],
-        null: false,
-    }
+        reply: vec![OLD_REPLY; REPLY_BYTES],
+    };
+    let mut call = Call::new(Which::Read, runs);
+    call.mark = MARK;
+    call
 }
 
 /// What an accepted packing leaves behind.
@@ -85,9 +89,10 @@ fn read_refused(t: &mut dyn Judge, layout: &str, slots: usize, number: u32, plac
     refuses(t, reading(layout, "abcdef", slots), number, place);
 }
 
-/// Replaces one of the three numbers of a slot.
-fn with_slot(mut call: Call, slot: usize, numbers: [u32; 3]) -> Call {
-    call.slots[slot * 12..slot * 12 + 12].copy_from_slice(&words(&numbers));
+/// Replaces kind, start and length of a slot.
+pub fn with_slot(mut call: Call, index: usize, [kind, start, length]: [u32; 3]) -> Call {
+    let at = index * SLOT_BYTES;
+    call.slots[at..at + SLOT_BYTES].copy_from_slice(&slot(kind, start as usize, length as usize));
     call
 }
 
@@ -170,10 +175,38 @@ fn other_packings(t: &mut dyn Judge) {
     let three = [text("abc"), text("def"), text("ghi")];
     packs(t, "a3xa3x2a3", &three, "abc\0def\0\0ghi");
     packs(t, "s1", &[ints(&[0x8000])], [0x00, 0x80]);
-    packs(t, "Ia*", &[ints(&[5]), text("hello")], "\0\0\0\x05hello");
+    two_integers(t);
+    length_and_text(t);
+}
+
+/// The numbers 16 and 22 as eight bytes, in the order of a little-endian machine and of the other.
+fn two_integers(t: &mut dyn Judge) {
+    let values = [ints(&[16]), ints(&[22])];
+    let little = [16, 0, 0, 0, 22, 0, 0, 0];
+    packs(t, "ii", &values, little);
+    reads(t, "ii", little, &values, 0);
+    let big = [0, 0, 0, 16, 0, 0, 0, 22];
+    packs(t, "II", &values, big);
+    reads(t, "II", big, &values, 0);
+}
+
+/// A string with its length before it: written at once, read in two steps.
+fn length_and_text(t: &mut dyn Judge) {
+    for data in ["hello", "", "gr\u{fc}\u{df} dich", "\u{20ac} 5"] {
+        let (length, bytes) = (data.len() as u8, data.as_bytes());
+        let record = [&[0, 0, 0, length], bytes].concat();
+        packs(t, "Ia*", &[ints(&[length as i64]), text(data)], &record);
+        reads(t, "I", &record[..4], &[ints(&[length as i64])], 0);
+        reads(t, "a*", bytes, &[text(data)], 0);
+        reads(t, "I", &record[..3], &[], 1);
+    }
 }
 
 fn other_readings(t: &mut dyn Judge) {
+    let three = ints(&[25185, 25699, 26213]);
+    reads(t, "s3s", "abcdefgh", &[three.clone(), ints(&[26727])], 0);
+    reads(t, "s3s", "abcdef", &[three], 1);
+    reads(t, "s3s", "abcde", &[], 2);
     reads(t, "s1", [0x00, 0x80], &[ints(&[-32768])], 0);
     reads(t, "su1", [0x00, 0x80], &[uints(&[32768])], 0);
     reads(t, "a6a10", "abcde\0fghi", &[text("abcde\0")], 1);
@@ -211,8 +244,6 @@ fn other_readings(t: &mut dyn Judge) {
         &[ints(&[1, 2]), text("020304")],
         0,
     );
-    reads(t, "I", [0, 0, 0], &[], 1);
-    reads(t, "I", [0, 0, 0, 9], &[ints(&[9])], 0);
 }
 
 fn layout_texts(t: &mut dyn Judge) {
@@ -270,21 +301,22 @@ fn every_single_byte(t: &mut dyn Judge) {
 fn leading_zeros(t: &mut dyn Judge) {
     packs(t, "c03", &[ints(&[1, 2, 3])], [1, 2, 3]);
     packs(t, "c00", &[ints(&[])], []);
-    let zeros = "0".repeat(254);
-    packs(t, &format!("a{}2", zeros), &[text("xyz")], "xy");
-    reads(t, &format!("a{}2", zeros), "xyz", &[text("xy")], 0);
-    packs(t, &format!("a{}", "0".repeat(255)), &[text("xyz")], "");
-    pack_refused(t, &format!("a{}", "9".repeat(255)), &[text("xyz")], 3, 0);
-    let zeros = "0".repeat(251);
-    packs(t, &format!("x{}4096", zeros), &[], [0; 4096]);
-    pack_refused(t, &format!("x{}4097", zeros), &[], 3, 0);
+    let digits = LAYOUT_MAX - 1;
+    let two = format!("a{:0digits$}", 2);
+    packs(t, &two, &[text("xyz")], "xy");
+    reads(t, &two, "xyz", &[text("xy")], 0);
+    packs(t, &format!("a{:0digits$}", 0), &[text("xyz")], "");
+    pack_refused(t, &format!("a{}", "9".repeat(digits)), &[text("xyz")], 3, 0);
+    packs(t, &format!("x{COUNT_MAX:0digits$}"), &[], [0; COUNT_MAX]);
+    pack_refused(t, &format!("x{OVER:0digits$}"), &[], 3, 0);
+    let over = OVER.to_string();
     for large in [
-        "4097",
+        &over,
+        "65536",
+        "65537",
         "4294967295",
         "4294967296",
         "18446744073709551616",
-        "65536",
-        "65537",
     ] {
         pack_refused(t, &format!("a{}", large), &[text("")], 3, 0);
         read_refused(t, &format!(" c a{}", large), 2, 3, 3);
@@ -425,20 +457,12 @@ fn fields_in_reading(t: &mut dyn Judge) {
 }
 
 fn size_limits(t: &mut dyn Judge) {
-    packs(t, &" ".repeat(256), &[], []);
-    pack_refused(t, &" ".repeat(257), &[], 1, 0);
-    pack_refused(t, &"q".repeat(257), &[], 1, 0);
-    refuses(t, reading(" ".repeat(257), "", 0), 1, 0);
-    packs(t, &"x".repeat(256), &[], [0; 256]);
-    let many: Vec<Value> = (0..65).map(|n| ints(&[n])).collect();
-    let bytes: Vec<u8> = (0..65).collect();
-    packs(t, &"c".repeat(64), &many[..64], &bytes[..64]);
-    pack_refused(t, &"c".repeat(64), &many, 1, 0);
-    pack_refused(t, &"c".repeat(65), &many, 1, 0);
-    pack_refused(t, &"c".repeat(65), &many[..64], 5, 0);
-    refuses(t, reading("c".repeat(65), &bytes, 65), 1, 0);
-    refuses(t, reading("c".repeat(65), &bytes, 64), 5, 0);
-    reads_many(t, &bytes, &many);
+    packs(t, &" ".repeat(LAYOUT_MAX), &[], []);
+    pack_refused(t, &" ".repeat(LAYOUT_MAX + 1), &[], 1, 0);
+    pack_refused(t, &"q".repeat(LAYOUT_MAX + 1), &[], 1, 0);
+    refuses(t, reading(" ".repeat(LAYOUT_MAX + 1), "", 0), 1, 0);
+    packs(t, &"x".repeat(LAYOUT_MAX), &[], [0; LAYOUT_MAX]);
+    many_slots(t);
     odd_slot_runs(t);
     record_sizes(t);
     area_sizes(t);
@@ -447,17 +471,37 @@ fn size_limits(t: &mut dyn Judge) {
     null_runs(t);
 }
 
-fn reads_many(t: &mut dyn Judge, bytes: &[u8], many: &[Value]) {
-    let mut call = reading("c".repeat(64), bytes, 64);
-    call.area = vec![OLD_AREA; MARK + 64 * 8];
-    let after = was_read(&call, &many[..64]);
-    t.expect("64 slots", &call, &after);
+fn many_slots(t: &mut dyn Judge) {
+    let bytes: Vec<u8> = (0..=SLOTS_MAX as u8).collect();
+    let many: Vec<Value> = bytes.iter().map(|&n| ints(&[n as i64])).collect();
+    let (all, over) = ("c".repeat(SLOTS_MAX), "c".repeat(SLOTS_MAX + 1));
+    packs(t, &all, &many[..SLOTS_MAX], &bytes[..SLOTS_MAX]);
+    pack_refused(t, &all, &many, 1, 0);
+    pack_refused(t, &over, &many, 1, 0);
+    pack_refused(t, &over, &many[..SLOTS_MAX], 5, 0);
+    refuses(t, reading(&over, &bytes, SLOTS_MAX + 1), 1, 0);
+    refuses(t, reading(&over, &bytes, SLOTS_MAX), 5, 0);
+    let mut call = reading(&all, &bytes, SLOTS_MAX);
+    call.area = vec![OLD_AREA; MARK + SLOTS_MAX * ITEM_BYTES];
+    let after = was_read(&call, &many[..SLOTS_MAX]);
+    t.expect("all slots", &call, &after);
     call.area.pop();
     refuses(t, call, 11, 0);
 }
 
 fn odd_slot_runs(t: &mut dyn Judge) {
-    for length in [1, 4, 8, 11, 13, 767, 769, 780, 1200] {
+    let (one, all) = (SLOT_BYTES, SLOT_RUN_MAX);
+    for length in [
+        1,
+        4,
+        8,
+        one - 1,
+        one + 1,
+        all - 1,
+        all + 1,
+        all + one,
+        2 * all,
+    ] {
         let mut call = packing("c", &[ints(&[1])]);
         call.slots.resize(length, 0);
         refuses(t, call, 1, 0);
@@ -468,29 +512,15 @@ fn odd_slot_runs(t: &mut dyn Judge) {
 }
 
 fn record_sizes(t: &mut dyn Judge) {
-    let full = vec![b'r'; 4097];
-    let mut call = packing("a*", &[text(&full[..4096])]);
-    accepts(t, call.clone(), &full[..4096]);
+    let full = vec![b'r'; RECORD_MAX + 1];
+    let mut call = packing("a*", &[text(&full[..RECORD_MAX])]);
+    accepts(t, call.clone(), &full[..RECORD_MAX]);
     call.record.pop();
     refuses(t, call.clone(), 11, 0);
-    call.record = vec![OLD_OUT; 4097];
+    call.record = vec![OLD_OUT; RECORD_MAX + 1];
     refuses(t, call, 1, 0);
     pack_refused(t, "a*", &[text(&full)], 11, 0);
-    packs(t, "a4096", &[text("")], [0; 4096]);
-    packs(t, "@4096", &[], [0; 4096]);
-    packs(t, "@4096X*", &[], [0; 4096]);
-    packs(t, "b4096", &[text("")], [0; 512]);
-    packs(t, "H4096", &[text("")], [0; 2048]);
-    pack_refused(t, "x4096x", &[], 11, 0);
-    pack_refused(t, "x4096xX*", &[], 11, 0);
-    packs(t, "x4096x0X*", &[], [0; 4096]);
-    pack_refused(t, &"x4096".repeat(51), &[], 11, 0);
-    let items = vec![0x0101_0101_0101_0101; 4097];
-    packs(t, "c4096", &[ints(&items)], [1; 4096]);
-    packs(t, "w512", &[ints(&items)], [1; 4096]);
-    pack_refused(t, "w513", &[ints(&items)], 11, 0);
-    pack_refused(t, "c*", &[ints(&items)], 11, 0);
-    pack_refused(t, "c4097", &[ints(&items)], 3, 0);
+    full_record_packings(t);
     let mut call = packing("a", &[text("q")]);
     call.record.clear();
     refuses(t, call, 11, 0);
@@ -498,46 +528,77 @@ fn record_sizes(t: &mut dyn Judge) {
     call.record.clear();
     accepts(t, call, []);
     refuses(t, reading("a", &full, 1), 1, 0);
-    full_record_readings(t, &full[..4096]);
+    full_record_readings(t, &full[..RECORD_MAX]);
+}
+
+/// The largest count is also the size of the largest record.
+fn full_record_packings(t: &mut dyn Judge) {
+    let zeros = [0; RECORD_MAX];
+    packs(t, &format!("a{COUNT_MAX}"), &[text("")], zeros);
+    packs(t, &format!("@{COUNT_MAX}"), &[], zeros);
+    packs(t, &format!("@{COUNT_MAX}X*"), &[], zeros);
+    let eighth = &zeros[..RECORD_MAX / 8];
+    packs(t, &format!("b{COUNT_MAX}"), &[text("")], eighth);
+    let half = &zeros[..RECORD_MAX / 2];
+    packs(t, &format!("H{COUNT_MAX}"), &[text("")], half);
+    pack_refused(t, &format!("x{COUNT_MAX}x"), &[], 11, 0);
+    pack_refused(t, &format!("x{COUNT_MAX}xX*"), &[], 11, 0);
+    packs(t, &format!("x{COUNT_MAX}x0X*"), &[], zeros);
+    pack_refused(t, &format!("x{COUNT_MAX}").repeat(40), &[], 11, 0);
+    let items = vec![0x0101_0101_0101_0101; OVER];
+    let (ones, longs) = ([1; RECORD_MAX], RECORD_MAX / ITEM_BYTES);
+    packs(t, &format!("c{COUNT_MAX}"), &[ints(&items)], ones);
+    packs(t, &format!("w{longs}"), &[ints(&items)], ones);
+    pack_refused(t, &format!("w{}", longs + 1), &[ints(&items)], 11, 0);
+    pack_refused(t, "c*", &[ints(&items)], 11, 0);
+    pack_refused(t, &format!("c{OVER}"), &[ints(&items)], 3, 0);
 }
 
 fn full_record_readings(t: &mut dyn Judge, full: &[u8]) {
-    let layouts = ["a*", "a4096", "A*"];
-    for layout in layouts {
+    let counted = |letter: char| format!("{letter}{COUNT_MAX}");
+    for layout in ["a*", &counted('a'), "A*"] {
         reads(t, layout, full, &[text(full)], 0);
     }
-    reads(t, "c4096", full, &[ints(&[b'r' as i64; 4096])], 0);
-    reads(t, "cu*", full, &[uints(&[b'r' as u64; 4096])], 0);
-    reads(t, "b*", full, &[text("01001110".repeat(4096))], 0);
-    reads(t, "b4096", full, &[text("01001110".repeat(512))], 0);
-    reads(t, "H*", full, &[text("72".repeat(4096))], 0);
-    reads(t, "a4096", &full[1..], &[], 1);
+    reads(
+        t,
+        &counted('c'),
+        full,
+        &[ints(&[b'r' as i64; RECORD_MAX])],
+        0,
+    );
+    reads(t, "cu*", full, &[uints(&[b'r' as u64; RECORD_MAX])], 0);
+    reads(t, "b*", full, &[text("01001110".repeat(RECORD_MAX))], 0);
+    let some = text("01001110".repeat(COUNT_MAX / 8));
+    reads(t, &counted('b'), full, &[some], 0);
+    reads(t, "H*", full, &[text("72".repeat(RECORD_MAX))], 0);
+    reads(t, &counted('a'), &full[1..], &[], 1);
 }
 
 fn area_sizes(t: &mut dyn Judge) {
+    const LAST_TWO: u32 = AREA_MAX as u32 - 2;
     let mut call = packing("a2", &[text("xy")]);
-    call.area.resize(65536, 1);
+    call.area.resize(AREA_MAX, 1);
     accepts(t, call.clone(), "xy");
     call.area.push(1);
     refuses(t, call, 1, 0);
     let mut call = packing("a2", &[text("xy")]);
-    call.area = [vec![1; 65534], b"xy".to_vec()].concat();
-    accepts(t, with_slot(call.clone(), 0, [1, 65534, 2]), "xy");
-    refuses(t, with_slot(call.clone(), 0, [1, 65534, 3]), 7, 0);
-    refuses(t, with_slot(call, 0, [1, 65535, 2]), 7, 0);
+    call.area = [vec![1; AREA_MAX - 2], b"xy".to_vec()].concat();
+    accepts(t, with_slot(call.clone(), 0, [1, LAST_TWO, 2]), "xy");
+    refuses(t, with_slot(call.clone(), 0, [1, LAST_TWO, 3]), 7, 0);
+    refuses(t, with_slot(call, 0, [1, LAST_TWO + 1, 2]), 7, 0);
     let mut call = reading("a2", "xyz", 1);
-    call.area = vec![OLD_AREA; 65536];
-    call.mark = 65534;
+    call.area = vec![OLD_AREA; AREA_MAX];
+    call.mark = AREA_MAX - 2;
     let after = was_read(&call, &[text("xy")]);
-    t.expect("area of 65536 bytes", &call, &after);
-    call.mark = 65535;
+    t.expect("largest area", &call, &after);
+    call.mark = AREA_MAX - 1;
     refuses(t, call.clone(), 11, 0);
     call.area.push(OLD_AREA);
     refuses(t, call, 1, 0);
 }
 
 fn marks(t: &mut dyn Judge) {
-    for length in [0, 1, 200, 65536] {
+    for length in [0, 1, 200, AREA_MAX] {
         let mut call = reading("a0c", "", 3);
         call.area = vec![OLD_AREA; length];
         call.mark = length;
@@ -555,7 +616,7 @@ fn marks(t: &mut dyn Judge) {
 }
 
 fn replies(t: &mut dyn Judge) {
-    for length in [0, 1, 4, 11, 13, 24] {
+    for length in [0, 1, 4, REPLY_BYTES - 1, REPLY_BYTES + 1, 2 * REPLY_BYTES] {
         let mut call = packing("a", &[text("q")]);
         call.reply = vec![OLD_REPLY; length];
         t.expect("reply of another size", &call, &call.untouched(1));
@@ -577,7 +638,7 @@ fn null_runs(t: &mut dyn Judge) {
     call.null = true;
     accepts(t, call.clone(), []);
     call.layout = b"a0".to_vec();
-    call.slots = words(&[1, 0, 0]);
+    call.slots = slot(1, 0, 0);
     accepts(t, call.clone(), []);
     call.reply.clear();
     t.expect("null reply", &call, &call.untouched(1));
@@ -589,7 +650,7 @@ fn null_runs(t: &mut dyn Judge) {
     t.expect("null runs", &call, &after);
     call.layout = b"a*c*".to_vec();
     refuses(t, call.clone(), 5, 0);
-    call.slots = vec![OLD_SLOT; 24];
+    call.slots = vec![OLD_SLOT; 2 * SLOT_BYTES];
     let after = was_read(&call, &[text(""), ints(&[])]);
     t.expect("null runs", &call, &after);
 }
@@ -606,10 +667,10 @@ fn argument_refusals(t: &mut dyn Judge) {
             6,
             place,
         );
-        for kind in [4, 5, 255, 256, 0x0100_0000, u32::MAX] {
+        for kind in [KIND_MAX + 1, 5, 255, 256, 0x0100_0000, u32::MAX] {
             refuses(t, with_slot(pair(), slot, [kind, 0, 0]), 7, place);
         }
-        for kind in 1..4 {
+        for kind in 1..=KIND_MAX {
             refuses(t, with_slot(pair(), slot, [kind, 11, 0]), 7, place);
             refuses(
                 t,
@@ -681,8 +742,8 @@ fn slot_counts(t: &mut dyn Judge) {
     read_refused(t, "a", 0, 5, 0);
     read_refused(t, "aaa", 2, 5, 0);
     read_refused(t, "a9aa", 2, 5, 0);
-    reads(t, "a", "a", &[text("a")], 63);
-    reads(t, "", "a", &[], 64);
+    reads(t, "a", "a", &[text("a")], SLOTS_MAX - 1);
+    reads(t, "", "a", &[], SLOTS_MAX);
 }
 
 /// Of two reasons the earlier one counts.
@@ -691,17 +752,17 @@ fn order_of_refusals(t: &mut dyn Judge) {
     let mut call = unset("q");
     call.slots.push(0);
     refuses(t, call, 1, 0);
-    pack_refused(t, "a4097q", &[], 3, 0);
-    pack_refused(t, "qa4097", &[], 2, 0);
-    pack_refused(t, "@a4097", &[], 4, 0);
+    pack_refused(t, &format!("a{OVER}q"), &[], 3, 0);
+    pack_refused(t, &format!("qa{OVER}"), &[], 2, 0);
+    pack_refused(t, &format!("@a{OVER}"), &[], 4, 0);
     pack_refused(t, "x*@", &[], 4, 0);
-    pack_refused(t, "a4097x*", &[], 3, 0);
+    pack_refused(t, &format!("a{OVER}x*"), &[], 3, 0);
     pack_refused(t, "aax*", &[], 4, 2);
-    pack_refused(t, "x4097", &[], 3, 0);
-    pack_refused(t, "@4097", &[], 3, 0);
-    pack_refused(t, "X4097", &[], 3, 0);
+    pack_refused(t, &format!("x{OVER}"), &[], 3, 0);
+    pack_refused(t, &format!("@{OVER}"), &[], 3, 0);
+    pack_refused(t, &format!("X{OVER}"), &[], 3, 0);
     refuses(t, unset("aa"), 5, 0);
-    refuses(t, unset("ax4096x"), 6, 0);
+    refuses(t, unset(&format!("ax{COUNT_MAX}x")), 6, 0);
     refuses(t, with_slot(packing("a", &[text("z")]), 0, [2, 9, 0]), 7, 0);
     let bad = [text("z"), text("z")];
     pack_refused(t, "bc", &bad, 10, 0);
@@ -715,13 +776,13 @@ fn order_of_refusals(t: &mut dyn Judge) {
         9,
         0,
     );
-    pack_refused(t, "x4096xb", &[text("z")], 10, 0);
-    pack_refused(t, "x4096xb", &[text("1")], 11, 0);
+    pack_refused(t, &format!("x{COUNT_MAX}xb"), &[text("z")], 10, 0);
+    pack_refused(t, &format!("x{COUNT_MAX}xb"), &[text("1")], 11, 0);
     let mut call = reading("a3a9q", "abc", 0);
     refuses(t, call.clone(), 2, 4);
     call.layout = b"a3a9".to_vec();
     refuses(t, call.clone(), 5, 0);
-    call.slots = vec![OLD_SLOT; 24];
+    call.slots = vec![OLD_SLOT; 2 * SLOT_BYTES];
     call.mark = 198;
     refuses(t, call.clone(), 11, 0);
     call.mark = 201;
@@ -730,15 +791,14 @@ fn order_of_refusals(t: &mut dyn Judge) {
     let after = was_read(&call, &[text("abc")]);
     t.expect("only values that are set need room", &call, &after);
     refuses(t, reading("a9@", "abc", 1), 4, 2);
-    refuses(t, reading("a9a4097", "abc", 2), 3, 2);
+    refuses(t, reading(format!("a9a{OVER}"), "abc", 2), 3, 2);
 }
 
 /// What lies below the mark or in an unset slot stays as it was.
 fn old_values(t: &mut dyn Judge) {
     let mut call = reading("ca9", "abc", 2);
-    call.slots = words(&[7, 8, 9, 1, 0, 3]);
-    let mut after = was_read(&call, &[ints(&[97])]);
-    after.slots[12..].copy_from_slice(&words(&[1, 0, 3]));
+    call.slots = [slot(7, 8, 9), slot(1, 0, 3)].concat();
+    let after = was_read(&call, &[ints(&[97])]);
     t.expect("old slot", &call, &after);
 }
 

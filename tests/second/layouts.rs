@@ -1,6 +1,7 @@
 //! Random layouts and arguments that suit them.
 
 use crate::dice::Dice;
+use crate::limits::{COUNT_MAX, LAYOUT_MAX};
 use crate::values::Value;
 
 #[derive(Clone, Copy, PartialEq, Eq, Debug)]
@@ -44,6 +45,11 @@ impl Spec {
     }
 }
 
+/// How many of the fields take a slot.
+pub fn takers(specs: &[Spec]) -> usize {
+    specs.iter().filter(|s| s.takes_slot()).count()
+}
+
 const TAKERS: &[u8] = b"aAbBhHcsSiIwW";
 const MOVES: &[u8] = b"xxX@";
 
@@ -53,8 +59,8 @@ fn random_number(dice: &mut Dice) -> usize {
         55..=84 => dice.below(40),
         85..=94 => dice.below(200),
         95..=97 => dice.below(1500),
-        98 => dice.pick(&[4090, 4095, 4096]),
-        _ => dice.between(0, 4096),
+        98 => dice.pick(&[COUNT_MAX - 6, COUNT_MAX - 1, COUNT_MAX]),
+        _ => dice.between(0, COUNT_MAX),
     }
 }
 
@@ -63,7 +69,14 @@ fn wild_count(dice: &mut Dice) -> Count {
     match dice.below(3) {
         0 => Count::Absent,
         1 => Count::All,
-        _ => Count::Number(dice.pick(&[4097, 4098, 5000, 10000, 1 << 32, 1 << 62])),
+        _ => Count::Number(dice.pick(&[
+            COUNT_MAX + 1,
+            COUNT_MAX + 2,
+            COUNT_MAX + 1000,
+            10 * COUNT_MAX,
+            1 << 32,
+            1 << 62,
+        ])),
     }
 }
 
@@ -100,7 +113,7 @@ pub fn random_spec(dice: &mut Dice, packing: bool) -> Spec {
 pub fn plain_spec(dice: &mut Dice) -> Spec {
     loop {
         let spec = random_spec(dice, true);
-        if !b"X@".contains(&spec.letter) && spec.or_all(usize::MAX) <= 4096 {
+        if !b"X@".contains(&spec.letter) && spec.or_all(usize::MAX) <= COUNT_MAX {
             return spec;
         }
     }
@@ -141,21 +154,21 @@ fn spell(dice: &mut Dice, spec: &Spec, text: &mut Vec<u8>) {
     }
 }
 
-/// The layout text of as many of the fields as fit into 256 bytes; the others are dropped.
+/// The layout text of as many of the fields as a layout may hold; the others are dropped.
 pub fn spelled(dice: &mut Dice, specs: &mut Vec<Spec>) -> Vec<u8> {
     let mut text = Vec::new();
     for at in 0..specs.len() {
         let before = text.len();
         spell(dice, &specs[at], &mut text);
-        if text.len() > 256 {
+        if text.len() > LAYOUT_MAX {
             text.truncate(before);
             specs.truncate(at);
             break;
         }
     }
     match dice.below(20) {
-        0 => text.resize(256, b' '),
-        1 => text.resize((text.len() + 2).min(256), b' '),
+        0 => text.resize(LAYOUT_MAX, b' '),
+        1 => text.resize((text.len() + 2).min(LAYOUT_MAX), b' '),
         _ => {}
     }
     text
@@ -220,7 +233,7 @@ pub fn random_argument(dice: &mut Dice, spec: &Spec) -> Value {
         let len = match spec.count {
             Count::Absent => 1,
             Count::All => dice.below(9),
-            Count::Number(n) => n.min(5000) + surplus,
+            Count::Number(n) => n.min(COUNT_MAX + 1000) + surplus,
         };
         let items: Vec<u64> = (0..len).map(|_| random_integer(dice)).collect();
         return match dice.once_in(2) {
@@ -229,7 +242,7 @@ pub fn random_argument(dice: &mut Dice, spec: &Spec) -> Value {
         };
     }
     let all = dice.below(30);
-    let count = spec.or_all(all).min(5000);
+    let count = spec.or_all(all).min(COUNT_MAX + 1000);
     let len = if spec.count == Count::All {
         all
     } else {

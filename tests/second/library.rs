@@ -81,47 +81,32 @@ impl Lent {
 
 /// Runs the call on the library; names the runs around which a guard byte changed.
 pub fn by_library(call: &Call) -> (After, Vec<&'static str>) {
+    let mut after = call.untouched(0);
     let shift = call.layout.len() + call.area.len();
-    let lend = |run: &[u8], nth: usize| Lent::new(run, shift + 3 * nth, call.null);
-    let mut layout = lend(&call.layout, 0);
-    let mut record = lend(&call.record, 1);
-    let mut slots = lend(&call.slots, 2);
-    let mut area = lend(&call.area, 3);
-    let mut reply = lend(&call.reply, 4);
-    let (layout_at, record_at) = (layout.pointer(), record.pointer());
-    let (slots_at, area_at, reply_at) = (slots.pointer(), area.pointer(), reply.pointer());
+    let lend =
+        |(nth, (_, run)): (usize, (&str, &mut Vec<u8>))| Lent::new(run, shift + 3 * nth, call.null);
+    let runs = after.runs.lent(call.which).into_iter();
+    let mut lent: Vec<Lent> = runs.enumerate().map(lend).collect();
+    let at: Vec<*mut u8> = lent.iter_mut().map(Lent::pointer).collect();
+    let len: Vec<usize> = lent.iter().map(|run| run.len).collect();
     // Each pointer leads to a run of the length beside it, and no two runs overlap.
-    let returned = unsafe {
+    after.returned = unsafe {
         match call.which {
             Which::Pack => curlew_pack(
-                layout_at, layout.len, slots_at, slots.len, area_at, area.len, record_at,
-                record.len, reply_at, reply.len,
+                at[0], len[0], at[1], len[1], at[2], len[2], at[3], len[3], at[4], len[4],
             ),
             Which::Read => curlew_read(
-                layout_at, layout.len, record_at, record.len, slots_at, slots.len, area_at,
-                area.len, call.mark, reply_at, reply.len,
+                at[0], len[0], at[1], len[1], at[2], len[2], at[3], len[3], call.mark, at[4],
+                len[4],
             ),
         }
     };
-    let runs = [
-        ("layout", &layout),
-        ("record", &record),
-        ("slots", &slots),
-        ("area", &area),
-        ("reply", &reply),
-    ];
-    let broken = runs
-        .iter()
-        .filter(|(_, run)| !run.guarded())
-        .map(|(name, _)| *name)
-        .collect();
-    let after = After {
-        returned,
-        layout: layout.content(),
-        record: record.content(),
-        slots: slots.content(),
-        area: area.content(),
-        reply: reply.content(),
-    };
+    let mut broken = Vec::new();
+    for ((name, run), lent) in after.runs.lent(call.which).into_iter().zip(&lent) {
+        *run = lent.content();
+        if !lent.guarded() {
+            broken.push(name);
+        }
+    }
     (after, broken)
 }

@@ -9,6 +9,8 @@ mod evolution;
 mod fixed;
 mod layouts;
 mod library;
+mod limits;
+mod slots;
 mod tally;
 mod twin;
 mod values;

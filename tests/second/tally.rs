@@ -1,16 +1,18 @@
 //! Counting what agrees, and showing the first calls that do not.
 
-use crate::call::{by_twin, numbers, After, Call, Judge, Which};
+use crate::call::{by_twin, numbers, After, Call, Judge, Which, CALLS};
 use crate::library::by_library;
 
 const SHOWN: usize = 5;
+/// Numbers that come back are below this.
+const NUMBERS: usize = 12;
 
 #[derive(Default)]
 pub struct Tally {
     pub passed: u64,
     pub failed: u64,
-    /// How often each number came back, in packing and in reading.
-    pub answers: [[u64; 12]; 2],
+    /// How often each call gave each number.
+    pub answers: [[u64; NUMBERS]; CALLS.len()],
     /// Show every call before the library gets it.
     pub trace: bool,
 }
@@ -33,45 +35,29 @@ pub fn hex(bytes: &[u8]) -> String {
 }
 
 fn show_call(call: &Call) {
-    println!(
-        "  call    {:?}{}",
-        call.which,
-        if call.null {
-            ", empty runs are null"
-        } else {
-            ""
-        }
-    );
-    println!("  layout  {:?}", String::from_utf8_lossy(&call.layout));
-    println!("          {}", hex(&call.layout));
-    println!("  record  {}", hex(&call.record));
-    println!(
-        "  slots   {} = {:?}",
-        hex(&call.slots),
-        numbers(&call.slots)
-    );
-    println!("  area    {}", hex(&call.area));
-    if call.which == Which::Read {
-        println!("  mark    {}", call.mark);
+    let null = if call.null {
+        ", empty runs are null"
+    } else {
+        ""
+    };
+    println!("  {:?}, mark {}{}", call.which, call.mark, null);
+    for (name, run) in call.runs.clone().lent(call.which) {
+        println!("  {:8} {}", name, hex(run));
     }
-    println!("  reply   {}", hex(&call.reply));
+    println!("  layout   {:?}", String::from_utf8_lossy(&call.layout));
+    println!("  slots    {:?}", numbers(&call.slots));
 }
 
-fn show_difference(expected: &After, got: &After) {
+fn show_difference(which: Which, expected: &After, got: &After) {
     if expected.returned != got.returned {
         println!(
             "  returned: expected {}, got {}",
             expected.returned, got.returned
         );
     }
-    let runs = [
-        ("layout", &expected.layout, &got.layout),
-        ("record", &expected.record, &got.record),
-        ("slots", &expected.slots, &got.slots),
-        ("area", &expected.area, &got.area),
-        ("reply", &expected.reply, &got.reply),
-    ];
-    for (name, want, have) in runs {
+    let (mut expected, mut got) = (expected.clone(), got.clone());
+    let pairs = expected.runs.lent(which).into_iter();
+    for ((name, want), (_, have)) in pairs.zip(got.runs.lent(which)) {
         if want != have {
             println!("  {} expected {}", name, hex(want));
             println!("  {} got      {}", name, hex(have));
@@ -86,10 +72,7 @@ impl Tally {
         } else {
             self.failed += 1;
         }
-        let row = &mut self.answers[call.which as usize];
-        if let Some(cell) = row.get_mut(after.returned as usize) {
-            *cell += 1;
-        }
+        self.answers[call.which as usize][after.returned as usize] += 1;
     }
 
     fn shows(&self) -> bool {
@@ -106,7 +89,7 @@ impl Tally {
         if !good && self.shows() {
             println!("FAILED {}", title);
             show_call(call);
-            show_difference(expected, &got);
+            show_difference(call.which, expected, &got);
             for run in broken {
                 println!("  guard bytes around {} changed", run);
             }
@@ -114,14 +97,19 @@ impl Tally {
         self.count(call, expected, good);
     }
 
-    pub fn print(&self) {
-        for (name, row) in ["packing", "reading"].iter().zip(&self.answers) {
-            let cells: Vec<String> = row
-                .iter()
-                .enumerate()
-                .map(|(n, times)| format!("{}:{}", n, times))
-                .collect();
-            println!("{} gave {}", name, cells.join(" "));
+    /// Shows how often each number came back; one that never did although it can is a failure.
+    pub fn print(&mut self) {
+        for which in CALLS {
+            let row = self.answers[which as usize];
+            let met = (0..NUMBERS).filter(|&n| row[n] > 0);
+            let cells: Vec<String> = met.map(|n| format!("{}:{}", n, row[n])).collect();
+            println!("{:?} gave {}", which, cells.join(" "));
+            for &number in which.numbers() {
+                if row[number as usize] == 0 {
+                    println!("FAILED: {:?} never gave {}", which, number);
+                    self.failed += 1;
+                }
+            }
         }
         println!("{} passed, {} failed", self.passed, self.failed);
     }
@@ -142,7 +130,7 @@ impl Judge for Tally {
             if self.shows() {
                 println!("FAILED by the twin: {}", title);
                 show_call(call);
-                show_difference(expected, &twin);
+                show_difference(call.which, expected, &twin);
             }
             self.failed += 1;
         }

@@ -2,30 +2,10 @@
 //!
 //! Both calls first decide everything, then write: a refused call writes nothing but the reply.
 
-pub const LAYOUT_MAX: usize = 256;
-pub const SLOTS_MAX: usize = 64;
-pub const RECORD_MAX: usize = 4096;
-pub const AREA_MAX: usize = 65536;
-pub const COUNT_MAX: usize = 4096;
-pub const SLOT_BYTES: usize = 12;
-pub const REPLY_BYTES: usize = 12;
-pub const ITEM_BYTES: usize = 8;
-
-/// The three numbers that come back from a call.
-#[derive(Clone, Copy, PartialEq, Eq, Debug)]
-pub struct Answer {
-    pub number: u32,
-    pub first: u32,
-    pub second: u32,
-}
-
-fn refused(number: u32, place: usize) -> Answer {
-    Answer {
-        number,
-        first: place as u32,
-        second: 0,
-    }
-}
+use crate::limits::{AREA_MAX, COUNT_MAX, ITEM_BYTES, LAYOUT_MAX, RECORD_MAX, SLOT_BYTES};
+use crate::slots::{
+    accepted, bad_slot_run, put_slot, refused, replied, slot_at, value_of, Answer, Slot,
+};
 
 // The layout text
 
@@ -194,53 +174,6 @@ fn parse(text: &[u8], packing: bool, fields: &mut Fields) -> Result<(usize, usiz
         at = next;
     }
     Ok((len, takers))
-}
-
-// Slots
-
-#[derive(Clone, Copy)]
-struct Slot {
-    kind: u32,
-    start: u32,
-    length: u32,
-}
-
-fn number_at(bytes: &[u8], at: usize) -> u32 {
-    u32::from_be_bytes([bytes[at], bytes[at + 1], bytes[at + 2], bytes[at + 3]])
-}
-
-fn put_numbers(to: &mut [u8], numbers: [u32; 3]) {
-    for (place, number) in to.chunks_exact_mut(4).zip(numbers) {
-        place.copy_from_slice(&number.to_be_bytes());
-    }
-}
-
-fn slot_at(slots: &[u8], index: usize) -> Slot {
-    let at = index * SLOT_BYTES;
-    Slot {
-        kind: number_at(slots, at),
-        start: number_at(slots, at + 4),
-        length: number_at(slots, at + 8),
-    }
-}
-
-/// The bytes of a slot's value, if they lie inside the area.
-fn value_of(slot: Slot, area: &[u8]) -> Option<&[u8]> {
-    let unit = match slot.kind {
-        1 => 1,
-        2 | 3 => ITEM_BYTES as u64,
-        _ => return None,
-    };
-    let start = slot.start as u64;
-    let end = start + slot.length as u64 * unit;
-    if end > area.len() as u64 {
-        return None;
-    }
-    Some(&area[start as usize..end as usize])
-}
-
-fn bad_slot_run(slots: &[u8]) -> bool {
-    slots.len() > SLOTS_MAX * SLOT_BYTES || slots.len() % SLOT_BYTES != 0
 }
 
 // Packing
@@ -474,11 +407,7 @@ fn packed(layout: &[u8], slots: &[u8], area: &[u8], out: &mut [u8]) -> Result<An
     let result = &mut out[..length];
     result.fill(0);
     store_fields(&fields[..len], slots, area, result);
-    Ok(Answer {
-        number: 0,
-        first: length as u32,
-        second: 0,
-    })
+    Ok(accepted(length, 0))
 }
 
 /// Packs the values of the table by the layout into `out`.
@@ -639,7 +568,7 @@ fn load_fields(fields: &[Field], record: &[u8], slots: &mut [u8], area: &mut [u8
             &record[at..at + fit.used],
             &mut area[place..next],
         );
-        put_numbers(slot, [kind, place as u32, fit.items as u32]);
+        put_slot(slot, kind, place, fit.items);
         at += fit.used;
         place = next;
     }
@@ -670,11 +599,7 @@ fn read_into(
         return Err(refused(11, 0));
     }
     load_fields(&fields[..len], record, slots, area, mark);
-    Ok(Answer {
-        number: 0,
-        first: set as u32,
-        second: (mark + bytes) as u32,
-    })
+    Ok(accepted(set, mark + bytes))
 }
 
 /// Reads the record by the layout into the table, values going into the area from the mark on.
@@ -690,12 +615,7 @@ pub fn read(
 
 // The same with a reply run
 
-fn replied(answer: Answer, reply: &mut [u8]) -> u32 {
-    put_numbers(reply, [answer.number, answer.first, answer.second]);
-    answer.number
-}
-
-/// `pack` with the answer in a reply run of 12 bytes.
+/// `pack` with the answer in a reply run.
 pub fn pack_call(
     layout: &[u8],
     slots: &[u8],
@@ -703,13 +623,10 @@ pub fn pack_call(
     out: &mut [u8],
     reply: &mut [u8],
 ) -> u32 {
-    if reply.len() != REPLY_BYTES {
-        return 1;
-    }
-    replied(pack(layout, slots, area, out), reply)
+    replied(reply, || pack(layout, slots, area, out))
 }
 
-/// `read` with the answer in a reply run of 12 bytes.
+/// `read` with the answer in a reply run.
 pub fn read_call(
     layout: &[u8],
     record: &[u8],
@@ -718,8 +635,5 @@ pub fn read_call(
     mark: usize,
     reply: &mut [u8],
 ) -> u32 {
-    if reply.len() != REPLY_BYTES {
-        return 1;
-    }
-    replied(read(layout, record, slots, area, mark), reply)
+    replied(reply, || read(layout, record, slots, area, mark))
 }

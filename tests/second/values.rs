@@ -47,12 +47,16 @@ pub fn uints(items: &[u64]) -> Value {
     Value::Unsigned(items.to_vec())
 }
 
+/// The bytes of a slot.
+pub fn slot(kind: u32, start: usize, length: usize) -> Vec<u8> {
+    words(&[kind, start as u32, length as u32])
+}
+
 /// Slots and area bytes of values that lie one after another from `start` on.
 pub fn table(values: &[Value], start: usize) -> (Vec<u8>, Vec<u8>) {
     let (mut slots, mut area) = (Vec::new(), Vec::new());
     for value in values {
-        let place = (start + area.len()) as u32;
-        slots.extend(words(&[value.kind(), place, value.items() as u32]));
+        slots.extend(slot(value.kind(), start + area.len(), value.items()));
         area.extend(value.bytes());
     }
     (slots, area)

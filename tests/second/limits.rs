@@ -1,0 +1,19 @@
+//! The sizes of everything that is lent to a call.
+
+pub const LAYOUT_MAX: usize = 256;
+pub const SLOTS_MAX: usize = 64;
+pub const RECORD_MAX: usize = 4096;
+pub const AREA_MAX: usize = 65536;
+pub const COUNT_MAX: usize = 4096;
+
+/// How many numbers make a slot: kind, start and length.
+pub const SLOT_NUMBERS: usize = 3;
+pub const SLOT_BYTES: usize = 4 * SLOT_NUMBERS;
+pub const SLOT_RUN_MAX: usize = SLOTS_MAX * SLOT_BYTES;
+
+/// The bytes of one integer in the area.
+pub const ITEM_BYTES: usize = 8;
+/// Kinds above this one are unknown.
+pub const KIND_MAX: u32 = 3;
+
+pub const REPLY_BYTES: usize = 12;
