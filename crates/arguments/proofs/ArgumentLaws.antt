@@ -18,7 +18,8 @@ use Rattle.layout.proofs.Numbered.{shape-text, shape-digits}
 use Rattle.layout.proofs.Laws.{demanded, demand-true}
 use Rattle.record.specs.Bytes.{part}
 use Rattle.record.proofs.Bytes.{and-true}
-use Rattle.record.specs.Table.{Slot, shown, itemSize}
+use Rattle.record.specs.declared.slots.Slot.{Slot}
+use Rattle.record.specs.Table.{shown, itemSize}
 use Rattle.record.specs.Geometry.{amount}
 use Rattle.record.specs.Packing.{kindFits, enough, amountFits, digitsFit, allDigits, insideArea, argumentFits}
 use Rattle.record.proofs.Fields.{split}

@@ -21,15 +21,15 @@ use Rattle.layout.specs.Words.{lastData, shapeNumbered, countFrom, slotsTaken, 
 use Rattle.layout.proofs.Laws.{bound, ok-inj}
 use Rattle.layout.proofs.Decoded.{word-shape, word-count, next-field, no-field}
 use Rattle.record.specs.declared.Cursor.{Cursor}
-use Rattle.record.specs.Table.{Slot, shown, slotsOf, slotWidth}
+use Rattle.record.specs.declared.slots.Slot.{Slot}
+use Rattle.record.specs.Table.{shown, slotsOf, slotWidth}
 use Rattle.record.specs.Geometry.{amount, bytesFor}
 use Rattle.record.specs.Packing.{kindFits, amountFits, digitsFit, insideArea, argumentFits, nextSlot}
-use Rattle.record.specs.declared.slots.Argument.{Argument}
 use Rattle.arguments.specs.declared.check.Verdict.the-variants.{Fits, Refused}
 use Rattle.arguments.specs.declared.Stepped.the-variants.{Next, Stop}
 use Rattle.arguments.specs.declared.Measured.the-variants.{Length}
 use Rattle.arguments.specs.declared.Measured.the-variants as measured
-use Rattle.record.specs.Slots.{slotOf, slotAt}
+use Rattle.record.specs.Slots.{slotAt}
 use Rattle.arguments.specs.Checks.{verdictOf, Sound}
 use Rattle.arguments.specs.Measure.{origin, past, advance, stepped, checked, Prepared, Ready, steppedOf, measuredOf, Measures}
 use Rattle.record.proofs.SlotLaws.{next-slot}
@@ -63,13 +63,13 @@ module _ (ns : List ℕ) (k w : ℕ) (c : Cursor) where
   ready-data r h = rw (word-shape w h, word-count w) at r
 
   -- an argument that passes the quick test is refused by no line
-  pub quick-next : (area : List ℕ) → w % 256 ≤ lastData → (a : Argument) → slotOf a ≡ slotAt ns k → (n : Count) → n ≡ countFrom (w / 512)
-      → (t : Bool) → Sound t area (shapeNumbered (w % 256)) n (slotOf a) → t ≡ true
+  pub quick-next : (area : List ℕ) → w % 256 ≤ lastData → (a : Slot) → a ≡ slotAt ns k → (n : Count) → n ≡ countFrom (w / 512)
+      → (t : Bool) → Sound t area (shapeNumbered (w % 256)) n a → t ≡ true
       → (items : ℕ) → items ≡ amount n (a .len) → (bytes : ℕ) → bytes ≡ bytesFor (shapeNumbered (w % 256)) items → (r : Cursor) → r ≡ past c bytes
       → Next r ≡ steppedOf (stepped area k (slotAt ns k) c (fieldOf w .code) (fieldOf w .count))
   quick-next area h a same n e t s p items i bytes b r q =
       rw (word-shape w h, word-count w, ← e, ← same)
-      (ap Next (q ∙ rw (b, i)) ∙ step-next area k (slotOf a) c (shapeNumbered (w % 256)) n (sym (ap verdictOf (s .fits p k))))
+      (ap Next (q ∙ rw (b, i)) ∙ step-next area k a c (shapeNumbered (w % 256)) n (sym (ap verdictOf (s .fits p k))))
 
 -- what an answer says of the step
 pub turn-next : (o : Result Cursor) (d : Cursor) → Next d ≡ steppedOf o → o ≡ ok d

@@ -6,7 +6,7 @@ use mathlib.Core.List.{List}
 use Rattle.layout.specs.declared.Shape.{Shape}
 use Rattle.layout.specs.declared.Count.{Count}
 use Rattle.layout.specs.Refusals.{Result, ok, refused}
-use Rattle.record.specs.Table.{Slot}
+use Rattle.record.specs.declared.slots.Slot.{Slot}
 use Rattle.record.specs.Packing.{argumentFits}
 use Rattle.arguments.specs.declared.check.Verdict.{Verdict}
 use Rattle.arguments.specs.declared.check.Verdict.the-variants.{Fits, Refused}

@@ -13,7 +13,8 @@ use Rattle.layout.specs.Refusals.{Result, ok, refused, _>>=_}
 use Rattle.layout.specs.Words.{slotsTaken, decoded, FitCode, FitCount}
 use Rattle.layout.specs.Layout.{maxLayout, slotCount, takesSlot, toNat}
 use Rattle.record.specs.declared.Cursor.{Cursor}
-use Rattle.record.specs.Table.{Slot, slotWidth, maxSlots}
+use Rattle.record.specs.declared.slots.Slot.{Slot}
+use Rattle.record.specs.Table.{slotWidth, maxSlots}
 use Rattle.record.specs.Geometry.{amount, bytesFor, backFrom, gotoIn}
 use Rattle.record.specs.Packing.{argumentFits, nextSlot}
 use Rattle.arguments.specs.declared.Stepped.{Stepped}

@@ -1,18 +1,16 @@
 // The check of one argument: lines 6 to 10 of the table.
 ghost use mathlib.Core.Path.{_≡_};
-ghost use mathlib.Core.Bool.{Bool, true, _&&_};
+ghost use mathlib.Core.Bool.{Bool, true};
 ghost use Prim.Native.Nat.{ℕ, _+_, _*_, _≤_, _<_};
-ghost use lib.Dec.{leb};
 ghost use Rattle.layout.specs.declared.Shape.the-variants.{Integers};
 ghost use Rattle.layout.specs.Words.{lastDigits, lastData, shapeNumbered};
-ghost use Rattle.record.specs.Table.{itemSize, shown};
+ghost use Rattle.record.specs.Table.{numberLimit, shown};
 ghost use Rattle.record.specs.Packing.{kindFits, enough, amountFits, digitsFit, insideArea, argumentFits};
-ghost use Rattle.record.specs.Slots.{slotOf};
 ghost use Rattle.arguments.specs.Checks.{verdictOf, Sound};
 use layout::Count;
 use layout::Refusal;
 use layout::Shape;
-use record::slots::Argument;
+use record::slots::Slot;
 
 // What a check answers: nothing is wrong, or the refusal and its place.
 pub enum Verdict {
@@ -53,9 +51,9 @@ fn amount_fits(s: Shape, n: Count, have: usize) -> bool
 }
 
 // Line 10 is not due.
-fn digits_fit(s: Shape, n: usize, a: Argument, area: &[u8]) -> bool
-    requires { ⌜ (kindFits s (a .kind) ≡ true) × (insideArea (now area) (slotOf a) ≡ true) ⌝ }
-    ensures { λ r. ⌜ r ≡ digitsFit s n (shown (now (area .entry)) (slotOf a) .items) ⌝ }
+fn digits_fit(s: Shape, n: usize, a: Slot, area: &[u8]) -> bool
+    requires { ⌜ (kindFits s (a .kind) ≡ true) × (insideArea (now area) a ≡ true) ⌝ }
+    ensures { λ r. ⌜ r ≡ digitsFit s n (shown (now (area .entry)) a .items) ⌝ }
 {
     match s {
         Shape::Text(_) => true,
@@ -67,9 +65,9 @@ fn digits_fit(s: Shape, n: usize, a: Argument, area: &[u8]) -> bool
 }
 
 // The argument in slot number k serves a field.
-pub fn check(s: Shape, n: Count, a: Argument, k: usize, area: &[u8]) -> Verdict
-    requires { ⌜ (a .start < 4294967296) × (a .len < 4294967296) ⌝ }
-    ensures { λ r. ⌜ r ≡ verdictOf (argumentFits (now (area .entry)) s n k (slotOf a)) ⌝ }
+pub fn check(s: Shape, n: Count, a: Slot, k: usize, area: &[u8]) -> Verdict
+    requires { ⌜ (a .start < numberLimit) × (a .len < numberLimit) ⌝ }
+    ensures { λ r. ⌜ r ≡ verdictOf (argumentFits (now (area .entry)) s n k a) ⌝ }
 {
     if a.kind == 0 {
         return Verdict::Refused(Refusal::NotSet, k);
@@ -92,9 +90,9 @@ pub fn check(s: Shape, n: Count, a: Argument, k: usize, area: &[u8]) -> Verdict
 // ---- the quick test: the usual argument, which serves, is spared the lines
 
 // Integers serve: where this holds, nothing is wrong with them.
-fn integers_serve(n: Count, a: Argument, area: &[u8]) -> bool
-    requires { ⌜ (a .start < 4294967296) × (a .len < 4294967296) ⌝ }
-    ensures { λ r. ⌜ ((w : ℕ) (big : Bool) → Sound r (now (area .entry)) (Integers w big) n (slotOf a)) ⌝ }
+fn integers_serve(n: Count, a: Slot, area: &[u8]) -> bool
+    requires { ⌜ (a .start < numberLimit) × (a .len < numberLimit) ⌝ }
+    ensures { λ r. ⌜ ((w : ℕ) (big : Bool) → Sound r (now (area .entry)) (Integers w big) n a) ⌝ }
 {
     let kind = a.kind;
     if kind < 2 {
@@ -110,9 +108,9 @@ fn integers_serve(n: Count, a: Argument, area: &[u8]) -> bool
 }
 
 // A string serves.
-fn string_serves(d: u32, n: Count, a: Argument, area: &[u8]) -> bool
-    requires { ⌜ (d ≤ lastDigits) × (a .start < 4294967296) × (a .len < 4294967296) ⌝ }
-    ensures { λ r. ⌜ Sound r (now (area .entry)) (shapeNumbered d) n (slotOf a) ⌝ }
+fn string_serves(d: u32, n: Count, a: Slot, area: &[u8]) -> bool
+    requires { ⌜ (d ≤ lastDigits) × (a .start < numberLimit) × (a .len < numberLimit) ⌝ }
+    ensures { λ r. ⌜ Sound r (now (area .entry)) (shapeNumbered d) n a ⌝ }
 {
     if a.kind != 1 {
         return false;
@@ -133,9 +131,9 @@ fn string_serves(d: u32, n: Count, a: Argument, area: &[u8]) -> bool
 }
 
 // The argument serves a field, by the number of the field's type. Where this does not hold, `check` finds what is wrong.
-pub fn serves(d: u32, n: Count, a: Argument, area: &[u8]) -> bool
-    requires { ⌜ (d ≤ lastData) × (a .start < 4294967296) × (a .len < 4294967296) ⌝ }
-    ensures { λ r. ⌜ Sound r (now (area .entry)) (shapeNumbered d) n (slotOf a) ⌝ }
+pub fn serves(d: u32, n: Count, a: Slot, area: &[u8]) -> bool
+    requires { ⌜ (d ≤ lastData) × (a .start < numberLimit) × (a .len < numberLimit) ⌝ }
+    ensures { λ r. ⌜ Sound r (now (area .entry)) (shapeNumbered d) n a ⌝ }
 {
     if layout::LAST_DIGITS < d {
         return integers_serve(n, a, area);

@@ -21,7 +21,8 @@ use Rattle.layout.specs.declared.Refusal.the-variants.{NotSet, BadSlot, WrongKi
 use Rattle.layout.specs.Refusals.{Result, ok, _>>=_}
 use Rattle.layout.specs.Words.{FitCode}
 use Rattle.layout.proofs.Laws.{AllSound, bound, demanded, demand-true}
-use Rattle.record.specs.Table.{Slot, shown}
+use Rattle.record.specs.declared.slots.Slot.{Slot}
+use Rattle.record.specs.Table.{shown}
 use Rattle.record.specs.Geometry.{amount}
 use Rattle.record.specs.Packing.{insideArea, Filled, filled, nextSlot, argumentFits, argumentsFit, kindFits, amountFits, enough, digitsFit}
 use Rattle.layout.specs.Layout.{slotCount}

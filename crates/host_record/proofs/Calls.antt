@@ -4,12 +4,11 @@ use native.Mathlib.Omega.{arith}
 use mathlib.Core.Path.{_≡_, sym, ap, _∙_}
 use mathlib.Core.Bool.{true, false}
 use mathlib.Core.List.{List}
-use borrow.Author.Tests.{lt-leb, eq-eqb, ne-eqb}
-use lib.Dec.{eqb, leb}
+use borrow.Author.Tests.{eq-eqb, ne-eqb}
+use lib.Dec.{eqb}
 use lib.ListN.{length, take}
 use Rattle.layout.specs.declared.Refusal.the-variants.{BadSize}
 use Rattle.layout.specs.Refusals.{numberOf}
-use Rattle.layout.specs.Layout.{maxLayout}
 use Rattle.record.specs.declared.Answer.{Answer}
 use Rattle.record.specs.Bytes.{storeAt}
 use Rattle.record.proofs.Bytes.{All}
@@ -17,16 +16,17 @@ use Rattle.record.specs.Table.{maxSlots, slotWidth}
 use Rattle.record.specs.Geometry.{sizesFit}
 use Rattle.record.specs.Packing.{refusal, packs, pack}
 use Rattle.record.specs.Reading.{reads, read}
+use Rattle.record.proofs.Sizes.{too-many}
 use Rattle.record.proofs.Readings.{over, read-over}
 use Rattle.host.specs.Host.{numberSize, replySize, numbersIn, bytesOf, replyOf, slotsFit}
 use Rattle.host.proofs.NumberLaws.{length-numbersIn, bytes-stored}
-use Rattle.host.proofs.Guards.{and-false, Fit, guarded-unwritten, guarded-refused, guarded-served}
+use Rattle.host.proofs.Guards.{Fit, guarded-unwritten, guarded-refused, guarded-served}
 use Rattle.host_record.specs.Calls.{packCall, curlewPack, readCall, curlewRead}
 
 -- more slots than a call may be lent are refused with 1
 module _ (layout ns bs area : List ℕ) (many : slotWidth * maxSlots < length ns) where
   sizes-many : sizesFit layout ns bs area ≡ false
-  sizes-many = rw (lt-leb (length ns) (slotWidth * maxSlots) many, and-false (leb (length layout) maxLayout))
+  sizes-many = too-many (length layout) (length ns) (length bs) (length area) many
 
   pack-many : record { answer = refusal BadSize 0; output = bs } ≡ pack layout ns area bs
   unfolding pack packs

@@ -19,7 +19,8 @@ use Rattle.layout.specs.Refusals.{Result, ok, refused, _>>=_}
 use Rattle.layout.specs.Words.{slotsTaken}
 use Rattle.record.specs.declared.Cursor.{Cursor}
 use Rattle.record.specs.Bytes.{storeAt}
-use Rattle.record.specs.Table.{Slot, shown}
+use Rattle.record.specs.declared.slots.Slot.{Slot}
+use Rattle.record.specs.Table.{shown}
 use Rattle.record.specs.Geometry.{amount, bytesFor, gotoIn}
 use Rattle.record.specs.Packing.{Run, cursorOf, store, goto, stored, packOne, packAll, filled, nextSlot, argumentFits, argumentsFit}
 use Rattle.record.proofs.Fields.{length-stored}

@@ -13,7 +13,8 @@ use Rattle.layout.specs.declared.Shape.the-variants.{Text, Digits, Integers}
 use Rattle.layout.specs.declared.Count.{Count}
 use Rattle.layout.specs.declared.Count.the-variants.{Absent, Star, Times}
 use Rattle.record.specs.Bytes.{part, ceilDiv, pieces, number, ordered, bigEndianIn}
-use Rattle.record.specs.Table.{Slot, shown, integerSize, integersIn}
+use Rattle.record.specs.declared.slots.Slot.{Slot}
+use Rattle.record.specs.Table.{shown, integerSize, integersIn}
 use Rattle.record.specs.Geometry.{amount, perByte}
 use Rattle.record.specs.Packing.{stored, lowBytes, enough, amountFits, allDigits, digitsFit, insideArea}
 use Rattle.record.proofs.NumberLaws.{length-bigEndianIn}

@@ -1,27 +1,27 @@
 -- Which way a call goes, on plain values: each answer of the code is that of the definition.
-use Prim.Native.Nat.{ℕ, _*_, _/_, _%_, _≤_, _<_}
+use Prim.Native.Nat.{ℕ, _/_, _≤_, _<_}
 use native.Mathlib.Omega.{arith}
 use mathlib.Core.Path.{_≡_, refl, sym, ap, _∙_}
-use mathlib.Core.Bool.{Bool, true, false, _&&_}
+use mathlib.Core.Bool.{true, false}
 use mathlib.Core.List.{List, _++_}
-use borrow.Author.Tests.{le-leb, lt-leb, leb-true, eq-eqb, ne-eqb}
-use lib.Dec.{eqb, leb}
+use borrow.Author.Tests.{le-leb, lt-leb, eq-eqb, ne-eqb}
+use lib.Dec.{eqb}
 use lib.ListN.{length, drop}
 use Rattle.layout.specs.declared.Field.{Field}
 use Rattle.layout.specs.declared.Refusal.{Refusal}
 use Rattle.layout.specs.declared.Refusal.the-variants.{BadSize, WrongSlots, NoRoom}
 use Rattle.layout.specs.Refusals.{Result, ok, refused, _>>=_}
-use Rattle.layout.specs.Layout.{maxLayout, fieldsOf, slotCount}
+use Rattle.layout.specs.Layout.{fieldsOf, slotCount}
 use Rattle.record.specs.declared.Cursor.{Cursor}
-use Rattle.record.specs.Table.{Slot, slotsOf, slotWidth, maxSlots, maxRecord, maxArea}
-use Rattle.record.specs.Geometry.{sizesFit, lengthsFit}
+use Rattle.record.specs.declared.slots.Slot.{Slot}
+use Rattle.record.specs.Table.{slotsOf, slotWidth}
+use Rattle.record.specs.Geometry.{sizesFit}
 use Rattle.record.specs.Packing.{start, cursorOf, packAll, filled, packed, argumentsFit, accepted, refusal, packs, packEffect, pack}
 use Rattle.arguments.specs.declared.Measured.the-variants.{Length, Refused}
 use Rattle.arguments.specs.Measure.{origin, checked, HasRoom, measuredOf}
 use Rattle.packer.specs.Writing.{written}
 use Rattle.packer.specs.Whole.{finished}
 use Rattle.record.proofs.Tables.{length-slots}
-use Rattle.record.proofs.Bytes.{and-true}
 use Rattle.packer.proofs.RunLaws.{measured-as, written-as}
 
 -- ---- the end of a call
@@ -88,24 +88,6 @@ module _ (layout slots area output : List ℕ) where
       pub pack-finish : eqb (length (slotsOf slots)) (slotCount fs) ≡ true → packEffect output (finished area (slotsOf slots) fs output) ≡ pack layout slots area output
       unfolding pack packs finished
       pack-finish h = simp (fine, e, h)
-
--- ---- what line 1 says
-
-pub record Limits (l s o : ℕ) : Type 0 where
-  pub layout : l ≤ maxLayout
-  pub slots : s ≤ slotWidth * maxSlots
-  pub output : o ≤ maxRecord
-
-pub size-limits : (l s o a : ℕ) → lengthsFit l s o a ≡ true → Limits l s o
-size-limits l s o a e =
-    let fits : Bool = leb l maxLayout in
-    let slots : Bool = leb s (slotWidth * maxSlots) in
-    let whole : Bool = eqb (s % slotWidth) 0 in
-    let (r₁, e₅) = and-true (fits && slots && whole && leb o maxRecord) (leb a maxArea) e in
-    let (r₂, e₄) = and-true (fits && slots && whole) (leb o maxRecord) r₁ in
-    let (r₃, e₃) = and-true (fits && slots) whole r₂ in
-    let (e₁, e₂) = and-true fits slots r₃ in
-    record { layout = leb-true l maxLayout e₁; slots = leb-true s (slotWidth * maxSlots) e₂; output = leb-true o maxRecord e₄ }
 
 -- ---- line 5
 

@@ -18,11 +18,11 @@ use Rattle.layout.proofs.Laws.{bound, ok-inj}
 use Rattle.layout.proofs.Decoded.{word-shape, word-count, word-slotless, no-field}
 use Rattle.record.specs.declared.Cursor.{Cursor}
 use Rattle.record.specs.Bytes.{storeAt}
-use Rattle.record.specs.Table.{Slot, slotsOf, slotWidth, shown}
+use Rattle.record.specs.declared.slots.Slot.{Slot}
+use Rattle.record.specs.Table.{slotsOf, slotWidth, shown}
 use Rattle.record.specs.Geometry.{amount, bytesFor}
 use Rattle.record.specs.Packing.{stored, argumentFits, nextSlot}
-use Rattle.record.specs.declared.slots.Argument.{Argument}
-use Rattle.record.specs.Slots.{slotOf, slotAt}
+use Rattle.record.specs.Slots.{slotAt}
 use Rattle.arguments.specs.Measure.{origin, past, advance, stepped, checked, HasRoom}
 use Rattle.packer.specs.Writing.{put, written, Storable, Movable, Puttable, Writable}
 use Rattle.record.proofs.SlotLaws.{next-slot}
@@ -66,12 +66,12 @@ module _ (area ns : List ℕ) (k : ℕ) (c : Cursor) (n : Count) (size : ℕ) wh
           limit = p .limit;
         }
 
-    module _ (a : Argument) (same : slotOf a ≡ slotAt ns k) (items : ℕ) (e : items ≡ amount n (a .len)) where
-      pub storable : Storable area s items (slotOf a) (c .at) size
+    module _ (a : Slot) (same : a ≡ slotAt ns k) (items : ℕ) (e : items ≡ amount n (a .len)) where
+      pub storable : Storable area s items a (c .at) size
       storable = rw e (subst (λ (t : Slot). Storable area s (amount n (t .len)) t (c .at) size) (sym same) storable-slot)
 
       pub put-data : (bytes : ℕ) → bytes ≡ bytesFor s items → (r : Cursor) → r ≡ past c bytes
-          → (out out′ : List ℕ) → out′ ≡ storeAt out (c .at) (stored s items (shown area (slotOf a) .items))
+          → (out out′ : List ℕ) → out′ ≡ storeAt out (c .at) (stored s items (shown area a .items))
           → (r ≡ advance c (Data s) n (slotAt ns k .len)) × (out′ ≡ put area (slotAt ns k) out c (Data s) n)
       unfolding put
       put-data bytes b r q out out′ o =

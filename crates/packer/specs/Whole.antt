@@ -6,7 +6,7 @@ use lib.Dec.{leb}
 use Rattle.layout.specs.declared.Field.{Field}
 use Rattle.layout.specs.declared.Refusal.the-variants.{NoRoom}
 use Rattle.layout.specs.Refusals.{Result, ok, demand, _>>=_}
-use Rattle.record.specs.Table.{Slot}
+use Rattle.record.specs.declared.slots.Slot.{Slot}
 use Rattle.record.specs.Packing.{argumentsFit, filled, packed}
 
 -- the last lines of `packs`

@@ -15,7 +15,8 @@ use Rattle.layout.specs.declared.Field.{Field}
 use Rattle.layout.specs.Words.{slotsTaken, decoded, FitCode}
 use Rattle.record.specs.declared.Cursor.{Cursor}
 use Rattle.record.specs.Bytes.{storeAt}
-use Rattle.record.specs.Table.{Slot, slotsOf, shown, maxRecord}
+use Rattle.record.specs.declared.slots.Slot.{Slot}
+use Rattle.record.specs.Table.{slotsOf, shown, maxRecord}
 use Rattle.record.specs.Geometry.{amount, bytesFor, gotoIn}
 use Rattle.record.specs.Packing.{stored, nextSlot, kindFits, digitsFit, insideArea}
 use Rattle.record.specs.Slots.{slotAt}

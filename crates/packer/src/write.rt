@@ -8,7 +8,7 @@ ghost use Rattle.record.specs.Bytes.{storeAt};
 ghost use Rattle.record.specs.Table.{slotsOf, shown};
 ghost use Rattle.record.specs.Geometry.{bytesFor};
 ghost use Rattle.record.specs.Packing.{stored};
-ghost use Rattle.record.specs.Slots.{slotOf, slotAt};
+ghost use Rattle.record.specs.Slots.{slotAt};
 ghost use Rattle.arguments.specs.Measure.{origin, moved, advance};
 ghost use Rattle.packer.specs.Writing.{putMove, put, written, Storable, Movable, Puttable, Writable};
 use layout::Code;
@@ -16,12 +16,12 @@ use layout::Count;
 use layout::Motion;
 use layout::Shape;
 use record::Cursor;
-use record::slots::Argument;
+use record::slots::Slot;
 
 // n items of a string; tells how many bytes they fill.
-fn store_text(n: usize, a: Argument, area: &[u8], out: &mut [u8], at: usize, pad: u8) -> usize
-    requires { ⌜ Storable (now area) (Text pad) n (slotOf a) at (length (now out)) ⌝ }
-    ensures { λ r. ⌜ (r ≡ bytesFor (Text pad) n) × (now (out .exit) ≡ storeAt (now (out .entry)) at (stored (Text pad) n (shown (now (area .entry)) (slotOf a) .items))) ⌝ }
+fn store_text(n: usize, a: Slot, area: &[u8], out: &mut [u8], at: usize, pad: u8) -> usize
+    requires { ⌜ Storable (now area) (Text pad) n a at (length (now out)) ⌝ }
+    ensures { λ r. ⌜ (r ≡ bytesFor (Text pad) n) × (now (out .exit) ≡ storeAt (now (out .entry)) at (stored (Text pad) n (shown (now (area .entry)) a .items))) ⌝ }
 {
     codec::text::store(out, at, area, a.start, a.len, n, pad);
     n
@@ -30,15 +30,15 @@ fn store_text(n: usize, a: Argument, area: &[u8], out: &mut [u8], at: usize, pad
 // n digits.
 fn store_digits(
     n: usize,
-    a: Argument,
+    a: Slot,
     area: &[u8],
     out: &mut [u8],
     at: usize,
     hex: bool,
     high: bool,
 ) -> usize
-    requires { ⌜ Storable (now area) (Digits hex high) n (slotOf a) at (length (now out)) ⌝ }
-    ensures { λ r. ⌜ (r ≡ bytesFor (Digits hex high) n) × (now (out .exit) ≡ storeAt (now (out .entry)) at (stored (Digits hex high) n (shown (now (area .entry)) (slotOf a) .items))) ⌝ }
+    requires { ⌜ Storable (now area) (Digits hex high) n a at (length (now out)) ⌝ }
+    ensures { λ r. ⌜ (r ≡ bytesFor (Digits hex high) n) × (now (out .exit) ≡ storeAt (now (out .entry)) at (stored (Digits hex high) n (shown (now (area .entry)) a .items))) ⌝ }
 {
     codec::digits::store(out, at, area, a.start, a.len, n, hex, high);
     record::bytes_for(Shape::Digits(hex, high), n)
@@ -47,15 +47,15 @@ fn store_digits(
 // n integers.
 fn store_integers(
     n: usize,
-    a: Argument,
+    a: Slot,
     area: &[u8],
     out: &mut [u8],
     at: usize,
     w: usize,
     big: bool,
 ) -> usize
-    requires { ⌜ Storable (now area) (Integers w big) n (slotOf a) at (length (now out)) ⌝ }
-    ensures { λ r. ⌜ (r ≡ bytesFor (Integers w big) n) × (now (out .exit) ≡ storeAt (now (out .entry)) at (stored (Integers w big) n (shown (now (area .entry)) (slotOf a) .items))) ⌝ }
+    requires { ⌜ Storable (now area) (Integers w big) n a at (length (now out)) ⌝ }
+    ensures { λ r. ⌜ (r ≡ bytesFor (Integers w big) n) × (now (out .exit) ≡ storeAt (now (out .entry)) at (stored (Integers w big) n (shown (now (area .entry)) a .items))) ⌝ }
 {
     codec::integers::store(out, at, area, a.start, n, w, big);
     n * w
@@ -63,9 +63,9 @@ fn store_integers(
 
 // n items of a value of the type number d; tells how many bytes they fill. A call with constants for each type, so that the compiler makes
 // code of its own for each, and tests the type once.
-fn store_value(d: u32, n: usize, a: Argument, area: &[u8], out: &mut [u8], at: usize) -> usize
-    requires { ⌜ (d ≤ lastData) × Storable (now area) (shapeNumbered d) n (slotOf a) at (length (now out)) ⌝ }
-    ensures { λ r. ⌜ (r ≡ bytesFor (shapeNumbered d) n) × (now (out .exit) ≡ storeAt (now (out .entry)) at (stored (shapeNumbered d) n (shown (now (area .entry)) (slotOf a) .items))) ⌝ }
+fn store_value(d: u32, n: usize, a: Slot, area: &[u8], out: &mut [u8], at: usize) -> usize
+    requires { ⌜ (d ≤ lastData) × Storable (now area) (shapeNumbered d) n a at (length (now out)) ⌝ }
+    ensures { λ r. ⌜ (r ≡ bytesFor (shapeNumbered d) n) × (now (out .exit) ≡ storeAt (now (out .entry)) at (stored (shapeNumbered d) n (shown (now (area .entry)) a .items))) ⌝ }
 {
     match d {
         0 => store_text(n, a, area, out, at, 0),

@@ -1,11 +1,11 @@
 -- What each test of a call says of the reading, and what each way out of a call leaves.
-use Prim.Native.Nat.{ℕ, _+_, _-_, _*_, _/_, _%_, _≤_, _<_}
+use Prim.Native.Nat.{ℕ, _+_, _-_, _*_, _/_, _≤_, _<_}
 use native.Mathlib.Omega.{arith}
 use mathlib.Core.Path.{_≡_, ap, _∙_}
 use mathlib.Core.Bool.{true, false}
 use mathlib.Core.List.{List}
 use borrow.Author.Tests.{leb-true, le-leb, lt-leb, lt-ltb, le-ltb}
-use lib.Dec.{eqb, leb}
+use lib.Dec.{leb}
 use lib.ListN.{length}
 use Rattle.layout.specs.declared.Refusal.{Refusal}
 use Rattle.layout.specs.declared.Refusal.the-variants.{BadSize, WrongSlots, NoRoom}
@@ -22,6 +22,8 @@ use Rattle.record.specs.Packing.{accepted, refusal}
 use Rattle.record.specs.Reading.{valuesFrom, reads, Read, putInto, read}
 use Rattle.reader.specs.Sizes.{lentFits}
 use Rattle.reader.specs.Tables.{Room}
+use Rattle.record.specs.Geometry.{lengthsFit}
+use Rattle.record.proofs.Sizes.{Sized, sized}
 use Rattle.record.proofs.Readings.{values-few}
 use Rattle.reader.specs.Checks.{checked, fitting}
 
@@ -36,17 +38,15 @@ pub record Fit (layout slots bytes area mark : ℕ) : Type 0 where
 
 pub fit : {layout slots bytes area mark : ℕ} → lentFits layout slots bytes area mark ≡ true → Fit layout slots bytes area mark
 fit {layout} {slots} {bytes} {area} {mark} h =
-    let start = and-true _ (leb mark area) h in
-    let limit = and-true _ (leb area maxArea) (start .0) in
-    let whole = and-true _ (leb bytes maxRecord) (limit .0) in
-    let table = and-true (leb layout maxLayout) (leb slots (slotWidth * maxSlots)) (and-true _ (eqb (slots % slotWidth) 0) (whole .0) .0) in
+    let (lengths, start) = and-true (lengthsFit layout slots bytes area) (leb mark area) h in
+    let all : Sized layout slots bytes area = sized lengths in
     record {
       test = h;
-      text = leb-true layout maxLayout (table .0);
-      table = leb-true slots (slotWidth * maxSlots) (table .1);
-      whole = leb-true bytes maxRecord (whole .1);
-      limit = leb-true area maxArea (limit .1);
-      start = leb-true mark area (start .1);
+      text = all .text;
+      table = all .lent .table;
+      whole = all .whole;
+      limit = all .lent .limit;
+      start = leb-true mark area start;
     }
 
 -- ---- lines 5 and 11

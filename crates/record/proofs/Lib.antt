@@ -3,6 +3,7 @@ pub mod Bytes
 pub mod Bounds
 pub mod Stores
 pub mod Tables
+pub mod Sizes
 pub mod SlotLaws
 pub mod NumberLaws
 pub mod Fields

@@ -1,9 +1,9 @@
 -- A reading looks at the number of the slots that it is lent, and not at what they hold: it sets the first of them, and the others stay.
-use Prim.Native.Nat.{ℕ, suc, _+_, _-_, _*_, _/_, _%_, _≤_}
+use Prim.Native.Nat.{ℕ, suc, _+_, _-_, _*_, _/_, _≤_}
 use native.Mathlib.Nat.{zero-add, mul-comm}
 use native.Mathlib.Omega.{arith}
 use mathlib.Core.Path.{_≡_, refl, sym, ap, _∙_, subst}
-use mathlib.Core.Bool.{Bool, true, false, _&&_}
+use mathlib.Core.Bool.{Bool, true, false}
 use mathlib.Core.List.{List, [], _∷_, _++_}
 use lib.Dec.{eqb, leb}
 use lib.ListN.{length, take, drop}
@@ -15,15 +15,16 @@ use Rattle.layout.specs.declared.Count.{Count}
 use Rattle.layout.specs.declared.Field.{Field}
 use Rattle.layout.specs.declared.Refusal.the-variants.{NoRoom}
 use Rattle.layout.specs.Refusals.{if_then_else_, numberOf, Result, ok, refused}
-use Rattle.layout.specs.Layout.{maxLayout, fieldsOf, slotCount}
+use Rattle.layout.specs.Layout.{fieldsOf, slotCount}
 use Rattle.layout.proofs.Laws.{bound, demanded, ok-inj, no-number-zero}
 use Rattle.record.specs.declared.Answer.{Answer}
 use Rattle.record.specs.Bytes.{part, storeAt}
-use Rattle.record.specs.Table.{maxSlots, maxRecord, maxArea, slotWidth, slotsOf, Value, areaBytes, slotNumbers, valueBytes}
+use Rattle.record.specs.Table.{maxSlots, slotWidth, slotsOf, Value, areaBytes, slotNumbers, valueBytes}
 use Rattle.record.specs.Geometry.{amount, bytesFor, itemsIn, movedIn, sizesFit}
 use Rattle.record.specs.Reading.{Read, loaded, valuesFrom, reads, putInto, readEffect, read}
 use Rattle.record.proofs.Bytes.{and-true}
 use Rattle.record.proofs.Tables.{length-slots}
+use Rattle.record.proofs.Sizes.{Sized, sized}
 
 -- ---- no field shows a value but those that take a slot
 
@@ -48,12 +49,6 @@ values-few bs at (f ∷ fs) = few-step bs at (f .code) (f .unsigned) (f .count) 
 
 -- ---- a reading sets no more slots than it is lent, nor than a call may be lent
 
-pub slots-within : (layout slots bs area : List ℕ) → sizesFit layout slots bs area ≡ true → length slots ≤ slotWidth * maxSlots
-slots-within layout slots bs area e = leb-true (length slots) (slotWidth * maxSlots) (second (leb (length layout) maxLayout) (leb (length slots) (slotWidth * maxSlots)) (eqb (length slots % slotWidth) 0) (leb (length bs) maxRecord) (leb (length area) maxArea) e)
-  where
-    second : (a b c d e : Bool) → ((((a && b) && c) && d) && e) ≡ true → b ≡ true
-    second a b c d e h = and-true a b (and-true (a && b) c (and-true ((a && b) && c) d (and-true (((a && b) && c) && d) e h .0) .0) .0) .1
-
 pub record Few (slots : List ℕ) (n : ℕ) : Type 0 where
   pub lent : n * slotWidth ≤ length slots
   pub most : n ≤ maxSlots
@@ -69,8 +64,8 @@ reads-few layout bs slots area mark vs e =
     let (enough, e₃) = demanded _ _ _ _ vs e₂ in
     let shown : List Value = valuesFrom bs 0 fs in
     let (_, e₄) = demanded (leb (mark + length (valueBytes shown)) (length area)) NoRoom 0 (λ _. ok shown) vs e₃ in
-    let within : length slots ≤ slotWidth * maxSlots = slots-within layout slots bs area (and-true (sizesFit layout slots bs area) (leb mark (length area)) fit .0) in
-    few-by slots (slotCount fs) (length vs) within (leb-true (slotCount fs) (length (slotsOf slots)) enough) (subst (λ (ws : List Value). length ws ≤ slotCount fs) {x = shown} (ok-inj e₄) (values-few bs 0 fs))
+    let all : Sized (length layout) (length slots) (length bs) (length area) = sized (and-true (sizesFit layout slots bs area) (leb mark (length area)) fit .0) in
+    few-by slots (slotCount fs) (length vs) (all .lent .table) (leb-true (slotCount fs) (length (slotsOf slots)) enough) (subst (λ (ws : List Value). length ws ≤ slotCount fs) {x = shown} (ok-inj e₄) (values-few bs 0 fs))
 
 -- ---- what stood in the slots does not count
 

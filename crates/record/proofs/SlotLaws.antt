@@ -1,14 +1,15 @@
--- A slot by its number: the numbers three by three.
+-- A slot by its number, read and set: the numbers three by three.
 use Prim.Native.Nat.{ℕ, suc, _+_, _*_, _≤_}
 use native.Mathlib.Omega.{arith}
 use mathlib.Core.Path.{_≡_, sym, ap, _∙_}
-use mathlib.Core.List.{List, _∷_}
-use lib.ListN.{length, getD, drop}
-use lib.Seq.{drop-cons}
+use mathlib.Core.List.{List, [], _∷_}
+use lib.ListN.{length, getD, set, drop}
+use lib.Seq.{drop-cons, sets-eq}
 use Rattle.record.proofs.Tables.{drop-slots}
-use Rattle.record.specs.Table.{Slot, slotsOf, slotWidth}
+use Rattle.record.specs.declared.slots.Slot.{Slot}
+use Rattle.record.specs.Table.{slotsOf, slotWidth}
 use Rattle.record.specs.Packing.{nextSlot}
-use Rattle.record.specs.Slots.{slotAt}
+use Rattle.record.specs.Slots.{slotAt, slotSet}
 
 three : (ns : List ℕ) (i : ℕ) → i + 3 ≤ length ns → drop i ns ≡ getD ns i 0 ∷ getD ns (i + 1) 0 ∷ getD ns (i + 2) 0 ∷ drop (i + 3) ns
 three ns i h =
@@ -18,7 +19,15 @@ three ns i h =
     rw (← e₁, ← e₂, ← e₃)
     (drop-cons ns i 0 (omega arith) ∙ ap (λ (l : List ℕ). getD ns i 0 ∷ l) (drop-cons ns (suc i) 0 (omega arith) ∙ ap (λ (l : List ℕ). getD ns (suc i) 0 ∷ l) (drop-cons ns (suc (suc i)) 0 (omega arith))))
 
--- slot number k is made of the numbers from 3k on
+-- the stores that set slot number k
+pub set-numbers : (ns : List ℕ) (k x y z : ℕ) → slotWidth * k + slotWidth ≤ length ns
+    → set (set (set ns (slotWidth * k) x) (slotWidth * k + 1) y) (slotWidth * k + 2) z ≡ slotSet ns k (record { kind = x; start = y; len = z })
+set-numbers ns k x y z h =
+    let second : slotWidth * k + 1 ≡ suc (slotWidth * k) = omega arith in
+    let third : slotWidth * k + 2 ≡ suc (suc (slotWidth * k)) = omega arith in
+    rw (second, third) (sets-eq (x ∷ y ∷ z ∷ []) ns (slotWidth * k) h)
+
+-- slot number k is made of the numbers from its place on
 pub next-slot : (ns : List ℕ) (k : ℕ) → slotWidth * k + slotWidth ≤ length ns → nextSlot (drop k (slotsOf ns)) ≡ slotAt ns k
 unfolding slotsOf slotAt
 next-slot ns k h = ap nextSlot (drop-slots k ns ∙ ap slotsOf (three ns (slotWidth * k) h))

@@ -5,7 +5,8 @@ use mathlib.Core.Path.{_≡_, refl, sym, ap, _∙_}
 use mathlib.Core.List.{List, [], _∷_}
 use lib.ListN.{length, take, drop}
 use lib.Seq.{drop-nil}
-use Rattle.record.specs.Table.{Slot, slotsOf, slotWidth}
+use Rattle.record.specs.declared.slots.Slot.{Slot}
+use Rattle.record.specs.Table.{slotsOf, slotWidth}
 
 pub length-slots : (ns : List ℕ) → length (slotsOf ns) ≡ length ns / slotWidth
 unfolding slotsOf

@@ -59,15 +59,18 @@ movedIn size Goto n at = min (amount n size) size
 abbrev pub gotoIn : ℕ → Count → ℕ
 gotoIn highest n = amount n highest
 
--- ---- line 1 of the table, as far as both calls share it
+-- ---- what is lent keeps to its size, by lengths; where this does not hold, a call is refused with 1
+
+-- layout, and record or output buffer
+abbrev pub recordFits : ℕ → ℕ → Bool
+recordFits layout bytes = leb layout maxLayout && leb bytes maxRecord
+
+-- the numbers of the slots, which are whole, and the area
+abbrev pub tableFits : ℕ → ℕ → Bool
+tableFits slots area = leb slots (slotWidth * maxSlots) && eqb (slots % slotWidth) 0 && leb area maxArea
 
 abbrev pub lengthsFit : ℕ → ℕ → ℕ → ℕ → Bool
-lengthsFit layout slots bytes area =
-    leb layout maxLayout
-    && leb slots (slotWidth * maxSlots)
-    && eqb (slots % slotWidth) 0
-    && leb bytes maxRecord
-    && leb area maxArea
+lengthsFit layout slots bytes area = recordFits layout bytes && tableFits slots area
 
 abbrev pub sizesFit : List ℕ → List ℕ → List ℕ → List ℕ → Bool
 sizesFit layout slots bytes area = lengthsFit (length layout) (length slots) (length bytes) (length area)

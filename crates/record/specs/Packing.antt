@@ -16,10 +16,12 @@ use Rattle.layout.specs.declared.Refusal.{Refusal}
 use Rattle.layout.specs.declared.Refusal.the-variants.{BadSize, WrongSlots, NotSet, BadSlot, WrongKind, WrongAmount, BadDigit, NoRoom}
 use Rattle.layout.specs.Refusals.{if_then_else_, numberOf, Result, ok, refused, _>>=_, demand}
 use Rattle.layout.specs.Layout.{isDecimal, fieldsOf, slotCount}
+use Rattle.record.specs.declared.slots.Slot.{Slot}
 use Rattle.record.specs.declared.Answer.{Answer}
 use Rattle.record.specs.declared.Cursor.{Cursor}
 use Rattle.record.specs.Bytes.{storeAt, fit, ceilDiv, pieces, join, digits, number, ordered}
-use Rattle.record.specs.Table.{Slot, slotsOf, itemSize, shown}
+use Rattle.record.specs.Table.{unset, slotsOf, shown}
+use Rattle.record.specs.Slots.{valueEnd, isInside}
 use Rattle.record.specs.Geometry.{amount, base, perByte, backFrom, gotoIn, sizesFit}
 
 -- ---- what a field stores of its argument's items
@@ -131,14 +133,14 @@ digitsFit (Integers w big) n cs = true
 
 -- "A value is inside the area when its start plus its bytes is at most the area's length"
 abbrev pub insideArea : List ℕ → Slot → Bool
-insideArea area a = leb (a .start + a .len * itemSize (a .kind)) (length area)
+insideArea area a = leb (valueEnd a) (length area)
 
 -- slot number i serves a field: the lines in number order
 unfoldable pub argumentFits : List ℕ → Shape → Count → ℕ → Slot → Result (Unit {0})
 unfolding shown digitsFit
 argumentFits area s n i a = do
-  _ ← demand (not (eqb (a .kind) 0)) NotSet i
-  _ ← demand (leb (a .kind) 3 && insideArea area a) BadSlot i
+  _ ← demand (not (eqb (a .kind) unset)) NotSet i
+  _ ← demand (isInside a (length area)) BadSlot i
   _ ← demand (kindFits s (a .kind)) WrongKind i
   _ ← demand (amountFits s n (a .len)) WrongAmount i
   demand (digitsFit s (amount n (a .len)) (shown area a .items)) BadDigit i

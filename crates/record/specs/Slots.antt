@@ -1,21 +1,30 @@
--- A slot as the code takes it out of the lent numbers.
+-- Slots in a run of numbers.
 use Prim.Native.Nat.{ℕ, _+_, _*_, _<_}
 use mathlib.Core.Path.{_≡_}
-use mathlib.Core.List.{List}
+use mathlib.Core.Bool.{Bool, _&&_}
+use mathlib.Core.List.{List, [], _∷_}
 use lib.ListN.{getD}
-use Rattle.record.specs.Table.{Slot, slotWidth}
-use Rattle.record.specs.declared.slots.Argument.{Argument}
+use lib.Dec.{leb}
+use Rattle.record.specs.declared.slots.Slot.{Slot}
+use Rattle.record.specs.Bytes.{storeAt}
+use Rattle.record.specs.Table.{slotWidth, numberLimit, maxKind, itemSize}
 
--- the slot of the definitions that the code's argument is
-abbrev pub slotOf : Argument → Slot
-slotOf a = record { kind = a .kind; start = a .start; len = a .len }
-
--- slot number k of a lent run of numbers
+-- slot number k, as the numbers have it, and as code reads it: numbers of 32 bits; and the numbers with slot number k set
 unfoldable pub slotAt : List ℕ → ℕ → Slot
 slotAt ns k = record { kind = getD ns (slotWidth * k) 0; start = getD ns (slotWidth * k + 1) 0; len = getD ns (slotWidth * k + 2) 0 }
 
--- the code's numbers stay far from wrapping
-pub record SlotAt (ns : List ℕ) (k : ℕ) (a : Argument) : Type 0 where
-  pub same : slotOf a ≡ slotAt ns k
-  pub start : a .start < 4294967296
-  pub len : a .len < 4294967296
+pub record SlotAt (ns : List ℕ) (k : ℕ) (s : Slot) : Type 0 where
+  pub same : s ≡ slotAt ns k
+  pub start : s .start < numberLimit
+  pub len : s .len < numberLimit
+
+abbrev pub slotSet : List ℕ → ℕ → Slot → List ℕ
+slotSet ns k s = storeAt ns (slotWidth * k) (s .kind ∷ s .start ∷ s .len ∷ [])
+
+-- the place after a slot's value
+abbrev pub valueEnd : Slot → ℕ
+valueEnd s = s .start + s .len * itemSize (s .kind)
+
+-- the kind is known, and the value lies inside an area of so many bytes; where this does not hold, the slot is refused with 7
+abbrev pub isInside : Slot → ℕ → Bool
+isInside s area = leb (s .kind) maxKind && leb (valueEnd s) area

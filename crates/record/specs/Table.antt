@@ -4,6 +4,7 @@ use mathlib.Core.List.{List, [], _∷_, map}
 use lib.ListN.{length, take, drop}
 use lib.Dec.{eqb}
 use Rattle.layout.specs.Refusals.{if_then_else_}
+use Rattle.record.specs.declared.slots.Slot.{Slot}
 use Rattle.record.specs.Bytes.{join, bigEndian, bigEndianIn}
 
 -- ---- sizes (the layout's and the count's stand in the crate `layout`)
@@ -20,19 +21,32 @@ maxRecord = 4096
 abbrev pub maxArea : ℕ
 maxArea = 65536
 
--- the numbers of a slot: kind, start, length
+-- the numbers of a slot: kind, start, length; each has 32 bits
 abbrev pub slotWidth : ℕ
 slotWidth = 3
 
+abbrev pub numberLimit : ℕ
+numberLimit = 4294967296
+
 -- ---- slots
 
--- Kind 0 is "not set", 1 a string, 2 signed integers, 3 unsigned integers; `len` is 01's length, in bytes or integers.
-pub record Slot : Type 0 where
-  pub kind : ℕ
-  pub start : ℕ
-  pub len : ℕ
+-- the kinds: nothing set, a string, signed integers, unsigned integers; and the highest
+abbrev pub unset : ℕ
+unset = 0
 
--- the slots of a lent run of numbers
+abbrev pub string : ℕ
+string = 1
+
+abbrev pub signed : ℕ
+signed = 2
+
+abbrev pub unsigned : ℕ
+unsigned = 3
+
+abbrev pub maxKind : ℕ
+maxKind = unsigned
+
+-- the slots of a lent run of numbers (a slot is declared in src/slots.rt; its `len` counts bytes or integers)
 unfoldable pub slotsOf : List ℕ → List Slot
 slotsOf [] = []
 slotsOf (k ∷ []) = []
@@ -52,7 +66,7 @@ abbrev pub integerSize : ℕ
 integerSize = 8
 
 abbrev pub itemSize : ℕ → ℕ
-itemSize kind = if eqb kind 1 then 1 else integerSize
+itemSize kind = if eqb kind string then 1 else integerSize
 
 -- integers as the area holds them; and the n integers that stand at the front of bs
 abbrev pub integerBytes : List ℕ → List ℕ
@@ -64,14 +78,14 @@ integersIn n bs = bigEndianIn integerSize n bs
 -- a value's bytes in the area
 unfoldable pub areaBytes : Value → List ℕ
 unfolding bigEndian
-areaBytes v = if eqb (v .kind) 1 then v .items else integerBytes (v .items)
+areaBytes v = if eqb (v .kind) string then v .items else integerBytes (v .items)
 
 -- the value that a slot shows
 unfoldable pub shown : List ℕ → Slot → Value
 unfolding bigEndianIn
 shown area s =
     let bs = drop (s .start) area in
-    record { kind = s .kind; items = if eqb (s .kind) 1 then take (s .len) bs else integersIn (s .len) bs }
+    record { kind = s .kind; items = if eqb (s .kind) string then take (s .len) bs else integersIn (s .len) bs }
 
 -- ---- values put into a table: one after the other in the area, from the place `start` on, without gaps
 

@@ -5,7 +5,7 @@ ghost use Rattle.layout.specs.Refusals.{lineOf, numberOf};
 ghost use Rattle.layout.specs.Words.{lastData, FitCode, FitCount, shapeNumbered};
 ghost use Rattle.layout.specs.declared.Code.the-variants.{Data};
 ghost use Rattle.layout.specs.declared.Motion.the-variants.{Skip, Goto};
-ghost use Rattle.record.specs.Geometry.{lengthsFit, amount, perByte, bytesFor, backFrom, movedIn, gotoIn};
+ghost use Rattle.record.specs.Geometry.{recordFits, tableFits, lengthsFit, amount, perByte, bytesFor, backFrom, movedIn, gotoIn};
 ghost use Rattle.record.specs.Packing.{accepted, refusal};
 use layout::Count;
 use layout::Refusal;
@@ -23,25 +23,40 @@ pub const MAX_AREA: usize = 65536;
 
 pub const SLOT_WIDTH: usize = 3;
 
-const MAX_NUMBERS: usize = SLOT_WIDTH * MAX_SLOTS;
+// The numbers of the slots that a call may be lent.
+pub const MAX_NUMBERS: usize = SLOT_WIDTH * MAX_SLOTS;
 
-// Line 1 of the table is not due, for what both calls are lent: by their lengths.
-pub fn lengths_fit(layout: usize, slots: usize, bytes: usize, area: usize) -> bool
-    ensures { λ r. ⌜ r ≡ lengthsFit layout slots bytes area ⌝ }
+// A layout and a record, or an output buffer, of so many bytes keep to their sizes.
+pub fn record_fits(layout: usize, bytes: usize) -> bool
+    ensures { λ r. ⌜ r ≡ recordFits layout bytes ⌝ }
 {
     if layout::MAX_LAYOUT < layout {
         return false;
     }
+    bytes <= MAX_RECORD
+}
+
+// So many numbers of slots are whole slots and not too many, and an area of so many bytes keeps to its size.
+pub fn table_fits(slots: usize, area: usize) -> bool
+    ensures { λ r. ⌜ r ≡ tableFits slots area ⌝ }
+{
     if MAX_NUMBERS < slots {
         return false;
     }
     if slots % SLOT_WIDTH != 0 {
         return false;
     }
-    if MAX_RECORD < bytes {
+    area <= MAX_AREA
+}
+
+// Both; else a call is refused with 1.
+pub fn lengths_fit(layout: usize, slots: usize, bytes: usize, area: usize) -> bool
+    ensures { λ r. ⌜ r ≡ lengthsFit layout slots bytes area ⌝ }
+{
+    if !record_fits(layout, bytes) {
         return false;
     }
-    area <= MAX_AREA
+    table_fits(slots, area)
 }
 
 // What a call answers: 0 and two more numbers, or the number of a refusal, its place, and 0.

@@ -1,47 +1,66 @@
-// A slot taken out of the lent numbers, and the value that it shows.
+// Slots in a run of numbers: reading one, setting one, and whether its value lies in the area.
 ghost use mathlib.Core.Path.{_≡_};
-ghost use mathlib.Core.Bool.{_&&_};
 ghost use Prim.Native.Nat.{_+_, _*_, _≤_, _<_};
-ghost use lib.Dec.{leb};
 ghost use lib.ListN.{length};
-ghost use Rattle.record.specs.Table.{slotWidth, itemSize};
-ghost use Rattle.record.specs.Slots.{SlotAt};
+ghost use Rattle.record.specs.Table.{slotWidth, numberLimit, itemSize};
+ghost use Rattle.record.specs.Slots.{SlotAt, slotSet, isInside};
 use super::SLOT_WIDTH;
+use super::numbers::INTEGER_SIZE;
 
-// A slot, by value.
-pub struct Argument {
+// What a slot says of its value.
+pub struct Slot {
     pub kind: usize,
     pub start: usize,
     pub len: usize,
 }
 
+// The kinds, and the highest. (Kind 0: nothing is set.)
+pub const STRING: usize = 1;
+
+pub const SIGNED: usize = 2;
+
+pub const UNSIGNED: usize = 3;
+
+pub const MAX_KIND: usize = UNSIGNED;
+
 // Slot number k.
-pub fn slot_at(slots: &[u32], k: usize) -> Argument
+pub fn slot_at(slots: &[u32], k: usize) -> Slot
     requires { ⌜ slotWidth * k + slotWidth ≤ length (now slots) ⌝ }
     ensures { λ r. ⌜ SlotAt (now (slots .entry)) k r ⌝ }
 {
     let at = SLOT_WIDTH * k;
-    Argument {
+    Slot {
         kind: slots[at] as usize,
         start: slots[at + 1] as usize,
         len: slots[at + 2] as usize,
     }
 }
 
-// The bytes that an item of a kind takes in the area.
-fn item_size(kind: usize) -> usize
-    ensures { λ r. ⌜ r ≡ itemSize kind ⌝ }
+// Sets slot number k.
+pub fn set_slot(slots: &mut [u32], k: usize, kind: u32, start: usize, len: usize)
+    requires { ⌜ (slotWidth * k + slotWidth ≤ length (now slots)) × (start < numberLimit) × (len < numberLimit) ⌝ }
+    ensures { λ _. ⌜ now (slots .exit) ≡ slotSet (now (slots .entry)) k (record { kind = kind; start = start; len = len }) ⌝ }
 {
-    if kind == 1 { 1 } else { 8 }
+    let at = SLOT_WIDTH * k;
+    slots[at] = kind;
+    slots[at + 1] = start as u32;
+    slots[at + 2] = len as u32;
 }
 
-// Line 7 is not due, in an area of so many bytes.
-pub fn is_inside(a: Argument, area: usize) -> bool
-    requires { ⌜ (a .start < 4294967296) × (a .len < 4294967296) ⌝ }
-    ensures { λ r. ⌜ r ≡ (leb (a .kind) 3 && leb (a .start + a .len * itemSize (a .kind)) area) ⌝ }
+// The bytes that an item of a kind takes in the area.
+pub fn item_size(kind: usize) -> usize
+    ensures { λ r. ⌜ r ≡ itemSize kind ⌝ }
+{
+    if kind == STRING { 1 } else { INTEGER_SIZE }
+}
+
+// The kind is known, and the value lies inside an area of so many bytes; else the slot is refused with 7.
+pub fn is_inside(a: Slot, area: usize) -> bool
+    requires { ⌜ (a .start < numberLimit) × (a .len < numberLimit) ⌝ }
+    ensures { λ r. ⌜ r ≡ isInside a area ⌝ }
 {
     let kind = a.kind;
-    if 3 < kind {
+    if MAX_KIND < kind {
         return false;
     }
     a.start + a.len * item_size(kind) <= area

@@ -1,20 +1,19 @@
 -- Each call over slots is the core call on their numbers: of at most 64 slots it is made over the first part of the scratch, and of more it is refused.
-use mathlib.Core.Path.{_≡_, refl, sym, ap, _∙_}
-use Prim.Native.Nat.{ℕ, _+_, _*_, _%_, _<_, _≤_}
+use mathlib.Core.Path.{_≡_, sym, ap, _∙_}
+use Prim.Native.Nat.{ℕ, _*_, _<_, _≤_}
 use native.Mathlib.Nat.{lt-of-not-le}
 use native.Mathlib.Omega.{arith}
 use native.Mathlib.Decide.{decLe}
-use mathlib.Core.Bool.{Bool, true, false, _&&_}
+use mathlib.Core.Bool.{false}
 use mathlib.Core.List.{List, _++_, append-nil}
 use lib.ListN.{length, take, drop}
-use lib.Dec.{eqb, leb}
 use lib.Seq.{take-at, take-length, drop-length, length-take-le}
 use borrow.Author.Tests.{le-leb, lt-leb}
 use Rattle.layout.specs.declared.Refusal.the-variants.{BadSize}
 use Rattle.record.specs.declared.Answer.{Answer}
-use Rattle.layout.specs.Layout.{maxLayout}
 use Rattle.record.specs.Geometry.{sizesFit}
-use Rattle.record.specs.Table.{slotWidth, maxSlots, maxRecord, maxArea}
+use Rattle.record.proofs.Sizes.{too-many}
+use Rattle.record.specs.Table.{slotWidth, maxSlots}
 use Rattle.record.specs.Packing.{pack, packs, refusal}
 use Rattle.record.specs.Reading.{Read, read, reads}
 use Rattle.slots.specs.declared.Slot.{Slot}
@@ -73,25 +72,16 @@ read-front zs rest k l {a} {z} r = ap (λ (s : List ℕ). record { answer = a; s
 
 -- ---- more than 64 slots: line 1
 
-false-second : (a b c d : Bool) → (a && false && b && c && d) ≡ false
-false-second true b c d = refl
-false-second false b c d = refl
-
-too-many : (layout bytes area : List ℕ) (ss : List Slot) → 64 < length ss → sizesFit layout (numbersOf ss) bytes area ≡ false
-too-many layout bytes area ss l =
-    ap (λ (t : Bool). leb (length layout) maxLayout && t && eqb (length (numbersOf ss) % slotWidth) 0 && leb (length bytes) maxRecord && leb (length area) maxArea) (lt-leb (length (numbersOf ss)) (slotWidth * maxSlots) long)
-    ∙ false-second (leb (length layout) maxLayout) (eqb (length (numbersOf ss) % slotWidth) 0) (leb (length bytes) maxRecord) (leb (length area) maxArea)
-  where
-    long : 192 < length (numbersOf ss)
-    long = omega (arith, length-numbers ss)
+over : (layout bytes area : List ℕ) (ss : List Slot) → maxSlots < length ss → sizesFit layout (numbersOf ss) bytes area ≡ false
+over layout bytes area ss l = too-many (length layout) (length (numbersOf ss)) (length bytes) (length area) (omega (arith, length-numbers ss))
 
 pack-over : (layout area output : List ℕ) (ss : List Slot) → 64 < length ss → record { answer = refusal BadSize 0; output = output } ≡ pack layout (numbersOf ss) area output
 unfolding pack packs
-pack-over layout area output ss l = rw (too-many layout output area ss l)
+pack-over layout area output ss l = rw (over layout output area ss l)
 
 read-over : (layout bs area : List ℕ) (ss : List Slot) (mark : ℕ) → 64 < length ss → record { answer = refusal BadSize 0; slots = numbersOf ss; area = area } ≡ read layout bs (numbersOf ss) area mark
 unfolding read reads
-read-over layout bs area ss mark l = rw (too-many layout bs area ss l)
+read-over layout bs area ss mark l = rw (over layout bs area ss l)
 
 -- ---- the calls over slots
 

@@ -4,7 +4,6 @@ use Prim.Native.Nat.{_/_, _%_, _<_}
 use Rattle.layout.specs.declared.Code.the-variants.{Data}
 use Rattle.layout.specs.Words.{shapeNumbered, countFrom}
 use Rattle.record.proofs.Moves.{amount-small}
-use Rattle.record.specs.Slots.{slotOf}
 use Rattle.record.proofs.Bounds.{bytes-small}
 use Rattle.arguments.specs.Measure.{Ready}
 use Rattle.arguments.proofs.MeasureLaws.{ready-data, quick-next}

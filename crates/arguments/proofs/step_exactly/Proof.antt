@@ -4,7 +4,6 @@ use native.Mathlib.Omega.{arith}
 use Rattle.layout.specs.declared.Code.the-variants.{Data}
 use Rattle.record.proofs.Moves.{amount-small}
 use Rattle.arguments.specs.declared.Stepped.the-variants.{Next}
-use Rattle.record.specs.Slots.{slotOf}
 use Rattle.arguments.specs.Measure.{Ready, stepped}
 use Rattle.record.proofs.Bounds.{bytes-small}
 use Rattle.arguments.proofs.MeasureLaws.{step-stop, step-next}
@@ -72,7 +71,7 @@ returns-2 c =
     let a = told .before .before .before in
     rw (a .before .before .code .given .1, ← a .slot-at .ensures .same)
     (ap Next (c .store .ensures ∙ rw (c .before .bytes-for .ensures, c .before .before .amount .ensures))
-    ∙ step-next _ _ (slotOf (a .slot-at .result)) _ _ _ (sym (told .enum-told .given .1) ∙ told .before .before .check .ensures))
+    ∙ step-next _ _ (a .slot-at .result) _ _ _ (sym (told .enum-told .given .1) ∙ told .before .before .check .ensures))
 
 returns-3 : tie.Need-returns-3
 unfolding stepped

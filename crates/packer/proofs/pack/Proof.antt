@@ -8,8 +8,9 @@ use Rattle.layout.specs.Layout.{fieldsOf}
 use Rattle.layout.specs.Refusals.{refused}
 use Rattle.layout.proofs.Decoded.{Learnt, parsed-fields, parsed-refused}
 use Rattle.record.specs.Geometry.{lengthsFit}
+use Rattle.record.proofs.Sizes.{Sized, sized}
 use Rattle.layout.proofs.Places.{refused-inside}
-use Rattle.packer.proofs.WholeLaws.{pack-sizes, pack-refused, pack-slots, pack-finish, Limits, size-limits, other-slots, same-slots}
+use Rattle.packer.proofs.WholeLaws.{pack-sizes, pack-refused, pack-slots, pack-finish, other-slots, same-slots}
 use borrow.Author.Needs.{needs}
 use Rattle.packer.proofs.pack.Statement.{statement}
 use Rattle.packer.proofs.pack.Tie as tie
@@ -23,10 +24,8 @@ refused-requires c κs = search needs
 fine : (c : tie.Else1) → lengthsFit (length (c .before .before .before .before .before .before .args .layout .now)) (length (c .before .before .before .before .before .before .args .slots .now)) (length (c .before .before .before .before .before .before .args .output .now)) (length (c .before .before .before .before .before .before .args .area .now)) ≡ true
 fine c = sym (c .before .lengths-fit .ensures) ∙ not-false _ (c .if1 .left)
 
-limits : (c : tie.Else1) → Limits (length (c .before .before .before .before .before .before .args .layout .now)) (length (c .before .before .before .before .before .before .args .slots .now)) (length (c .before .before .before .before .before .before .args .output .now))
-limits c =
-    let s = c .before .before .before .before .before .before .args in
-    size-limits (length (s .layout .now)) (length (s .slots .now)) (length (s .output .now)) (length (s .area .now)) (fine c)
+limits : (c : tie.Else1) → Sized (length (c .before .before .before .before .before .before .args .layout .now)) (length (c .before .before .before .before .before .before .args .slots .now)) (length (c .before .before .before .before .before .before .args .output .now)) (length (c .before .before .before .before .before .before .args .area .now))
+limits c = sized (fine c)
 
 bad : (c : tie.After-known-told) → fieldsOf true (c .before .before .before .before .before .before .before .before .before .before .before .args .layout .now) ≡ refused (c .before .p .given .0 .0) (c .before .p .given .0 .1 .0)
 bad c = parsed-refused _ _ _ _ _ (c .before .before .before .parse .ensures) (c .before .p .given .1)
@@ -38,13 +37,13 @@ returns : tie.Need-returns
 returns c = rw (c .refused .ensures) (pack-sizes _ _ _ _ (sym (c .before .before .lengths-fit .ensures) ∙ not-true _ (c .before .if1 .taken)))
 
 parse-requires : tie.Need-parse-requires
-parse-requires c κs = (limits (c .before) .layout, search needs)
+parse-requires c κs = (limits (c .before) .text, search needs)
 
 enum-known-p : tie.Need-enum-known-p
 enum-known-p c = search needs
 
 cast-refused : tie.Need-cast-refused
-cast-refused c = omega (arith, limits (c .before .before .before .before .before) .layout, refused-inside true (c .before .before .before .before .before .before .before .before .before .before .before .args .layout .now) _ _ (bad c))
+cast-refused c = omega (arith, limits (c .before .before .before .before .before) .text, refused-inside true (c .before .before .before .before .before .before .before .before .before .before .before .args .layout .now) _ _ (bad c))
 
 refused-requires-2 : tie.Need-refused-requires-2
 refused-requires-2 c κs = search needs
@@ -66,7 +65,7 @@ finish-requires c κs =
     let i = c .before .before in
     let l = learnt (i .before) in
     let m = limits (i .before .before .before .before .before .before) in
-    (record { few = l .few; room = l .room; slots = sym (l .taken) ∙ sym (i .if2 .left); limit = m .slots }, m .output)
+    (record { few = l .few; room = l .room; slots = sym (l .taken) ∙ sym (i .if2 .left); limit = m .lent .table }, m .whole)
 
 returns-3 : tie.Need-returns-3
 returns-3 c =

@@ -1,24 +1,21 @@
--- Each test of the code is a test of `lengthsFit`.
-use borrow.Author.Tests.{le-leb, lt-leb, eq-eqb, ne-eqb}
+-- The two tests are those of `lengthsFit`.
+use mathlib.Core.Path.{sym, _∙_}
+use borrow.Author.Tests.{not-true, not-false}
+use borrow.Author.Needs.{needs}
 use Rattle.record.proofs.lengths_fit.Statement.{statement}
 use Rattle.record.proofs.lengths_fit.Tie as tie
 
+record-fits-requires : tie.Need-record-fits-requires
+record-fits-requires c κs = search needs
+
 returns : tie.Need-returns
-returns c = simp (lt-leb _ _ (c .if1 .taken))
+returns c = rw (sym (c .before .record-fits .ensures) ∙ not-true _ (c .if1 .taken))
+
+table-fits-requires : tie.Need-table-fits-requires
+table-fits-requires c κs = search needs
 
 returns-2 : tie.Need-returns-2
-returns-2 c = simp (le-leb _ _ (c .before .if1 .left), lt-leb _ _ (c .if2 .taken))
-
-returns-3 : tie.Need-returns-3
-returns-3 c = simp (le-leb _ _ (c .before .before .if1 .left), le-leb _ _ (c .before .if2 .left), ne-eqb _ _ (c .if3 .taken))
-
-returns-4 : tie.Need-returns-4
-returns-4 c =
-    simp (le-leb _ _ (c .before .before .before .if1 .left), le-leb _ _ (c .before .before .if2 .left), eq-eqb _ _ (c .before .if3 .left), lt-leb _ _ (c .if4 .taken))
-
-returns-5 : tie.Need-returns-5
-returns-5 c =
-    simp (le-leb _ _ (c .before .before .before .if1 .left), le-leb _ _ (c .before .before .if2 .left), eq-eqb _ _ (c .before .if3 .left), le-leb _ _ (c .if4 .left))
+returns-2 c = rw (sym (c .before .before .record-fits .ensures) ∙ not-false _ (c .before .if1 .left)) (c .table-fits .ensures)
 
 pub lengths-fit-spec : {M : Type 1} → statement M
-lengths-fit-spec = tie.close (tie.spec returns returns-2 returns-3 returns-4 returns-5)
+lengths-fit-spec = tie.close (tie.spec record-fits-requires returns table-fits-requires returns-2)

@@ -6,7 +6,6 @@ use borrow.Author.Tests.{eq-eqb, ne-eqb, not-true, not-false}
 use Rattle.record.specs.Table.{shown}
 use Rattle.record.specs.Geometry.{amount}
 use Rattle.record.specs.Packing.{kindFits, amountFits, digitsFit, insideArea}
-use Rattle.record.specs.Slots.{slotOf}
 use Rattle.arguments.proofs.ArgumentLaws.{not-set, bad-slot, wrong-kind, wrong-amount, bad-digit, all-fits}
 use Rattle.record.proofs.Bytes.{and-true}
 use borrow.Author.Needs.{needs}
@@ -16,7 +15,7 @@ use Rattle.arguments.proofs.check.check.Tie as tie
 set : (c : tie.Else1) → eqb (c .before .before .before .args .a .kind) 0 ≡ false
 set c = ne-eqb _ _ (c .if1 .left)
 
-inside : (c : tie.Else2) → (leb (c .before .before .before .before .before .args .a .kind) 3 && insideArea (c .before .before .before .before .before .args .area .now) (slotOf (c .before .before .before .before .before .args .a))) ≡ true
+inside : (c : tie.Else2) → (leb (c .before .before .before .before .before .args .a .kind) 3 && insideArea (c .before .before .before .before .before .args .area .now) (c .before .before .before .before .before .args .a)) ≡ true
 inside c = sym (c .before .is-inside .ensures) ∙ not-false _ (c .if2 .left)
 
 kind : (c : tie.Else3) → kindFits (c .before .before .before .before .before .before .before .args .s) (c .before .before .before .before .before .before .before .args .a .kind) ≡ true
@@ -25,11 +24,11 @@ kind c = sym (c .before .kind-fits .ensures) ∙ not-false _ (c .if3 .left)
 amounts : (c : tie.Else4) → amountFits (c .before .before .before .before .before .before .before .before .before .args .s) (c .before .before .before .before .before .before .before .before .before .args .n) (c .before .before .before .before .before .before .before .before .before .args .a .len) ≡ true
 amounts c = sym (c .before .amount-fits .ensures) ∙ not-false _ (c .if4 .left)
 
-digits : (c : tie.After-digits-fit) → c .digits-fit .result ≡ digitsFit (c .before .before .before .before .before .before .before .before .before .before .before .args .s) (amount (c .before .before .before .before .before .before .before .before .before .before .before .args .n) (c .before .before .before .before .before .before .before .before .before .before .before .args .a .len)) (shown (c .before .before .before .before .before .before .before .before .before .before .before .args .area .now) (slotOf (c .before .before .before .before .before .before .before .before .before .before .before .args .a)) .items)
+digits : (c : tie.After-digits-fit) → c .digits-fit .result ≡ digitsFit (c .before .before .before .before .before .before .before .before .before .before .before .args .s) (amount (c .before .before .before .before .before .before .before .before .before .before .before .args .n) (c .before .before .before .before .before .before .before .before .before .before .before .args .a .len)) (shown (c .before .before .before .before .before .before .before .before .before .before .before .args .area .now) (c .before .before .before .before .before .before .before .before .before .before .before .args .a) .items)
 digits c = c .digits-fit .ensures ∙ rw (c .before .amount .ensures)
 
 returns : tie.Need-returns
-returns c = not-set _ _ _ _ (slotOf (c .before .before .before .args .a)) (eq-eqb _ _ (c .if1 .taken))
+returns c = not-set _ _ _ _ (c .before .before .before .args .a) (eq-eqb _ _ (c .if1 .taken))
 
 is-inside-requires : tie.Need-is-inside-requires
 is-inside-requires c κs = search needs
@@ -58,7 +57,7 @@ digits-fit-requires : tie.Need-digits-fit-requires
 digits-fit-requires c κs =
     let e₃ = c .before .before .before in
     let start = e₃ .before .before .before .before .before .before .before in
-    (kind e₃, and-true (leb (start .args .a .kind) 3) (insideArea (start .args .area .now) (slotOf (start .args .a))) (inside (e₃ .before .before)) .1)
+    (kind e₃, and-true (leb (start .args .a .kind) 3) (insideArea (start .args .area .now) (start .args .a)) (inside (e₃ .before .before)) .1)
 
 returns-5 : tie.Need-returns-5
 returns-5 c =

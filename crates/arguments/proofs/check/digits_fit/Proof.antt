@@ -4,7 +4,6 @@ use mathlib.Core.Path.{_≡_, _∙_}
 use mathlib.Core.Bool.{true}
 use lib.Dec.{eqb}
 use Rattle.record.specs.Packing.{digitsFit}
-use Rattle.record.specs.Slots.{slotOf}
 use Rattle.arguments.proofs.ArgumentLaws.{string-inside, digits-part}
 use borrow.Author.Needs.{needs}
 use Rattle.arguments.proofs.check.digits_fit.Statement.{statement}
@@ -23,7 +22,7 @@ is-string : (c : tie.After-known-told) → eqb (c .before .before .before .befor
 is-string c = rw (c .before .s .given .1) at (c .before .before .before .before .pre .0)
 
 all-digits-requires : tie.Need-all-digits-requires
-all-digits-requires c κs = omega (arith, c .least .ensures, string-inside (c .before .before .before .before .before .args .area .now) (slotOf (c .before .before .before .before .before .args .a)) (c .before .before .before .before .before .pre .1) (is-string (c .before)))
+all-digits-requires c κs = omega (arith, c .least .ensures, string-inside (c .before .before .before .before .before .args .area .now) (c .before .before .before .before .before .args .a) (c .before .before .before .before .before .pre .1) (is-string (c .before)))
 
 enum-told-2 : tie.Need-enum-told-2
 enum-told-2 c = search needs
@@ -36,7 +35,7 @@ returns-2 : tie.Need-returns-2
 returns-2 c =
     let l = c .before in
     let a = l .before .before .before .before .before .args in
-    c .all-digits .ensures ∙ rw (l .before .before .s .given .1, l .least .ensures) (digits-part _ _ _ _ (slotOf (a .a)) (is-string (l .before)))
+    c .all-digits .ensures ∙ rw (l .before .before .s .given .1, l .least .ensures) (digits-part _ _ _ _ (a .a) (is-string (l .before)))
 
 returns-3 : tie.Need-returns-3
 unfolding digitsFit

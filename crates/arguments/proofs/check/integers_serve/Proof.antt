@@ -1,6 +1,5 @@
 -- Each test that fails answers false, which says nothing; past them the amount decides.
 use Rattle.arguments.proofs.ArgumentLaws.{none-sound, integers-sound}
-use Rattle.record.specs.Slots.{slotOf}
 use borrow.Author.Needs.{needs}
 use Rattle.arguments.proofs.check.integers_serve.Statement.{statement}
 use Rattle.arguments.proofs.check.integers_serve.Tie as tie
@@ -24,7 +23,7 @@ is-enough-requires : tie.Need-is-enough-requires
 is-enough-requires c κs = search needs
 
 returns-4 : tie.Need-returns-4
-returns-4 c = integers-sound _ _ (slotOf (c .before .before .before .before .before .before .before .args .a)) (c .before .before .before .before .before .if1 .left) (c .before .before .before .before .if2 .left) (c .before .if3 .left) _ (c .is-enough .ensures)
+returns-4 c = integers-sound _ _ (c .before .before .before .before .before .before .before .args .a) (c .before .before .before .before .before .if1 .left) (c .before .before .before .before .if2 .left) (c .before .if3 .left) _ (c .is-enough .ensures)
 
 pub integers-serve-spec : {M : Type 1} → statement M
 integers-serve-spec =

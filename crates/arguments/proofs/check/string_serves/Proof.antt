@@ -1,7 +1,6 @@
 -- Each test that fails answers false, which says nothing; past them a text serves, and of digits those that are looked at decide.
 use mathlib.Core.Path.{_∙_}
 use Rattle.arguments.proofs.ArgumentLaws.{none-sound, text-sound, digits-sound}
-use Rattle.record.specs.Slots.{slotOf}
 use borrow.Author.Needs.{needs}
 use Rattle.arguments.proofs.check.string_serves.Statement.{statement}
 use Rattle.arguments.proofs.check.string_serves.Tie as tie
@@ -16,7 +15,7 @@ returns-2 : tie.Need-returns-2
 returns-2 c = none-sound _ _ _ _
 
 returns-3 : tie.Need-returns-3
-returns-3 c = text-sound _ _ (slotOf (c .before .before .before .before .before .before .args .a)) (c .before .before .before .if1 .left) (c .before .if2 .left) _ (c .if3 .taken)
+returns-3 c = text-sound _ _ (c .before .before .before .before .before .before .args .a) (c .before .before .before .if1 .left) (c .before .if2 .left) _ (c .if3 .taken)
 
 amount-requires : tie.Need-amount-requires
 amount-requires c κs = search needs
@@ -30,7 +29,7 @@ all-digits-requires c κs = search needs
 returns-4 : tie.Need-returns-4
 returns-4 c =
     let s = c .before .before .before .before .before .before .before .before .before in
-    digits-sound _ _ (slotOf (s .args .a)) (c .before .before .before .before .before .before .if1 .left) (c .before .before .before .before .if2 .left) _ (c .before .before .before .if3 .left) (s .pre .0) _
+    digits-sound _ _ (s .args .a) (c .before .before .before .before .before .before .if1 .left) (c .before .before .before .before .if2 .left) _ (c .before .before .before .if3 .left) (s .pre .0) _
     (c .all-digits .ensures ∙ rw (c .before .least .ensures, c .before .before .amount .ensures))
 
 pub string-serves-spec : {M : Type 1} → statement M

@@ -7,7 +7,6 @@ use Rattle.layout.specs.declared.Code.the-variants.{Data, Move}
 use Rattle.layout.specs.Words.{shapeNumbered, countFrom}
 use Rattle.layout.proofs.Decoded.{word-shape, word-count}
 use Rattle.record.specs.Geometry.{amount}
-use Rattle.record.specs.Slots.{slotOf}
 use Rattle.packer.specs.Writing.{put, Puttable, Storable}
 use Rattle.packer.proofs.WriteLaws.{puttable-data, storable, put-data, movable, no-value}
 use borrow.Author.Needs.{needs}
@@ -22,7 +21,7 @@ asked : (c : tie.After-amount) → c .amount .result ≡ amount (countFrom (c .b
 asked c = c .amount .ensures ∙ rw (c .before .count-from .ensures)
 
 stored-value : (c : tie.After-amount)
-    → Storable (c .before .before .before .before .before .before .before .args .area .now) (shapeNumbered (c .before .before .before .before .before .before .before .args .word % 256)) (c .amount .result) (slotOf (c .before .before .slot-at .result)) (c .before .before .before .before .before .before .before .args .c .at) (length (c .before .before .before .before .before .before .before .args .out .now))
+    → Storable (c .before .before .before .before .before .before .before .args .area .now) (shapeNumbered (c .before .before .before .before .before .before .before .args .word % 256)) (c .amount .result) (c .before .before .slot-at .result) (c .before .before .before .before .before .before .before .args .c .at) (length (c .before .before .before .before .before .before .before .args .out .now))
 stored-value c = storable _ _ _ _ _ _ _ (as-data (c .before .before .before)) _ (c .before .before .slot-at .ensures .same) _ (asked c)
 
 as-move : (c : tie.After-known-told)

@@ -2,6 +2,7 @@
 use Prim.Native.Nat.{_*_, _≤_}
 use native.Mathlib.Omega.{arith}
 use borrow.Author.Tests.{le-leb, lt-leb}
+use Rattle.record.specs.Table.{numberLimit, integerSize}
 use Rattle.record.proofs.Bounds.{item-small, product-small}
 use borrow.Author.Needs.{needs}
 use Rattle.record.proofs.slots.is_inside.Statement.{statement}
@@ -13,10 +14,10 @@ returns c = simp (lt-leb _ _ (c .if1 .taken))
 item-size-requires : tie.Need-item-size-requires
 item-size-requires c κs = search needs
 
-small : (c : tie.After-struct-known) → c .before .before .before .args .a .len * c .before .item-size .result ≤ 4294967296 * 8
+small : (c : tie.After-struct-known) → c .before .before .before .args .a .len * c .before .item-size .result ≤ numberLimit * integerSize
 small c =
     let a = c .before .before .before .args .a in
-    product-small (a .len) (c .before .item-size .result) 4294967296 8 (omega arith) (omega (arith, c .before .item-size .ensures, item-small (a .kind)))
+    product-small (a .len) (c .before .item-size .result) numberLimit integerSize (omega arith) (omega (arith, c .before .item-size .ensures, item-small (a .kind)))
 
 mul-result : tie.Need-mul-result
 mul-result c = omega (arith, small c)

@@ -2,6 +2,7 @@
 use Prim.Native.Nat.{_+_, _*_}
 use mathlib.Core.Path.{refl}
 use native.Mathlib.Omega.{arith}
+use Rattle.record.specs.Table.{slotWidth}
 use Rattle.record.specs.Slots.{slotAt}
 use borrow.Author.Needs.{needs}
 use Rattle.record.proofs.slots.slot_at.Statement.{statement}
@@ -17,7 +18,7 @@ shared-slice-read-t6 : tie.Need-shared-slice-read-t6
 shared-slice-read-t6 c = search needs
 
 cast-t7 : tie.Need-cast-t7
-cast-t7 c = omega (arith, c .shared-slice-known .given (3 * c .before .args .k))
+cast-t7 c = omega (arith, c .shared-slice-known .given (slotWidth * c .before .args .k))
 
 add-t8 : tie.Need-add-t8
 add-t8 c = search needs
@@ -29,7 +30,7 @@ shared-slice-read-t11 : tie.Need-shared-slice-read-t11
 shared-slice-read-t11 c = search needs
 
 cast-t12 : tie.Need-cast-t12
-cast-t12 c = omega (arith, c .shared-slice-known2 .given (3 * c .before .before .args .k + 1))
+cast-t12 c = omega (arith, c .shared-slice-known2 .given (slotWidth * c .before .before .args .k + 1))
 
 add-t13 : tie.Need-add-t13
 add-t13 c = search needs
@@ -41,7 +42,7 @@ shared-slice-read-t16 : tie.Need-shared-slice-read-t16
 shared-slice-read-t16 c = search needs
 
 cast-t17 : tie.Need-cast-t17
-cast-t17 c = omega (arith, c .shared-slice-known3 .given (3 * c .before .before .before .args .k + 2))
+cast-t17 c = omega (arith, c .shared-slice-known3 .given (slotWidth * c .before .before .before .args .k + 2))
 
 returns : tie.Need-returns
 unfolding slotAt
@@ -49,8 +50,8 @@ returns c =
     let k = c .before .before .before .args .k in
     record {
       same = refl;
-      start = omega (arith, c .before .shared-slice-known2 .given (3 * k + 1));
-      len = omega (arith, c .shared-slice-known3 .given (3 * k + 2));
+      start = omega (arith, c .before .shared-slice-known2 .given (slotWidth * k + 1));
+      len = omega (arith, c .shared-slice-known3 .given (slotWidth * k + 2));
     }
 
 pub slot-at-spec : {M : Type 1} → statement M
