@@ -24,9 +24,7 @@ fn example(kind: u8, layout: &[u8], rest: &[u8], record: &mut [u8; 4096]) {
     match kind {
         b'1' => reading::one(layout, rest),
         b'2' => reading::two(layout, rest),
-        _ => {
-            packing::example(layout, rest, record);
-        }
+        _ => packing::example(layout, rest, record),
     }
 }
 

@@ -1,14 +1,20 @@
 // The run-through program: the examples of the manual pages and the edges of document 01, a line for each call.
-mod arguments;
-mod evolution;
+mod cuts;
 mod examples;
+mod notation;
 mod packing;
 mod print;
 mod reading;
 mod values;
 
+// A line of its own.
+fn heading(title: &[u8]) {
+    print::text(title);
+    print::text(b"\n");
+}
+
 fn pack_examples(record: &mut [u8; 4096]) {
-    print::heading(b"Packing: layout, arguments -> number, first, second: bytes of the result");
+    heading(b"Packing: layout, arguments -> number, first, second: bytes of the result");
     examples::packed_strings(record);
     examples::packed_integers(record);
     examples::packed_moves(record);
@@ -19,21 +25,22 @@ fn pack_limits(record: &mut [u8; 4096]) {
     packing::sizes(record);
     packing::outputs();
     packing::unsigned(record);
+    packing::kept();
 }
 
 fn pack_edges(record: &mut [u8; 4096]) {
-    print::heading(b"\nPacking: rulings of 01");
+    heading(b"\nPacking: rulings of 01");
     examples::packed_rulings(record);
-    print::heading(b"\nPacking: refusals and limits");
+    heading(b"\nPacking: refusals and limits");
     examples::packed_refusals(record);
     pack_limits(record);
 }
 
 fn read_examples(record: &mut [u8; 4096]) {
-    print::heading(b"\nReading: layout, record -> number, first, second: values");
+    heading(b"\nReading: layout, record -> number, first, second: values");
     examples::read_strings(record);
     examples::read_integers(record);
-    print::heading(b"\nReading: the runs of 004");
+    heading(b"\nReading: the runs of 004");
     examples::read_wiki(record);
 }
 
@@ -41,14 +48,15 @@ fn read_limits() {
     reading::sizes();
     reading::areas();
     reading::marks();
+    reading::lent();
 }
 
 fn read_edges(record: &mut [u8; 4096]) {
-    print::heading(b"\nReading: rulings of 01");
+    heading(b"\nReading: rulings of 01");
     examples::read_rulings(record);
-    print::heading(b"\nReading: a table that holds an earlier reading");
+    heading(b"\nReading: a table that holds an earlier reading");
     reading::kept();
-    print::heading(b"\nReading: refusals and limits");
+    heading(b"\nReading: refusals and limits");
     examples::read_refusals(record);
     read_limits();
 }
@@ -59,6 +67,6 @@ fn main() {
     pack_edges(&mut record);
     read_examples(&mut record);
     read_edges(&mut record);
-    print::heading(b"\nEvolution: both records, every cut, both layouts");
-    evolution::table(&mut record);
+    heading(b"\nDemand 3: both records, every cut, both layouts");
+    cuts::table();
 }

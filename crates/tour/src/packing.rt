@@ -1,37 +1,47 @@
 // Packing: a line for each call, with the layout, what it is lent, the answer's three numbers and the bytes of the result.
-use super::arguments;
+use super::notation;
 use super::print;
 use super::print::Style;
 
 // The bytes of an accepted packing.
-fn result(line: &mut [u8], at: usize, number: u32, length: usize, record: &[u8]) -> usize {
+fn result(number: u32, length: usize, record: &[u8]) {
     if number != 0 {
-        return at;
+        return;
     }
     if record.len() < length {
-        return at;
+        return;
     }
-    let next = print::byte(line, at, b':');
-    print::shortened(line, next, &record[0..length], Style::Hex)
+    print::text(b":");
+    print::shortened(&record[0..length], Style::Hex);
 }
 
-fn length_of(number: u32, first: u32) -> usize {
-    if number == 0 {
-        return first as usize;
-    }
-    0
-}
-
-// Packs, prints the line, and hands back the length of the result; `told` names what is lent.
-fn show(layout: &[u8], told: &[u8], slots: &[u32], area: &[u8], record: &mut [u8]) -> usize {
+// Packs, and prints the line; `told` names what is lent.
+fn show(layout: &[u8], told: &[u8], slots: &[u32], area: &[u8], record: &mut [u8]) {
     let a = packer::pack(layout, slots, area, record);
-    let mut line = [0u8; 512];
-    let call = print::call(&mut line, b"pack", layout);
-    let lent = print::lent(&mut line, call, told);
-    let answer = print::answer(&mut line, lent, a.number, a.first, a.second);
-    let end = result(&mut line, answer, a.number, a.first as usize, record);
-    print::finish(&mut line, end);
-    length_of(a.number, a.first)
+    print::call(b"pack", layout);
+    print::lent(told);
+    print::answer(a.number, a.first, a.second);
+    result(a.number, a.first as usize, record);
+    print::text(b"\n");
+}
+
+// Packs into eight bytes aa, and prints all that they then hold.
+fn whole(layout: &[u8]) {
+    let mut output = [0xaau8; 8];
+    let a = packer::pack(layout, &[1, 0, 2], b"xy", &mut output);
+    print::call(b"pack", layout);
+    print::lent(b"slot 1 0 2, output of eight bytes aa");
+    print::answer(a.number, a.first, a.second);
+    print::text(b"; output");
+    print::bytes(&output, Style::Hex);
+    print::text(b"\n");
+}
+
+// Bytes past the result stay as lent, and all of the output of a refused call does.
+pub fn kept() {
+    whole(b"a2x");
+    whole(b"a2x7");
+    whole(b"a2xz");
 }
 
 // Lends the parts of the slots and of the area that are in use.
@@ -43,22 +53,22 @@ fn show_used(
     area: &[u8],
     m: usize,
     record: &mut [u8],
-) -> usize {
+) {
     if slots.len() < n {
-        return 0;
+        return;
     }
     if area.len() < m {
-        return 0;
+        return;
     }
-    show(layout, told, &slots[0..n], &area[0..m], record)
+    show(layout, told, &slots[0..n], &area[0..m], record);
 }
 
 // Packs the arguments that a text names.
-pub fn example(layout: &[u8], told: &[u8], record: &mut [u8; 4096]) -> usize {
+pub fn example(layout: &[u8], told: &[u8], record: &mut [u8; 4096]) {
     let mut slots = [0u32; 192];
     let mut area = [0u8; 256];
-    let used = arguments::parse(told, &mut slots, &mut area);
-    show_used(layout, told, &slots, used.slots, &area, used.area, record)
+    let used = notation::parse(told, &mut slots, &mut area);
+    show_used(layout, told, &slots, used.slots, &area, used.area, record);
 }
 
 // Packs a slot that no text names, over an area of two bytes.

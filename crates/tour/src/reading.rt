@@ -3,12 +3,12 @@ use super::print;
 use super::print::Style;
 use super::values;
 
-fn result(line: &mut [u8], at: usize, number: u32, slots: &[u32], area: &[u8]) -> usize {
+fn result(number: u32, slots: &[u32], area: &[u8]) {
     if number != 0 {
-        return at;
+        return;
     }
-    let next = print::text(line, at, b": ");
-    values::table(line, next, slots, area)
+    print::text(b": ");
+    values::table(slots, area);
 }
 
 // Reads, and prints the line; `told` names what is lent besides.
@@ -21,13 +21,34 @@ fn show(
     mark: usize,
 ) {
     let a = reader::read(layout, record, slots, area, mark);
-    let mut line = [0u8; 512];
-    let call = print::call(&mut line, b"read", layout);
-    let bytes = print::shortened(&mut line, call, record, Style::Hex);
-    let lent = print::lent(&mut line, bytes, told);
-    let answer = print::answer(&mut line, lent, a.number, a.first, a.second);
-    let end = result(&mut line, answer, a.number, slots, area);
-    print::finish(&mut line, end);
+    print::call(b"read", layout);
+    print::shortened(record, Style::Hex);
+    print::lent(told);
+    print::answer(a.number, a.first, a.second);
+    result(a.number, slots, area);
+    print::text(b"\n");
+}
+
+// Reads into six nines and eight bytes aa from the mark 1 on, and prints all that they then hold.
+fn whole(layout: &[u8]) {
+    let mut slots = [9u32; 6];
+    let mut area = [0xaau8; 8];
+    let a = reader::read(layout, b"xy", &mut slots, &mut area, 1);
+    print::call(b"read", layout);
+    print::lent(b"78 79 into slots of 9, eight bytes aa, mark 1");
+    print::answer(a.number, a.first, a.second);
+    print::text(b"; slots");
+    print::numbers(&slots);
+    print::text(b"; area");
+    print::bytes(&area, Style::Hex);
+    print::text(b"\n");
+}
+
+// Slots that are not set and bytes that no value covers stay as lent, and all of a refused call does.
+pub fn lent() {
+    whole(b"a2c");
+    whole(b"b*");
+    whole(b"a2z");
 }
 
 // One slot and two slots that are not set.

@@ -13,125 +13,99 @@ fn part(run: &[u8], start: usize, n: usize) -> &[u8] {
     &run[start..end]
 }
 
-fn appended(n: u64, b: u8) -> u64 {
-    n << 8 | b as u64
-}
-
-// The integer of the eight big-endian bytes at a place.
-fn item(run: &[u8], at: usize) -> u64 {
-    let bytes = part(run, at, 8);
-    let mut n = 0u64;
-    let mut i = 0;
-    while i < bytes.len() {
-        n = appended(n, bytes[i]);
-        i += 1;
-    }
-    n
-}
-
-fn integer(line: &mut [u8], at: usize, n: u64, signed: bool) -> usize {
+fn integer(n: u64, signed: bool) {
     if signed {
         if 9223372036854775807 < n {
-            let minus = print::byte(line, at, b'-');
-            return print::decimal(line, minus, 18446744073709551615 - n + 1);
+            print::text(b"-");
+            print::number(18446744073709551615 - n + 1);
+            return;
         }
     }
-    print::decimal(line, at, n)
+    print::number(n);
 }
 
 // What stands before an item: nothing before the first, else a space, after a comma or not.
-fn between(line: &mut [u8], at: usize, i: usize, comma: bool) -> usize {
+fn between(i: usize, comma: bool) {
     if i == 0 {
-        return at;
+        return;
     }
     if comma {
-        return print::text(line, at, b", ");
+        print::text(b",");
     }
-    print::byte(line, at, b' ')
+    print::text(b" ");
 }
 
-fn integers(line: &mut [u8], at: usize, run: &[u8], signed: bool) -> usize {
-    let mut place = at;
+fn integers(run: &[u8], signed: bool) {
+    let n = run.len() / 8;
     let mut i = 0;
-    while i < run.len() {
-        place = between(line, place, i, false);
-        place = integer(line, place, item(run, i), signed);
-        i += 8;
+    while i < n {
+        between(i, false);
+        integer(record::numbers::number_at(run, i * 8, 8), signed);
+        i += 1;
     }
-    place
 }
 
 // Of a long run the first two and the last two.
-fn few_integers(line: &mut [u8], at: usize, run: &[u8], signed: bool) -> usize {
+fn few_integers(run: &[u8], signed: bool) {
     if run.len() <= 128 {
-        return integers(line, at, run, signed);
+        integers(run, signed);
+        return;
     }
     let last = run.len() - 16;
-    let start = integers(line, at, &run[0..16], signed);
-    let gap = print::text(line, start, b" .. ");
-    integers(line, gap, &run[last..], signed)
+    integers(&run[0..16], signed);
+    print::text(b" .. ");
+    integers(&run[last..], signed);
 }
 
-fn list(line: &mut [u8], at: usize, run: &[u8], signed: bool) -> usize {
-    let open = print::byte(line, at, b'{');
-    let end = few_integers(line, open, run, signed);
-    print::byte(line, end, b'}')
+fn list(run: &[u8], signed: bool) {
+    print::text(b"{");
+    few_integers(run, signed);
+    print::text(b"}");
 }
 
-fn string(line: &mut [u8], at: usize, run: &[u8]) -> usize {
-    let open = print::byte(line, at, b'"');
-    let end = print::shortened(line, open, run, Style::Escaped);
-    print::byte(line, end, b'"')
+fn string(run: &[u8]) {
+    print::text(b"\"");
+    print::shortened(run, Style::Escaped);
+    print::text(b"\"");
 }
 
-fn value(line: &mut [u8], at: usize, kind: u32, start: u32, length: u32, area: &[u8]) -> usize {
+fn value(kind: u32, start: u32, length: u32, area: &[u8]) {
     match kind {
-        0 => print::text(line, at, b"not set"),
-        1 => string(line, at, part(area, start as usize, length as usize)),
-        2 => list(
-            line,
-            at,
-            part(area, start as usize, length as usize * 8),
-            true,
-        ),
-        _ => list(
-            line,
-            at,
-            part(area, start as usize, length as usize * 8),
-            false,
-        ),
+        0 => print::text(b"not set"),
+        1 => string(part(area, start as usize, length as usize)),
+        2 => list(part(area, start as usize, length as usize * 8), true),
+        _ => list(part(area, start as usize, length as usize * 8), false),
     }
 }
 
 // The value of the slot whose numbers start at k, if there is one.
-pub fn slot(line: &mut [u8], at: usize, slots: &[u32], k: usize, area: &[u8]) -> usize {
+fn slot(slots: &[u32], k: usize, area: &[u8]) {
     if slots.len() < 3 {
-        return at;
+        return;
     }
     if slots.len() - 3 < k {
-        return at;
+        return;
     }
-    value(line, at, slots[k], slots[k + 1], slots[k + 2], area)
+    value(slots[k], slots[k + 1], slots[k + 2], area);
 }
 
-fn all(line: &mut [u8], at: usize, slots: &[u32], area: &[u8]) -> usize {
-    let mut place = at;
+fn all(slots: &[u32], area: &[u8]) {
     let mut k = 0;
     while k < slots.len() {
-        place = between(line, place, k, true);
-        place = slot(line, place, slots, k, area);
+        between(k, true);
+        slot(slots, k, area);
         k += 3;
     }
-    place
 }
 
 // The values of a table; of a long one the first two and the last two.
-pub fn table(line: &mut [u8], at: usize, slots: &[u32], area: &[u8]) -> usize {
+pub fn table(slots: &[u32], area: &[u8]) {
     if slots.len() <= 24 {
-        return all(line, at, slots, area);
+        all(slots, area);
+        return;
     }
     let last = slots.len() - 6;
-    let start = all(line, at, &slots[0..6], area);
-    let gap = print::text(line, start, b", .. ");
-    all(line, gap, &slots[last..], area)
+    all(&slots[0..6], area);
+    print::text(b", .. ");
+    all(&slots[last..], area);
 }

@@ -1,16 +1,15 @@
--- Each turn shows the next byte of the run, so fewer are left; what it appends to keeps its length.
-use mathlib.Core.Path.{_≡_}
+-- Each turn shows the next byte of the run, so fewer are left.
 use Prim.Native.Nat.{_≤_, _-_}
-use borrow.Author.Needs.{needs}
 use lib.ListN.{length}
+use borrow.Author.Needs.{needs}
 use Rattle.tour.proofs.print.bytes.Statement.{statement}
 use Rattle.tour.proofs.print.bytes.Tie as tie
 
 abbrev Inv-loop : tie.InvT-loop
-Inv-loop line₀ at run style place₀ i₀ line place i = (i ≤ length run) × (length line ≡ length line₀)
+Inv-loop run style i₀ i = i ≤ length run
 
 abbrev μ-loop : tie.MeasureT-loop
-μ-loop line₀ at run style place₀ i₀ line place i = length run - i
+μ-loop run style i₀ i = length run - i
 
 loop-holds : tie.Need-loop-holds Inv-loop μ-loop
 loop-holds c = search needs
@@ -30,9 +29,6 @@ loop-less c = search needs
 loop-again : tie.Need-loop-again Inv-loop μ-loop
 loop-again c = search needs
 
-same-length : tie.Need-same-length Inv-loop μ-loop
-same-length c = search needs
-
 returns : tie.Need-returns Inv-loop μ-loop
 returns c = search needs
 
@@ -48,5 +44,4 @@ bytes-spec =
     add-i
     loop-less
     loop-again
-    same-length
     returns)

@@ -1,16 +1,15 @@
--- Each turn shows the eight bytes at the next place, so fewer are left; what it appends to keeps its length.
-use mathlib.Core.Path.{_≡_}
-use Prim.Native.Nat.{_-_}
-use borrow.Author.Needs.{needs}
+-- Each turn shows the next eight bytes, so fewer are left.
+use Prim.Native.Nat.{_*_, _≤_, _-_}
 use lib.ListN.{length}
+use borrow.Author.Needs.{needs}
 use Rattle.tour.proofs.values.integers.Statement.{statement}
 use Rattle.tour.proofs.values.integers.Tie as tie
 
 abbrev Inv-loop : tie.InvT-loop
-Inv-loop line₀ at run signed place₀ i₀ line place i = length line ≡ length line₀
+Inv-loop run signed n i₀ i = (i ≤ n) × (n * 8 ≤ length run)
 
 abbrev μ-loop : tie.MeasureT-loop
-μ-loop line₀ at run signed place₀ i₀ line place i = length run - i
+μ-loop run signed n i₀ i = n - i
 
 loop-holds : tie.Need-loop-holds Inv-loop μ-loop
 loop-holds c = search needs
@@ -18,8 +17,11 @@ loop-holds c = search needs
 between-requires : tie.Need-between-requires Inv-loop μ-loop
 between-requires c κs = search needs
 
-item-requires : tie.Need-item-requires Inv-loop μ-loop
-item-requires c κs = search needs
+mul-number-at : tie.Need-mul-number-at Inv-loop μ-loop
+mul-number-at c = search needs
+
+number-at-requires : tie.Need-number-at-requires Inv-loop μ-loop
+number-at-requires c κs = search needs
 
 integer-requires : tie.Need-integer-requires Inv-loop μ-loop
 integer-requires c κs = search needs
@@ -33,9 +35,6 @@ loop-less c = search needs
 loop-again : tie.Need-loop-again Inv-loop μ-loop
 loop-again c = search needs
 
-same-length : tie.Need-same-length Inv-loop μ-loop
-same-length c = search needs
-
 returns : tie.Need-returns Inv-loop μ-loop
 returns c = search needs
 
@@ -47,10 +46,10 @@ integers-spec =
     μ-loop
     loop-holds
     between-requires
-    item-requires
+    mul-number-at
+    number-at-requires
     integer-requires
     add-i
     loop-less
     loop-again
-    same-length
     returns)

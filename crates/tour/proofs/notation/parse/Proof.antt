@@ -3,8 +3,8 @@ use mathlib.Core.Path.{_≡_}
 use Prim.Native.Nat.{_≤_, _-_}
 use borrow.Author.Needs.{needs}
 use lib.ListN.{length}
-use Rattle.tour.proofs.arguments.parse.Statement.{statement}
-use Rattle.tour.proofs.arguments.parse.Tie as tie
+use Rattle.tour.proofs.notation.parse.Statement.{statement}
+use Rattle.tour.proofs.notation.parse.Tie as tie
 
 abbrev Inv-loop : tie.InvT-loop
 Inv-loop text slots₀ area₀ s₀ i₀ slots area s i = (i ≤ length text) × (length slots ≡ length slots₀) × (length area ≡ length area₀)

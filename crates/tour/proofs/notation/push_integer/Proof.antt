@@ -3,8 +3,8 @@ use mathlib.Core.Path.{_≡_}
 use Prim.Native.Nat.{_≤_, _-_}
 use borrow.Author.Needs.{needs}
 use lib.ListN.{length}
-use Rattle.tour.proofs.arguments.push_integer.Statement.{statement}
-use Rattle.tour.proofs.arguments.push_integer.Tie as tie
+use Rattle.tour.proofs.notation.push_integer.Statement.{statement}
+use Rattle.tour.proofs.notation.push_integer.Tie as tie
 
 abbrev Inv-loop : tie.InvT-loop
 Inv-loop area₀ at n place₀ rest₀ i₀ area place rest i = (i ≤ 8) × (length area ≡ length area₀)
