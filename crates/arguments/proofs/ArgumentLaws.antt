@@ -21,6 +21,7 @@ use Rattle.record.proofs.Bytes.{and-true}
 use Rattle.record.specs.declared.slots.Slot.{Slot}
 use Rattle.record.specs.Table.{shown, itemSize}
 use Rattle.record.specs.Geometry.{amount}
+use Rattle.record.proofs.Tables.{kind-integers}
 use Rattle.record.specs.Packing.{kindFits, enough, amountFits, digitsFit, allDigits, insideArea, argumentFits}
 use Rattle.record.proofs.Fields.{split}
 use Rattle.arguments.specs.Checks.{verdictOf, Sound}
@@ -126,7 +127,7 @@ module _ (area : List ℕ) (n : Count) (a : Slot) where
       let e : eqb (a .kind) 1 ≡ false = ne-eqb (a .kind) 1 (λ x. omega arith) in
       record {
         fits = λ p k.
-            fine (Integers w big) k (ne-eqb (a .kind) 0 (λ x. omega arith)) (le-leb (a .kind) 3 l) (rw e (le-leb _ _ i)) (rw e) (sym q ∙ p) refl;
+            fine (Integers w big) k (ne-eqb (a .kind) 0 (λ x. omega arith)) (le-leb (a .kind) 3 l) (rw e (le-leb _ _ i)) (kind-integers (a .kind) h l) (sym q ∙ p) refl;
       }
 
   module _ (h : a .kind ≡ 1) (i : a .start + a .len ≤ length area) where

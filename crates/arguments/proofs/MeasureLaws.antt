@@ -31,7 +31,8 @@ use Rattle.arguments.specs.declared.Measured.the-variants.{Length}
 use Rattle.arguments.specs.declared.Measured.the-variants as measured
 use Rattle.record.specs.Slots.{slotAt}
 use Rattle.arguments.specs.Checks.{verdictOf, Sound}
-use Rattle.arguments.specs.Measure.{origin, past, advance, stepped, checked, Prepared, Ready, steppedOf, measuredOf, Measures}
+use Rattle.record.specs.Cursor.{origin, past}
+use Rattle.arguments.specs.Measure.{advance, stepped, checked, Prepared, Ready, steppedOf, measuredOf, Measures}
 use Rattle.record.proofs.SlotLaws.{next-slot}
 use Rattle.arguments.proofs.Bounds.{advance-within, advance-small}
 

@@ -1,12 +1,10 @@
 -- The measuring pass: the arguments checked and the cursor moved, field by field; nothing is written.
-use Prim.Native.Nat.{ℕ, _+_, _*_, _/_, _≤_, _<_, max}
+use Prim.Native.Nat.{ℕ, _+_, _*_, _/_, _≤_, _<_}
 use mathlib.Core.Path.{_≡_}
 use mathlib.Core.List.{List, [], _∷_}
 use lib.ListN.{length, drop}
 use Rattle.layout.specs.declared.Code.{Code}
 use Rattle.layout.specs.declared.Code.the-variants.{Data, Move}
-use Rattle.layout.specs.declared.Motion.{Motion}
-use Rattle.layout.specs.declared.Motion.the-variants.{Skip, Back, Goto}
 use Rattle.layout.specs.declared.Count.{Count}
 use Rattle.layout.specs.declared.Field.{Field}
 use Rattle.layout.specs.Refusals.{Result, ok, refused, _>>=_}
@@ -15,25 +13,13 @@ use Rattle.layout.specs.Layout.{maxLayout, slotCount, takesSlot, toNat}
 use Rattle.record.specs.declared.Cursor.{Cursor}
 use Rattle.record.specs.declared.slots.Slot.{Slot}
 use Rattle.record.specs.Table.{slotWidth, maxSlots}
-use Rattle.record.specs.Geometry.{amount, bytesFor, backFrom, gotoIn}
+use Rattle.record.specs.Geometry.{amount, bytesFor}
+use Rattle.record.specs.Cursor.{past, moved}
 use Rattle.record.specs.Packing.{argumentFits, nextSlot}
 use Rattle.arguments.specs.declared.Stepped.{Stepped}
 use Rattle.arguments.specs.declared.Stepped.the-variants.{Next, Stop}
 use Rattle.arguments.specs.declared.Measured.{Measured}
 use Rattle.arguments.specs.declared.Measured.the-variants.{Length, Refused}
-
--- the cursor of a run that has stored nothing
-abbrev pub origin : Cursor
-origin = record { at = 0; end = 0 }
-
--- past so many bytes that are stored
-abbrev pub past : Cursor → ℕ → Cursor
-past c bytes = record { at = c .at + bytes; end = max (c .end) (c .at + bytes) }
-
-abbrev pub moved : Cursor → Motion → Count → Cursor
-moved c Skip n = past c (amount n 0)
-moved c Back n = record { at = backFrom (c .at) n; end = c .end }
-moved c Goto n = record { at = gotoIn (c .end) n; end = max (c .end) (gotoIn (c .end) n) }
 
 -- past one field, whose argument has so many items
 abbrev pub advance : Cursor → Code → Count → ℕ → Cursor

@@ -25,7 +25,7 @@ fn kind_fits(s: Shape, kind: usize) -> bool
     match s {
         Shape::Text(_) => kind == 1,
         Shape::Digits(_, _) => kind == 1,
-        Shape::Integers(_, _) => kind != 1,
+        Shape::Integers(_, _) => record::slots::is_integers(kind),
     }
 }
 
@@ -95,10 +95,10 @@ fn integers_serve(n: Count, a: Slot, area: &[u8]) -> bool
     ensures { λ r. ⌜ ((w : ℕ) (big : Bool) → Sound r (now (area .entry)) (Integers w big) n a) ⌝ }
 {
     let kind = a.kind;
-    if kind < 2 {
+    if kind < record::slots::SIGNED {
         return false;
     }
-    if 3 < kind {
+    if record::slots::UNSIGNED < kind {
         return false;
     }
     if area.len() < a.start + a.len * 8 {

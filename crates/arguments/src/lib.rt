@@ -1,11 +1,11 @@
 // The arguments of a packing: each is checked, and the length of the result is measured. Nothing is written.
 ghost use mathlib.Core.Path.{_≡_};
 ghost use Prim.Native.Nat.{_+_, _<_};
-ghost use Rattle.layout.specs.declared.Code.the-variants.{Data};
 ghost use Rattle.layout.specs.Words.{decoded, fieldOf, FitCount};
 ghost use Rattle.record.specs.Table.{slotsOf};
 ghost use Rattle.record.specs.Slots.{slotAt};
-ghost use Rattle.arguments.specs.Measure.{origin, moved, Ready, Prepared, stepped, checked, steppedOf, Measures};
+ghost use Rattle.record.specs.Cursor.{origin, moved};
+ghost use Rattle.arguments.specs.Measure.{Ready, Prepared, stepped, checked, steppedOf, Measures};
 use check::Verdict;
 use layout::Code;
 use layout::Count;

@@ -8,7 +8,7 @@ use mathlib.Core.List.{List, [], _∷_, _++_}
 use lib.ListN.{take, drop}
 use lib.Seq.{drop-nil}
 use lib.Dec.{T, leb, eqb, leb→le}
-use borrow.Author.Tests.{leb-true, eqb-true, not-true}
+use borrow.Author.Tests.{leb-true, eqb-true}
 use Rattle.layout.specs.declared.Code.{Code}
 use Rattle.layout.specs.declared.Code.the-variants.{Data, Move}
 use Rattle.layout.specs.declared.Motion.the-variants.{Skip, Back, Goto}
@@ -29,6 +29,7 @@ use Rattle.layout.specs.Layout.{slotCount}
 use Rattle.evolution.specs.Claim.{plainCode, plainCount, plain}
 use Rattle.record.proofs.Bytes.{both}
 use Rattle.record.proofs.NumberLaws.{length-bigEndianIn}
+use Rattle.record.proofs.Tables.{integers-kind}
 use Rattle.record.proofs.Fields.{Served}
 use Rattle.evolution.proofs.Run.{AllGood, Forward, ForwardFields, fieldsIn}
 
@@ -129,7 +130,7 @@ served-by : (area : List ℕ) (s : Shape) (n : Count) (a : Slot) → T (plainCou
 unfolding digitsFit shown
 served-by area (Text pad) n a p k c d = tt
 served-by area (Digits hex high) n a p k c d = subst (λ (t : Bool). T t) (sym (rw (plain-amount n p .1 (a .len)) at d)) tt
-served-by area (Integers w big) n a p k c d = rw (not-true (eqb (a .kind) 1) k, length-bigEndianIn) (enough-le n (a .len) p c)
+served-by area (Integers w big) n a p k c d = rw (integers-kind (a .kind) k, length-bigEndianIn) (enough-le n (a .len) p c)
 
 served : (area : List ℕ) (s : Shape) (n : Count) (i : ℕ) (a : Slot) → T (plainCount n) → argumentFits area s n i a ≡ ok tt → Served s (amount n 0) (shown area a .items)
 unfolding argumentFits

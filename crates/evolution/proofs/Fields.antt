@@ -11,8 +11,8 @@ use borrow.Author.Tests.{le-leb, lt-leb, lt-ltb, le-ltb}
 use lib.Dec.{T, ltb, ltb→lt}
 use Rattle.layout.specs.declared.Shape.{Shape}
 use Rattle.layout.specs.declared.Shape.the-variants.{Text, Digits, Integers}
-use Rattle.layout.specs.Refusals.{if_then_else_}
 use Rattle.record.specs.Bytes.{fit, ceilDiv, pieces, join, digits, number, ordered}
+use Rattle.record.specs.Table.{string, integerKind}
 use Rattle.record.specs.Packing.{stored, lowBytes, digitBytes, digitValue, allDigits}
 use Rattle.record.specs.Geometry.{base, perByte}
 use Rattle.record.specs.Reading.{loaded, widened, digitChar}
@@ -148,5 +148,5 @@ digits-back hex high n cs h =
 pub back : (s : Shape) (u : Bool) (n : ℕ) (xs : List ℕ) → Served s n xs → loaded s u n (stored s n xs) ≡ readBack s u n xs
 unfolding loaded stored readBack
 back (Text pad) u n xs h = refl
-back (Digits hex high) u n xs h = ap (λ (r : List ℕ). record { kind = 1; items = r }) (digits-back hex high n xs (all-digits hex (take n xs) h))
-back (Integers w big) u n xs h = ap (λ (r : List ℕ). record { kind = if u then 3 else 2; items = r }) (integers-back w big u n xs h)
+back (Digits hex high) u n xs h = ap (λ (r : List ℕ). record { kind = string; items = r }) (digits-back hex high n xs (all-digits hex (take n xs) h))
+back (Integers w big) u n xs h = ap (λ (r : List ℕ). record { kind = integerKind u; items = r }) (integers-back w big u n xs h)

@@ -1,6 +1,6 @@
 -- The proof of demand 3. Packing a plain layout joins the bytes of its fields, so the old record is the front of the new one; a reader that
 -- stands where the packer stood finds each field's own bytes as long as they end at or before the cut, and stops at the first that does not.
-use Prim.Native.Nat.{ℕ, suc, _+_, _-_, _≤_, suc-le-suc}
+use Prim.Native.Nat.{ℕ, suc, _+_, _≤_, suc-le-suc}
 use native.Mathlib.Nat.{le-refl}
 use native.Mathlib.Omega.{arith}
 use mathlib.Core.Path.{_≡_, refl, sym, ap, _∙_, subst}
@@ -15,7 +15,7 @@ use Rattle.layout.specs.Layout.{takesSlot, fieldsOf, slotCount}
 use Rattle.layout.specs.Refusals.{if_then_else_, ok}
 use Rattle.layout.proofs.Laws.{AllSound, packed-reads}
 use Rattle.record.specs.Table.{slotsOf, shown, valueBytes}
-use Rattle.record.specs.Packing.{accepted, Filled, filled, argumentsFit, packed, packs, pack, packEffect, Packed}
+use Rattle.record.specs.Packing.{accepted, Filled, filled, argumentsFit, packed, finished, packs, pack, packEffect, Packed}
 use Rattle.record.specs.Geometry.{sizesFit}
 use Rattle.record.specs.Reading.{Read, valuesFrom, reads, read, readEffect, putInto}
 use Rattle.evolution.specs.Claim.{plain, plainCode, plainCount, endOf, Layouts, packedBy, recordOf, textOf, outputBy, slotsBy, fieldsBy, due, cutRecord, Reading, ReadsBack}
@@ -34,7 +34,7 @@ T→true false h = absurd h
 pub packs-by : (text slots area output : List ℕ) (fs : List Field) → fieldsOf true text ≡ ok fs → sizesFit text slots output area ≡ true
     → length (slotsOf slots) ≡ slotCount fs → argumentsFit area 0 (slotsOf slots) fs ≡ ok tt
     → length (packed (filled area (slotsOf slots) fs)) ≤ length output → packs text slots area output ≡ ok (packed (filled area (slotsOf slots) fs))
-unfolding packs
+unfolding packs finished
 packs-by text slots area output fs f s c a r = rw (s, f, eq-eqb _ _ c, a, le-leb _ _ r)
 
 pub reads-by : (text bs slots area : List ℕ) (mark : ℕ) (fs : List Field) → fieldsOf false text ≡ ok fs → (sizesFit text slots bs area && leb mark (length area)) ≡ true

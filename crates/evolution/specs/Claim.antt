@@ -1,6 +1,6 @@
 -- Demand 3 (document 01, "What demand 3 reads back"): one claim about both packings and every reading.
 -- The sentences of that section stand beside the definitions that state them. The proof is in proofs/ReadsBack.antt.
-use Prim.Native.Nat.{ℕ, _+_, _-_, _*_, _%_, _^_, _≤_}
+use Prim.Native.Nat.{ℕ, _+_, _*_, _%_, _^_, _≤_}
 use mathlib.Core.Path.{_≡_}
 use mathlib.Core.Bool.{Bool, true, false, _&&_}
 use mathlib.Core.List.{List, [], _∷_, _++_, map}
@@ -17,7 +17,7 @@ use Rattle.layout.specs.declared.Field.{Field}
 use Rattle.layout.specs.Refusals.{if_then_else_, ok}
 use Rattle.layout.specs.Layout.{fieldsOf, slotCount}
 use Rattle.record.specs.Bytes.{fit}
-use Rattle.record.specs.Table.{slotsOf, Value, shown, slotWidth, valueBytes}
+use Rattle.record.specs.Table.{string, integerKind, slotsOf, Value, shown, slotWidth, valueBytes}
 use Rattle.record.specs.Geometry.{amount, bytesFor, sizesFit}
 use Rattle.record.specs.Packing.{Filled, filled, argumentsFit, accepted, Packed, pack}
 use Rattle.record.specs.Reading.{trimmed, widened, putInto, read}
@@ -48,13 +48,13 @@ lowered c = if leb 65 c && leb c 70 then c + 32 else c
 unfoldable pub readBack : Shape → Bool → ℕ → List ℕ → Value
 unfolding lowered trimmed widened fit
 -- "a string cut or zero-padded; for `A` cut or space-padded, then trailing spaces and zero bytes dropped"
-readBack (Text pad) u n xs = record { kind = 1; items = if eqb pad 32 then trimmed (fit n pad xs) else fit n pad xs }
+readBack (Text pad) u n xs = record { kind = string; items = if eqb pad 32 then trimmed (fit n pad xs) else fit n pad xs }
 -- "digits cut or padded with `0`, hex lowered. Strings and digits come back as kind 1."
-readBack (Digits hex high) u n xs = record { kind = 1; items = map lowered (fit n 48 xs) }
+readBack (Digits hex high) u n xs = record { kind = string; items = map lowered (fit n 48 xs) }
 -- "the first count items come back (one where no count stands), each reduced modulo 2 to the power of the width in bits, signed as
 -- kind 2 or, with `u`, unsigned as kind 3"
 readBack (Integers w big) u n xs =
-    record { kind = if u then 3 else 2; items = map (λ x. widened w u (x % 256 ^ w)) (take n xs) }
+    record { kind = integerKind u; items = map (λ x. widened w u (x % 256 ^ w)) (take n xs) }
 
 -- ---- "A field's end is the sum of the bytes that it and every field before it fill in packing, `x` included."
 

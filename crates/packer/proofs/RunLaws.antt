@@ -25,7 +25,8 @@ use Rattle.record.specs.Geometry.{amount, bytesFor, gotoIn}
 use Rattle.record.specs.Packing.{Run, cursorOf, store, goto, stored, packOne, packAll, filled, nextSlot, argumentFits, argumentsFit}
 use Rattle.record.proofs.Fields.{length-stored}
 use Rattle.record.proofs.Moves.{Within, length-store, pack-within, held, store-held}
-use Rattle.arguments.specs.Measure.{past, moved, advance, stepped, checked, HasRoom}
+use Rattle.record.specs.Cursor.{past, moved}
+use Rattle.arguments.specs.Measure.{advance, stepped, checked, HasRoom}
 use Rattle.packer.specs.Writing.{putMove, put, written}
 use Rattle.arguments.proofs.ArgumentLaws.{Checked, checked-argument}
 use Rattle.packer.proofs.StoreLaws.{length-shown, served}

@@ -3,7 +3,7 @@ use Prim.Native.Nat.{ℕ, zero, suc, _+_, _*_, _≤_}
 use native.Mathlib.Nat.{le-of-suc-le-suc, not-suc-le-zero}
 use native.Mathlib.Omega.{arith}
 use mathlib.Core.Path.{_≡_, refl, sym, ap, _∙_, subst}
-use mathlib.Core.Bool.{Bool, true, false, not}
+use mathlib.Core.Bool.{Bool, true, false}
 use mathlib.Core.List.{List, _∷_}
 use borrow.Author.Tests.{eqb-true, leb-true}
 use lib.Dec.{eqb, T}
@@ -19,6 +19,7 @@ use Rattle.record.specs.Geometry.{amount, perByte}
 use Rattle.record.specs.Packing.{stored, lowBytes, enough, amountFits, allDigits, digitsFit, insideArea}
 use Rattle.record.proofs.NumberLaws.{length-bigEndianIn}
 use Rattle.record.proofs.Fields.{Served}
+use Rattle.record.proofs.Tables.{integers-kind}
 use Rattle.record.proofs.Stores.{length-part}
 use Rattle.packer.specs.Writing.{Enough, Storable}
 use Rattle.record.proofs.Bounds.{few-digits}
@@ -38,10 +39,6 @@ stored-integers w big n len l h = rw (take-integers n len l h, take-integers n n
 pub shown-integers : (area : List ℕ) (a : Slot) → eqb (a .kind) 1 ≡ false → shown area a .items ≡ integersIn (a .len) (drop (a .start) area)
 unfolding shown
 shown-integers area a e = simp e
-
-pub not-string : (t : Bool) → not t ≡ true → t ≡ false
-not-string true e = let z : _≡_ {A = ℕ} 0 1 = cc in absurd (omega arith)
-not-string false e = refl
 
 -- a value has as many items as its slot says
 pub length-shown : (area : List ℕ) (a : Slot) → insideArea area a ≡ true → length (shown area a .items) ≡ a .len
@@ -90,7 +87,7 @@ module _ (area : List ℕ) (n : ℕ) (a : Slot) (at size : ℕ) where
 
   module _ (w : ℕ) (big : Bool) (s : Storable area (Integers w big) n a at size) where
     integers : eqb (a .kind) 1 ≡ false
-    integers = not-string (eqb (a .kind) 1) (s .kind)
+    integers = integers-kind (a .kind) (s .kind)
 
     pub integers-asks : (w ≤ 8) × (at + n * w ≤ size) × (a .start + n * 8 ≤ length area)
     integers-asks = (s .code .1, s .room, omega (arith, s .amounts, integers-inside area a (s .inside) integers))

@@ -16,11 +16,11 @@ use Rattle.record.specs.declared.Cursor.{Cursor}
 use Rattle.record.specs.declared.slots.Slot.{Slot}
 use Rattle.record.specs.Table.{slotsOf, slotWidth}
 use Rattle.record.specs.Geometry.{sizesFit}
-use Rattle.record.specs.Packing.{start, cursorOf, packAll, filled, packed, argumentsFit, accepted, refusal, packs, packEffect, pack}
+use Rattle.record.specs.Packing.{finished, start, cursorOf, packAll, filled, packed, argumentsFit, accepted, refusal, packs, packEffect, pack}
 use Rattle.arguments.specs.declared.Measured.the-variants.{Length, Refused}
-use Rattle.arguments.specs.Measure.{origin, checked, HasRoom, measuredOf}
+use Rattle.record.specs.Cursor.{origin}
+use Rattle.arguments.specs.Measure.{checked, HasRoom, measuredOf}
 use Rattle.packer.specs.Writing.{written}
-use Rattle.packer.specs.Whole.{finished}
 use Rattle.record.proofs.Tables.{length-slots}
 use Rattle.packer.proofs.RunLaws.{measured-as, written-as}
 

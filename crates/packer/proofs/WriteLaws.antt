@@ -23,7 +23,8 @@ use Rattle.record.specs.Table.{slotsOf, slotWidth, shown}
 use Rattle.record.specs.Geometry.{amount, bytesFor}
 use Rattle.record.specs.Packing.{stored, argumentFits, nextSlot}
 use Rattle.record.specs.Slots.{slotAt}
-use Rattle.arguments.specs.Measure.{origin, past, advance, stepped, checked, HasRoom}
+use Rattle.record.specs.Cursor.{origin, past}
+use Rattle.arguments.specs.Measure.{advance, stepped, checked, HasRoom}
 use Rattle.packer.specs.Writing.{put, written, Storable, Movable, Puttable, Writable}
 use Rattle.record.proofs.SlotLaws.{next-slot}
 use Rattle.arguments.proofs.Bounds.{advance-within}

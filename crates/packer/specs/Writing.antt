@@ -20,7 +20,8 @@ use Rattle.record.specs.Table.{slotsOf, shown, maxRecord}
 use Rattle.record.specs.Geometry.{amount, bytesFor, gotoIn}
 use Rattle.record.specs.Packing.{stored, nextSlot, kindFits, digitsFit, insideArea}
 use Rattle.record.specs.Slots.{slotAt}
-use Rattle.arguments.specs.Measure.{origin, moved, advance, stepped, checked, HasRoom, Ready, Prepared}
+use Rattle.record.specs.Cursor.{origin, moved}
+use Rattle.arguments.specs.Measure.{advance, stepped, checked, HasRoom, Ready, Prepared}
 
 -- `x` stores zeros; `@` past the highest position fills the gap with them
 abbrev pub putMove : List ℕ → Cursor → Motion → Count → List ℕ

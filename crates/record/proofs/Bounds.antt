@@ -11,7 +11,7 @@ use Rattle.layout.specs.declared.Shape.the-variants.{Text, Digits, Integers}
 use Rattle.layout.specs.Refusals.{if_then_else_}
 use Rattle.layout.specs.Words.{FitCode}
 use Rattle.record.specs.Bytes.{ceilDiv}
-use Rattle.record.specs.Geometry.{perByte, bytesFor}
+use Rattle.record.specs.Geometry.{perByte, bytesFor, itemsLimit, wordLimit}
 use Rattle.record.specs.Table.{itemSize}
 
 pub product-small : (a b x y : ℕ) → a ≤ x → b ≤ y → a * b ≤ x * y
@@ -41,8 +41,8 @@ item-small kind = chosen (eqb kind 1)
     chosen false = omega arith
 
 -- integers of 2 ^ k bytes each, by a shift that does not wrap
-pub shifted-bytes : (s : Shape) (n k : ℕ) {w : ℕ} {big : Bool} → s ≡ Integers w big → FitCode (Data s) → 2 ^ k ≡ w → n < 4303355904 → n * 2 ^ k % 18446744073709551616 ≡ bytesFor s n
+pub shifted-bytes : (s : Shape) (n k : ℕ) {w : ℕ} {big : Bool} → s ≡ Integers w big → FitCode (Data s) → 2 ^ k ≡ w → n < itemsLimit → n * 2 ^ k % wordLimit ≡ bytesFor s n
 shifted-bytes s n k {w} {big} e f p h =
     let g : FitCode (Data (Integers w big)) = rw e at f in
-    let m : n * w ≤ 4303355904 * 8 = product-small n w 4303355904 8 (omega arith) (g .1) in
+    let m : n * w ≤ itemsLimit * 8 = product-small n w itemsLimit 8 (omega arith) (g .1) in
     rw (e, p) (mod-eq-of-lt (omega arith))

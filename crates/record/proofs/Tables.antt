@@ -1,12 +1,17 @@
--- Laws of slot tables: the slots are the numbers, so many to a slot.
-use Prim.Native.Nat.{ℕ, zero, suc, _+_, _*_, _/_}
+-- Laws of slot tables: the slots are the numbers, so many to a slot; and what the kinds say of each other.
+use Prim.Native.Nat.{ℕ, zero, suc, _+_, _*_, _/_, _≤_, _<_}
+use native.Mathlib.Nat.{eq-or-lt-of-le}
 use native.Mathlib.Omega.{arith}
 use mathlib.Core.Path.{_≡_, refl, sym, ap, _∙_}
+use mathlib.Core.Bool.{Bool, true, false, _||_}
+use mathlib.Core.Logic.{⊎-elim}
 use mathlib.Core.List.{List, [], _∷_}
 use lib.ListN.{length, take, drop}
 use lib.Seq.{drop-nil}
+use lib.Dec.{eqb}
+use borrow.Author.Tests.{eqb-true, eq-eqb, ne-eqb}
 use Rattle.record.specs.declared.slots.Slot.{Slot}
-use Rattle.record.specs.Table.{slotsOf, slotWidth}
+use Rattle.record.specs.Table.{slotsOf, slotWidth, string, signed, unsigned, isIntegers}
 
 pub length-slots : (ns : List ℕ) → length (slotsOf ns) ≡ length ns / slotWidth
 unfolding slotsOf
@@ -38,3 +43,20 @@ slots-take (suc n) ns = rw (three n) (go ns (slots-take n))
     go (k ∷ []) ih = refl
     go (k ∷ s ∷ []) ih = refl
     go (k ∷ s ∷ c ∷ rest) ih = ap (λ (r : List Slot). record { kind = k; start = s; len = c } ∷ r) (ih rest)
+
+-- ---- kinds
+
+-- integers are no string
+pub integers-kind : (kind : ℕ) → isIntegers kind ≡ true → eqb kind string ≡ false
+integers-kind kind h = by (eqb kind signed) refl h
+  where
+    by : (t : Bool) → eqb kind signed ≡ t → (t || eqb kind unsigned) ≡ true → eqb kind string ≡ false
+    by true e h = ne-eqb kind string (λ x. omega (arith, eqb-true kind signed e))
+    by false e h = ne-eqb kind string (λ x. omega (arith, eqb-true kind unsigned h))
+
+pub kind-integers : (kind : ℕ) → signed ≤ kind → kind ≤ unsigned → isIntegers kind ≡ true
+kind-integers kind h l =
+    ⊎-elim
+    (λ (e : signed ≡ kind). rw (eq-eqb kind signed (sym e)))
+    (λ (m : signed < kind). let e : kind ≡ unsigned = omega arith in rw (ne-eqb kind signed (λ x. omega arith), eq-eqb kind unsigned e))
+    (eq-or-lt-of-le h)

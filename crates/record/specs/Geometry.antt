@@ -12,9 +12,9 @@ use Rattle.layout.specs.declared.Count.{Count}
 use Rattle.layout.specs.declared.Count.the-variants.{Absent, Star, Times}
 use Rattle.layout.specs.Layout.{maxLayout}
 use Rattle.record.specs.Bytes.{ceilDiv}
-use Rattle.record.specs.Table.{slotWidth, maxSlots, maxRecord, maxArea}
+use Rattle.record.specs.Table.{slotWidth, numberLimit, maxSlots, maxRecord, maxArea}
 
--- "No count is 1 for every type but `@`" (which is refused without one); `*` is all there are
+-- how many a count asks for where there are so many in all: 1 without a count (`@` is refused without one), all for `*`
 abbrev pub amount : Count → ℕ → ℕ
 amount Absent all = 1
 amount Star all = all
@@ -31,31 +31,43 @@ abbrev pub perByte : Bool → ℕ
 perByte true = 2
 perByte false = 8
 
--- the bytes that n items of a field fill: "count/8 bytes rounded up" for binary digits, "count/2" for hex digits
+-- the bytes that n items of a field fill (01, Packing): eight binary or two hex digits to a byte, the last of which may be spare
 abbrev pub bytesFor : Shape → ℕ → ℕ
 bytesFor (Text pad) n = n
 bytesFor (Digits hex high) n = ceilDiv n (perByte hex)
 bytesFor (Integers w big) n = n * w
 
--- the items that so many bytes hold: "every remaining digit", "as many whole items as remain, perhaps none"
+-- the items that so many bytes hold (01, Reading, `*`): all digits, and of the integers the whole ones
 abbrev pub itemsIn : Shape → ℕ → ℕ
 itemsIn (Text pad) left = left
 itemsIn (Digits hex high) left = left * perByte hex
 itemsIn (Integers w big) left = left / w
 
+-- the items of a field where so many bytes are left
+abbrev pub itemsOf : Shape → Count → ℕ → ℕ
+itemsOf s n left = amount n (itemsIn s left)
+
+-- Code counts items below this bound: no limit of 01, but above each count and each length that a slot can say, and far below `wordLimit`,
+-- what a number of 64 bits holds.
+abbrev pub itemsLimit : ℕ
+itemsLimit = 2 * numberLimit
+
+abbrev pub wordLimit : ℕ
+wordLimit = 18446744073709551616
+
 -- ---- moves of the cursor
 
--- `X`, in packing and in reading: "back count; none given, 1; `*` or too many, to 0"
+-- `X` in packing and in reading: back, and no further than to the start
 abbrev pub backFrom : ℕ → Count → ℕ
 backFrom at n = at - amount n at
 
--- `x X @` in reading, in a record of `size` bytes: "`*` or too many, to the end"
+-- `x X @` in reading, in a record of `size` bytes: no further than to the end
 abbrev pub movedIn : ℕ → Motion → Count → ℕ → ℕ
 movedIn size Skip n at = min (at + amount n size) size
 movedIn size Back n at = backFrom at n
 movedIn size Goto n at = min (amount n size) size
 
--- `@` in packing: "to that position; `*`, to the highest so far"
+-- `@` in packing, where `highest` is the highest position reached
 abbrev pub gotoIn : ℕ → Count → ℕ
 gotoIn highest n = amount n highest
 

@@ -3,5 +3,6 @@ pub mod Bytes
 pub mod Table
 pub mod Slots
 pub mod Geometry
+pub mod Cursor
 pub mod Packing
 pub mod Reading

@@ -1,4 +1,4 @@
--- The packer (document 01, "Packing", and the table of numbers): THE EFFECT OF A CALL is `pack`, at the end.
+-- The packer (document 01, Packing, and Numbers that come back): THE EFFECT OF A CALL is `pack`, at the end.
 use Prim.Native.Nat.{ℕ, suc, _+_, _-_, _*_}
 use mathlib.Core.Bool.{Bool, true, _&&_, not}
 use mathlib.Core.List.{List, [], _∷_, _++_, map}
@@ -20,7 +20,7 @@ use Rattle.record.specs.declared.slots.Slot.{Slot}
 use Rattle.record.specs.declared.Answer.{Answer}
 use Rattle.record.specs.declared.Cursor.{Cursor}
 use Rattle.record.specs.Bytes.{storeAt, fit, ceilDiv, pieces, join, digits, number, ordered}
-use Rattle.record.specs.Table.{unset, slotsOf, shown}
+use Rattle.record.specs.Table.{unset, string, isIntegers, slotsOf, shown}
 use Rattle.record.specs.Slots.{valueEnd, isInside}
 use Rattle.record.specs.Geometry.{amount, base, perByte, backFrom, gotoIn, sizesFit}
 
@@ -60,7 +60,7 @@ pub record Run : Type 0 where
   pub out : List ℕ
   pub at : ℕ
 
--- "starts at 0"
+-- at the start nothing is stored
 abbrev pub start : Run
 start = record { out = []; at = 0 }
 
@@ -71,7 +71,7 @@ cursorOf r = record { at = r .at; end = length (r .out) }
 abbrev pub store : Run → List ℕ → Run
 store r bs = record { out = storeAt (r .out) (r .at) bs; at = r .at + length bs }
 
--- `@`: "bytes never stored are zero"
+-- `@`: a gap that it leaves is filled with zeros
 abbrev pub goto : Run → Count → Run
 goto r n =
     let at = gotoIn (length (r .out)) n in
@@ -100,15 +100,15 @@ unfoldable pub packed : List Filled → List ℕ
 unfolding packAll
 packed fs = packAll start fs .out
 
--- ---- the arguments: lines 6 to 10
+-- ---- the arguments: each test that fails is a refusal, 6 to 10
 
--- line 8 is not due: a string for `a A b B h H`, integers for the others
+-- else 8: `a A b B h H` take a string, the other types integers
 abbrev pub kindFits : Shape → ℕ → Bool
-kindFits (Text pad) k = eqb k 1
-kindFits (Digits hex high) k = eqb k 1
-kindFits (Integers w big) k = not (eqb k 1)
+kindFits (Text pad) k = eqb k string
+kindFits (Digits hex high) k = eqb k string
+kindFits (Integers w big) k = isIntegers k
 
--- line 9 is not due: "No count: the slot holds exactly one integer. Count n: at least n"
+-- else 9: just one integer where no count stands, and otherwise no fewer than the count
 abbrev pub enough : Count → ℕ → Bool
 enough Absent have = eqb have 1
 enough Star have = true
@@ -119,7 +119,7 @@ amountFits (Text pad) n have = true
 amountFits (Digits hex high) n have = true
 amountFits (Integers w big) n have = enough n have
 
--- line 10 is not due: each digit that is looked at is one
+-- else 10: each digit that is looked at is one
 unfoldable pub allDigits : Bool → List ℕ → Bool
 unfolding digitValue
 allDigits hex [] = true
@@ -131,11 +131,11 @@ digitsFit (Text pad) n cs = true
 digitsFit (Digits hex high) n cs = allDigits hex (take n cs)
 digitsFit (Integers w big) n cs = true
 
--- "A value is inside the area when its start plus its bytes is at most the area's length"
+-- the value ends within the area
 abbrev pub insideArea : List ℕ → Slot → Bool
 insideArea area a = leb (valueEnd a) (length area)
 
--- slot number i serves a field: the lines in number order
+-- slot number i serves a field: the tests in the order of their refusals
 unfoldable pub argumentFits : List ℕ → Shape → Count → ℕ → Slot → Result (Unit {0})
 unfolding shown digitsFit
 argumentFits area s n i a = do
@@ -145,7 +145,7 @@ argumentFits area s n i a = do
   _ ← demand (amountFits s n (a .len)) WrongAmount i
   demand (digitsFit s (amount n (a .len)) (shown area a .items)) BadDigit i
 
--- the next slot; there is one, once line 5 is passed
+-- the next slot; there is one, unless the call was refused with 5
 abbrev pub nextSlot : List Slot → Slot
 nextSlot [] = record { kind = 0; start = 0; len = 0 }
 nextSlot (t ∷ ts) = t
@@ -170,31 +170,37 @@ filled area ts (f ∷ fs) = elim (f .code) [
 
 -- ---- the call
 
--- "Accepted: 0, .." and "Refused: number, place, 0"
+-- the three numbers of an answer
 abbrev pub accepted : ℕ → ℕ → Answer
 accepted first second = record { number = 0; first = first; second = second }
 
 abbrev pub refusal : Refusal → ℕ → Answer
 refusal why place = record { number = numberOf why; first = place; second = 0 }
 
--- the result, or the first line of the table that holds, in 01's order
+-- the end of a call, for fields that have a slot each
+unfoldable pub finished : List ℕ → List Slot → List Field → List ℕ → Result (List ℕ)
+unfolding argumentsFit filled packed
+finished area ts fs output = do
+  _ ← argumentsFit area 0 ts fs
+  let bs = packed (filled area ts fs)
+  _ ← demand (leb (length bs) (length output)) NoRoom 0
+  ok bs
+
+-- the result, or the first refusal in 01's order
 unfoldable pub packs : List ℕ → List ℕ → List ℕ → List ℕ → Result (List ℕ)
-unfolding fieldsOf argumentsFit filled packed slotCount slotsOf
+unfolding fieldsOf slotCount slotsOf finished
 packs layout slots area output = do
   _ ← demand (sizesFit layout slots output area) BadSize 0
   fs ← fieldsOf true layout
   _ ← demand (eqb (length (slotsOf slots)) (slotCount fs)) WrongSlots 0
-  _ ← argumentsFit area 0 (slotsOf slots) fs
-  let bs = packed (filled area (slotsOf slots) fs)
-  _ ← demand (leb (length bs) (length output)) NoRoom 0
-  ok bs
+  finished area (slotsOf slots) fs output
 
 -- all that a call of the packer leaves: its answer and the output buffer
 pub record Packed : Type 0 where
   pub answer : Answer
   pub output : List ℕ
 
--- "After an accepted packing, bytes past the result stay as lent"; a refusal changes nothing
+-- the result at the front of the buffer, whose other bytes stay; a refusal changes nothing
 abbrev pub packEffect : List ℕ → Result (List ℕ) → Packed
 packEffect output (ok bs) = record { answer = accepted (length bs) 0; output = bs ++ drop (length bs) output }
 packEffect output (refused why place) = record { answer = refusal why place; output = output }

@@ -1,4 +1,4 @@
--- The reader (document 01, "Reading", and the table of numbers): THE EFFECT OF A CALL is `read`, at the end.
+-- The reader (document 01, Reading, and Numbers that come back): THE EFFECT OF A CALL is `read`, at the end.
 use Prim.Native.Nat.{ℕ, _+_, _-_, _*_, _^_}
 use mathlib.Core.Bool.{Bool, false, _&&_, _||_}
 use mathlib.Core.List.{List, [], _∷_, _++_, map}
@@ -13,13 +13,13 @@ use Rattle.layout.specs.Refusals.{if_then_else_, Result, ok, refused, _>>=_, de
 use Rattle.layout.specs.Layout.{fieldsOf, slotCount}
 use Rattle.record.specs.declared.Answer.{Answer}
 use Rattle.record.specs.Bytes.{part, storeAt, pieces, join, digits, number, ordered}
-use Rattle.record.specs.Table.{slotsOf, Value, slotWidth, slotNumbers, valueBytes}
-use Rattle.record.specs.Geometry.{amount, base, perByte, bytesFor, itemsIn, movedIn, sizesFit}
+use Rattle.record.specs.Table.{string, integerKind, slotsOf, Value, slotWidth, slotNumbers, valueBytes}
+use Rattle.record.specs.Geometry.{base, perByte, bytesFor, itemsOf, movedIn, sizesFit}
 use Rattle.record.specs.Packing.{accepted, refusal}
 
 -- ---- the value that a field's bytes show
 
--- "trailing spaces and zero bytes dropped"
+-- `A`: a value ends with neither a space nor a zero byte
 abbrev pub isBlank : ℕ → Bool
 isBlank c = eqb c 0 || eqb c 32
 
@@ -31,7 +31,7 @@ trimmed (c ∷ cs) = onto c (trimmed cs)
     onto c [] = if isBlank c then [] else (c ∷ [])
     onto c (d ∷ ds) = c ∷ d ∷ ds
 
--- the character of a digit, "hex in lower case"
+-- the character of a digit's value, hex in small letters
 unfoldable pub digitChar : ℕ → ℕ
 digitChar d = if ltb d 10 then d + 48 else (d + 87)
 
@@ -42,16 +42,20 @@ widened w unsigned u = if unsigned || ltb (2 * u) (256 ^ w) then u else (u + (2 
 -- the value of n items in a field's bytes bs
 unfoldable pub loaded : Shape → Bool → ℕ → List ℕ → Value
 unfolding trimmed digitChar widened join digits pieces number
-loaded (Text pad) u n bs = record { kind = 1; items = if eqb pad 32 then trimmed bs else bs }
+loaded (Text pad) u n bs = record { kind = string; items = if eqb pad 32 then trimmed bs else bs }
 loaded (Digits hex high) u n bs =
-    record { kind = 1; items = take n (map digitChar (join (map (λ b. ordered high (digits (base hex) (perByte hex) b)) bs))) }
+    record { kind = string; items = take n (map digitChar (join (map (λ b. ordered high (digits (base hex) (perByte hex) b)) bs))) }
 loaded (Integers w big) u n bs =
     record {
-      kind = if u then 3 else 2;
+      kind = integerKind u;
       items = map (λ p. widened w u (number 256 (ordered big p))) (pieces w n bs);
     }
 
 -- ---- the run over the fields
+
+-- the value of n items of a field whose bytes start at the place `at`
+abbrev pub valueAt : List ℕ → ℕ → Shape → Bool → ℕ → Value
+valueAt bs at s u n = loaded s u n (part bs at (bytesFor s n))
 
 -- the values of the fields from the place `at` on, up to the first that needs more bytes than remain
 unfoldable pub valuesFrom : List ℕ → ℕ → List Field → List Value
@@ -60,15 +64,15 @@ valuesFrom bs at [] = []
 valuesFrom bs at (f ∷ fs) = elim (f .code) [
   | Data s ↦
       let left = length bs - at in
-      let n = amount (f .count) (itemsIn s left) in
+      let n = itemsOf s (f .count) left in
       let need = bytesFor s n in
-      if leb need left then loaded s (f .unsigned) n (part bs at need) ∷ valuesFrom bs (at + need) fs else []
+      if leb need left then valueAt bs at s (f .unsigned) n ∷ valuesFrom bs (at + need) fs else []
   | Move m ↦ valuesFrom bs (movedIn (length bs) m (f .count) at) fs
 ]
 
 -- ---- the call
 
--- the values that a layout shows of a record, or the first line of the table that holds, in 01's order
+-- the values that a layout shows of a record, or the first refusal in 01's order
 unfoldable pub reads : List ℕ → List ℕ → List ℕ → List ℕ → ℕ → Result (List Value)
 unfolding fieldsOf slotsOf slotCount valuesFrom valueBytes
 reads layout bs slots area mark = do

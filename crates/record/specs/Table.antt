@@ -1,5 +1,6 @@
--- Slot tables (document 01, "Slot tables"): a run of slots, three numbers to a slot, and a value area of bytes.
+-- Slot tables (document 01, Slot tables): a run of slots, so many numbers to each, and a value area of bytes.
 use Prim.Native.Nat.{ℕ, _+_}
+use mathlib.Core.Bool.{Bool, _||_}
 use mathlib.Core.List.{List, [], _∷_, map}
 use lib.ListN.{length, take, drop}
 use lib.Dec.{eqb}
@@ -9,15 +10,13 @@ use Rattle.record.specs.Bytes.{join, bigEndian, bigEndianIn}
 
 -- ---- sizes (the layout's and the count's stand in the crate `layout`)
 
--- "at most 64 slots"
 abbrev pub maxSlots : ℕ
 maxSlots = 64
 
--- "record, or packer's output buffer, at most 4,096 bytes"
+-- the bytes of a record, and of the packer's output buffer
 abbrev pub maxRecord : ℕ
 maxRecord = 4096
 
--- "area at most 65,536 bytes"
 abbrev pub maxArea : ℕ
 maxArea = 65536
 
@@ -45,6 +44,13 @@ unsigned = 3
 
 abbrev pub maxKind : ℕ
 maxKind = unsigned
+
+abbrev pub isIntegers : ℕ → Bool
+isIntegers kind = eqb kind signed || eqb kind unsigned
+
+-- the kind of integers that are read, with the flag `u` or without
+abbrev pub integerKind : Bool → ℕ
+integerKind u = if u then unsigned else signed
 
 -- the slots of a lent run of numbers (a slot is declared in src/slots.rt; its `len` counts bytes or integers)
 unfoldable pub slotsOf : List ℕ → List Slot

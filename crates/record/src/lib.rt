@@ -4,8 +4,10 @@ ghost use Prim.Native.Nat.{_+_, _≤_, _<_, min, max};
 ghost use Rattle.layout.specs.Refusals.{lineOf, numberOf};
 ghost use Rattle.layout.specs.Words.{lastData, FitCode, FitCount, shapeNumbered};
 ghost use Rattle.layout.specs.declared.Code.the-variants.{Data};
-ghost use Rattle.layout.specs.declared.Motion.the-variants.{Skip, Goto};
-ghost use Rattle.record.specs.Geometry.{recordFits, tableFits, lengthsFit, amount, perByte, bytesFor, backFrom, movedIn, gotoIn};
+ghost use Rattle.layout.specs.declared.Motion.the-variants.{Skip, Back, Goto};
+ghost use Rattle.record.specs.Geometry.{recordFits, tableFits, lengthsFit, amount, perByte, bytesFor, itemsLimit, wordLimit};
+ghost use Rattle.record.specs.Table.{numberLimit};
+ghost use Rattle.record.specs.Cursor.{past, moved, movedInside};
 ghost use Rattle.record.specs.Packing.{accepted, refusal};
 use layout::Count;
 use layout::Refusal;
@@ -151,9 +153,9 @@ pub fn per_byte(hex: bool) -> usize
     if hex { 2 } else { 8 }
 }
 
-// How many bytes so many items of a field fill. (The bound is above every length that a slot can hold and every count.)
+// How many bytes so many items of a field fill.
 pub fn bytes_for(s: Shape, n: usize) -> usize
-    requires { ⌜ (n < 4303355904) × FitCode (Data s) ⌝ }
+    requires { ⌜ (n < itemsLimit) × FitCode (Data s) ⌝ }
     ensures { λ r. ⌜ r ≡ bytesFor s n ⌝ }
 {
     match s {
@@ -165,7 +167,7 @@ pub fn bytes_for(s: Shape, n: usize) -> usize
 
 // The same for a type by its number, one that takes a slot.
 pub fn bytes_numbered(d: u32, n: usize) -> usize
-    requires { ⌜ (n < 4303355904) × (d ≤ lastData) ⌝ }
+    requires { ⌜ (n < itemsLimit) × (d ≤ lastData) ⌝ }
     ensures { λ r. ⌜ r ≡ bytesFor (shapeNumbered d) n ⌝ }
 {
     if layout::LAST_DIGITS < d {
@@ -191,8 +193,8 @@ impl Cursor {
 
     // Past so many bytes that are stored here.
     pub fn store(self, bytes: usize) -> Cursor
-        requires { ⌜ self .at + bytes < 18446744073709551616 ⌝ }
-        ensures { λ r. ⌜ r ≡ record { at = self .at + bytes; end = max (self .end) (self .at + bytes) } ⌝ }
+        requires { ⌜ self .at + bytes < wordLimit ⌝ }
+        ensures { λ r. ⌜ r ≡ past self bytes ⌝ }
     {
         let at = self.at + bytes;
         Cursor {
@@ -201,9 +203,9 @@ impl Cursor {
         }
     }
 
-    // `X`
+    // `X`: in packing and in reading.
     pub fn back(self, n: Count) -> Cursor
-        ensures { λ r. ⌜ r ≡ record { at = backFrom (self .at) n; end = self .end } ⌝ }
+        ensures { λ r. ⌜ r ≡ moved self Back n ⌝ }
     {
         let at = self.at;
         Cursor {
@@ -214,8 +216,8 @@ impl Cursor {
 
     // `x` in reading: forward, and not past the end.
     pub fn skip(self, n: Count) -> Cursor
-        requires { ⌜ (self .at ≤ self .end) × (self .end < 4294967296) × FitCount n ⌝ }
-        ensures { λ r. ⌜ r ≡ record { at = movedIn (self .end) Skip n (self .at); end = self .end } ⌝ }
+        requires { ⌜ (self .at ≤ self .end) × (self .end < numberLimit) × FitCount n ⌝ }
+        ensures { λ r. ⌜ r ≡ movedInside self Skip n ⌝ }
     {
         let end = self.end;
         Cursor {
@@ -226,7 +228,7 @@ impl Cursor {
 
     // `@` in reading: not past the end.
     pub fn seek(self, n: Count) -> Cursor
-        ensures { λ r. ⌜ r ≡ record { at = movedIn (self .end) Goto n (self .at); end = self .end } ⌝ }
+        ensures { λ r. ⌜ r ≡ movedInside self Goto n ⌝ }
     {
         let end = self.end;
         Cursor {
@@ -237,7 +239,7 @@ impl Cursor {
 
     // `@` in packing: the position counts as reached.
     pub fn goto(self, n: Count) -> Cursor
-        ensures { λ r. ⌜ r ≡ record { at = gotoIn (self .end) n; end = max (self .end) (gotoIn (self .end) n) } ⌝ }
+        ensures { λ r. ⌜ r ≡ moved self Goto n ⌝ }
     {
         let end = self.end;
         let at = amount(n, end);

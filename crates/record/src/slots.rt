@@ -2,7 +2,7 @@
 ghost use mathlib.Core.Path.{_≡_};
 ghost use Prim.Native.Nat.{_+_, _*_, _≤_, _<_};
 ghost use lib.ListN.{length};
-ghost use Rattle.record.specs.Table.{slotWidth, numberLimit, itemSize};
+ghost use Rattle.record.specs.Table.{slotWidth, numberLimit, isIntegers, itemSize};
 ghost use Rattle.record.specs.Slots.{SlotAt, slotSet, isInside};
 use super::SLOT_WIDTH;
 use super::numbers::INTEGER_SIZE;
@@ -52,6 +52,16 @@ pub fn item_size(kind: usize) -> usize
     ensures { λ r. ⌜ r ≡ itemSize kind ⌝ }
 {
     if kind == STRING { 1 } else { INTEGER_SIZE }
+}
+
+// A kind of integers.
+pub fn is_integers(kind: usize) -> bool
+    ensures { λ r. ⌜ r ≡ isIntegers kind ⌝ }
+{
+    if kind == SIGNED {
+        return true;
+    }
+    kind == UNSIGNED
 }
 
 // The kind is known, and the value lies inside an area of so many bytes; else the slot is refused with 7.

@@ -1,5 +1,6 @@
 -- A word's type number says what its field is; an argument that passes the quick test is refused by no line.
 use native.Mathlib.Omega.{arith}
+use Rattle.record.specs.Geometry.{itemsLimit}
 use Prim.Native.Nat.{_/_, _%_, _<_}
 use Rattle.layout.specs.declared.Code.the-variants.{Data}
 use Rattle.layout.specs.Words.{shapeNumbered, countFrom}
@@ -15,7 +16,7 @@ ready : (c : tie.Then1)
     → Ready (c .before .before .before .args .slots .now) (c .before .before .before .args .k) (c .before .before .before .args .c) (Data (shapeNumbered (c .before .before .before .args .word % 256))) (countFrom (c .before .before .before .args .word / 512))
 ready c = ready-data _ _ _ _ (c .before .before .before .pre) (c .if1 .taken)
 
-items : (c : tie.After-amount) → c .amount .result < 4303355904
+items : (c : tie.After-amount) → c .amount .result < itemsLimit
 items c =
     let n = c .before .before .before .count-from in
     let a = c .before .before .before .before .slot-at in

@@ -3,6 +3,7 @@ use native.Mathlib.Omega.{arith}
 use Rattle.layout.specs.declared.Code.the-variants.{Data}
 use Rattle.layout.specs.declared.Shape.the-variants.{Integers}
 use Rattle.layout.specs.Words.{FitCode}
+use Rattle.record.specs.Geometry.{itemsLimit}
 use Rattle.record.proofs.Bounds.{per-byte-small, product-small}
 use borrow.Author.Needs.{needs}
 use Rattle.record.proofs.bytes_for.Statement.{statement}
@@ -37,7 +38,7 @@ mul-result c =
     let start = c .before .before .before in
     let s = c .before .s2 .given in
     let fit : FitCode (Data (Integers (s .0 .0) (s .0 .1 .0))) = rw (s .1) at (start .pre .1) in
-    omega (arith, product-small (start .args .n) (s .0 .0) 4303355904 8 (omega arith) (fit .1))
+    omega (arith, product-small (start .args .n) (s .0 .0) itemsLimit 8 (omega arith) (fit .1))
 
 returns : tie.Need-returns
 returns c = search needs
