@@ -15,6 +15,6 @@ abbrev pub verdictOf : Result (Unit {0}) → Verdict
 verdictOf (ok a) = Fits
 verdictOf (refused why place) = Refused why place
 
--- a quick test of an argument is sound: where it passes, no line is due, whatever the slot's number
+-- a quick test of an argument is sound: where it passes, none of the numbers 6 to 10 is given, whatever the slot's number
 pub record Sound (passes : Bool) (area : List ℕ) (s : Shape) (n : Count) (a : Slot) : Type 0 where
   pub fits : passes ≡ true → (k : ℕ) → argumentFits area s n k a ≡ ok tt

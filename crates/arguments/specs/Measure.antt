@@ -46,7 +46,7 @@ HasRoom (refused why place) size = ⊥
 
 -- ---- what the code relies on
 
--- the words hold n fields, and there is a slot for each that takes one (line 5 is passed)
+-- the words hold n fields, and there is a slot for each that takes one (number 5 is not given)
 pub record Prepared (n : ℕ) (ws ns : List ℕ) : Type 0 where
   pub few : n ≤ length ws
   pub room : length ws ≡ maxLayout
@@ -70,7 +70,7 @@ abbrev pub measuredOf : Result Cursor → Measured
 measuredOf (ok c) = Length (c .end)
 measuredOf (refused why place) = Refused why place
 
--- the numbers fit the answer's
+-- the slot number of a refusal is one of a table, so it fits the answer; a length is bounded where the output is lent
 abbrev pub Small : Measured → Type 0
 Small (Length n) = Unit {0}
 Small (Refused why place) = place ≤ maxSlots

@@ -1,4 +1,4 @@
-// The check of one argument: lines 6 to 10 of the table.
+// The check of one argument: whether it is refused with one of the numbers 6 to 10 (the table of numbers is in include/curlew.h).
 ghost use mathlib.Core.Path.{_≡_};
 ghost use mathlib.Core.Bool.{Bool, true};
 ghost use Prim.Native.Nat.{ℕ, _+_, _*_, _≤_, _<_};
@@ -18,7 +18,7 @@ pub enum Verdict {
     Refused(Refusal, usize),
 }
 
-// Line 8 is not due.
+// The kind is one that the type takes; else number 8.
 fn kind_fits(s: Shape, kind: usize) -> bool
     ensures { λ r. ⌜ r ≡ kindFits s kind ⌝ }
 {
@@ -39,7 +39,7 @@ fn is_enough(n: Count, have: usize) -> bool
     }
 }
 
-// Line 9 is not due.
+// There are as many integers as the count asks for; else number 9.
 fn amount_fits(s: Shape, n: Count, have: usize) -> bool
     ensures { λ r. ⌜ r ≡ amountFits s n have ⌝ }
 {
@@ -50,7 +50,7 @@ fn amount_fits(s: Shape, n: Count, have: usize) -> bool
     }
 }
 
-// Line 10 is not due.
+// Each digit that is looked at is one; else number 10.
 fn digits_fit(s: Shape, n: usize, a: Slot, area: &[u8]) -> bool
     requires { ⌜ (kindFits s (a .kind) ≡ true) × (insideArea (now area) a ≡ true) ⌝ }
     ensures { λ r. ⌜ r ≡ digitsFit s n (shown (now (area .entry)) a .items) ⌝ }
@@ -87,7 +87,7 @@ pub fn check(s: Shape, n: Count, a: Slot, k: usize, area: &[u8]) -> Verdict
     Verdict::Fits
 }
 
-// ---- the quick test: the usual argument, which serves, is spared the lines
+// ---- the quick test: the usual argument, which serves, is spared the exact check
 
 // Integers serve: where this holds, nothing is wrong with them.
 fn integers_serve(n: Count, a: Slot, area: &[u8]) -> bool

@@ -1,5 +1,5 @@
 -- Demand 3 (document 01, "What demand 3 reads back"): one claim about both packings and every reading.
--- The sentences of that section stand beside the definitions that state them. The proof is in proofs/ReadsBack.antt.
+-- Each definition names the part of that section that it states. The proof is in proofs/ReadsBack.antt.
 use Prim.Native.Nat.{ℕ, _+_, _*_, _%_, _^_, _≤_}
 use mathlib.Core.Path.{_≡_}
 use mathlib.Core.Bool.{Bool, true, false, _&&_}
@@ -41,22 +41,21 @@ plain (f ∷ fs) = plainCode (f .code) && plainCount (f .count) && plain fs
 
 -- ---- what comes back of an argument's items xs, in a field of n items
 
--- "hex lowered"
+-- a hex digit as a reading shows it: its small letter
 unfoldable pub lowered : ℕ → ℕ
 lowered c = if leb 65 c && leb c 70 then c + 32 else c
 
 unfoldable pub readBack : Shape → Bool → ℕ → List ℕ → Value
 unfolding lowered trimmed widened fit
--- "a string cut or zero-padded; for `A` cut or space-padded, then trailing spaces and zero bytes dropped"
+-- text: brought to n bytes by its pad; of `A` the blanks at its end are not part of the value
 readBack (Text pad) u n xs = record { kind = string; items = if eqb pad 32 then trimmed (fit n pad xs) else fit n pad xs }
--- "digits cut or padded with `0`, hex lowered. Strings and digits come back as kind 1."
+-- digits: brought to n by zeros; text and digits are kind 1
 readBack (Digits hex high) u n xs = record { kind = string; items = map lowered (fit n 48 xs) }
--- "the first count items come back (one where no count stands), each reduced modulo 2 to the power of the width in bits, signed as
--- kind 2 or, with `u`, unsigned as kind 3"
+-- integers: n of them, each cut to the bits of its type and read again with its sign (kind 2), or with `u` without one (kind 3)
 readBack (Integers w big) u n xs =
     record { kind = integerKind u; items = map (λ x. widened w u (x % 256 ^ w)) (take n xs) }
 
--- ---- "A field's end is the sum of the bytes that it and every field before it fill in packing, `x` included."
+-- ---- the end of a field: how far packing has come after it; `x` fills bytes too
 
 unfoldable pub fills : Code → Count → ℕ
 fills (Data s) n = bytesFor s (amount n 0)
@@ -64,14 +63,14 @@ fills (Move Skip) n = amount n 0
 fills (Move Back) n = 0
 fills (Move Goto) n = 0
 
--- the end of the last field ("0 without fields")
+-- the end of a layout's last field; of no fields 0
 unfoldable pub endOf : List Field → ℕ
 unfolding fills
 endOf [] = 0
 endOf (f ∷ fs) = fills (f .code) (f .count) + endOf fs
 
 -- The values of exactly the fields that take a slot and end at or before the cut; `before` is the end of the fields before.
--- "`x` sets nothing, also where it stops at the cut."
+-- An `x` has no value, wherever the cut is.
 unfoldable pub setBy : ℕ → ℕ → List Filled → List Value
 unfolding fills readBack
 setBy cut before [] = []
@@ -94,19 +93,19 @@ pub record Layouts : Type 0 where
   pub new : List ℕ
   pub fields : List Field
   pub added : List Field
-  -- "The arguments are those at packing, the same for both records": the new layout's; the old one uses the first of them
+  -- one table of arguments serves both packings: it is the new layout's, and the old layout uses the first of them
   pub slots : List ℕ
   pub area : List ℕ
   pub oldOutput : List ℕ
   pub newOutput : List ℕ
-  -- "“Added” goes by fields and not by text"; two fields are the same where type, flag and count agree
+  -- what is added is added as fields, whatever the texts: two fields are the same where type, flag and count agree
   pub old-fields : fieldsOf true old ≡ ok fields
   pub new-fields : fieldsOf true new ≡ ok (fields ++ added)
   pub is-plain : T (plain (fields ++ added))
-  -- the arguments are such as the packer takes for the new layout: a slot for each field (line 5), and each serves its field (lines 6 to 10)
+  -- the arguments are such as the packer takes for the new layout: a slot for each field (no number 5), and each serves its field (no number 6 to 10)
   pub slot-for-each : length (slotsOf slots) ≡ slotCount (fields ++ added)
   pub served : argumentsFit area 0 (slotsOf slots) (fields ++ added) ≡ ok tt
-  -- "no call is lent anything that number 1 refuses, and each packing has room for its result"
+  -- both packings keep to the sizes (no number 1), and their results have room (no number 11)
   pub new-sizes : T (sizesFit new slots newOutput area)
   pub old-sizes : T (sizesFit old (take (slotWidth * slotCount fields) slots) oldOutput area)
   pub new-room : endOf (fields ++ added) ≤ length newOutput
@@ -137,7 +136,7 @@ packedBy l which = pack (textOf l which) (slotsBy l which) (l .area) (outputBy l
 abbrev pub recordOf : Packed → List ℕ
 recordOf p = take (p .answer .first) (p .output)
 
--- "A record cut at k is its first k bytes"
+-- a record cut at k: its first k bytes
 abbrev pub cutRecord : Layouts → Bool → ℕ → List ℕ
 cutRecord l which k = take k (recordOf (packedBy l which))
 
@@ -147,8 +146,9 @@ due l layout k = setBy k 0 (filled (l .area) (slotsOf (l .slots)) (fieldsBy l la
 
 -- ---- the claim
 
--- A reading by either layout of either record: k is the cut ("k from 0 to its length; not cut, k is its length"); table, area and mark
--- "may hold anything". Room is asked only for the values that are set, not for those of all fields: so the claim covers more readings.
+-- A reading by either layout of either record: k is the cut, and the record's length where it is not cut. Slots and area may hold anything
+-- before; what is asked is that they, and the mark, keep to the sizes (no number 1), that there is a slot for each field of the layout (no number 5), and
+-- that the values due have room after the mark (no number 11). Room is asked for no other value, so the claim covers more readings.
 pub record Reading (l : Layouts) (packing layout : Bool) (k : ℕ) (slots area : List ℕ) (mark : ℕ) : Type 0 where
   pub within : k ≤ length (recordOf (packedBy l packing))
   pub sizes : T (sizesFit (textOf l layout) slots (cutRecord l packing k) area && leb mark (length area))
@@ -156,11 +156,10 @@ pub record Reading (l : Layouts) (packing layout : Bool) (k : ℕ) (slots area :
   pub room : mark + length (valueBytes (due l layout k)) ≤ length area
 
 pub record ReadsBack (l : Layouts) : Type 0 where
-  -- "Both packings answer 0, the end of the last field (0 without fields), and 0."
+  -- both packings are accepted, with the end of the last field as the length
   pub packings : (which : Bool) → packedBy l which .answer ≡ accepted (endOf (fieldsBy l which)) 0
-  -- Every reading leaves what `putInto` says of the values due: "answers 0, the number of fields set, and the mark plus the bytes of their
-  -- values. A set slot holds its value's kind, as its start the place where the value before it ended (the mark for the first), and its
-  -- length; there the area holds the value. Surplus slots stay as lent." So do the slots of fields that are not set, and all else of the area.
+  -- Every reading leaves what `putInto` says of the values due: its answer counts them and gives the place after the last one; slot by slot they
+  -- have their kind, the place where the value before ended, and their length, and there the area holds them. All other slots and bytes stay.
   pub readings :
       (packing layout : Bool) (k : ℕ) (slots area : List ℕ) (mark : ℕ) → Reading l packing layout k slots area mark
       → read (textOf l layout) (cutRecord l packing k) slots area mark ≡ putInto slots area mark (due l layout k)

@@ -89,7 +89,7 @@ module _ (layout slots area output : List ℕ) where
       unfolding pack packs finished
       pack-finish h = simp (fine, e, h)
 
--- ---- line 5
+-- ---- number 5
 
 module _ (ns : List ℕ) (needed count : ℕ) (e : needed ≡ count) where
   pub other-slots : (length ns / slotWidth ≡ needed → ⊥) → eqb (length (slotsOf ns)) count ≡ false

@@ -29,6 +29,10 @@ putMove out c Skip n = storeAt out (c .at) (replicate (amount n 0) 0)
 putMove out c Back n = out
 putMove out c Goto n = storeAt out (c .end) (replicate (gotoIn (c .end) n - c .end) 0)
 
+-- n items of the value in slot a are stored from the place `at` on, and r is the number of their bytes
+abbrev pub StoredAs : List ℕ → Shape → ℕ → Slot → ℕ → List ℕ → ℕ → List ℕ → Type 0
+StoredAs area s n a at before r after = (r ≡ bytesFor s n) × (after ≡ storeAt before at (stored s n (shown area a .items)))
+
 -- one field, whose argument is the slot t
 unfoldable pub put : List ℕ → Slot → List ℕ → Cursor → Code → Count → List ℕ
 unfolding stored shown

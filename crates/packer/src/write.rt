@@ -4,14 +4,11 @@ ghost use Prim.Native.Nat.{_≤_, _<_};
 ghost use lib.ListN.{length};
 ghost use Rattle.layout.specs.declared.Shape.the-variants.{Text, Digits, Integers};
 ghost use Rattle.layout.specs.Words.{lastData, decoded, fieldOf, shapeNumbered};
-ghost use Rattle.record.specs.Bytes.{storeAt};
-ghost use Rattle.record.specs.Table.{slotsOf, shown};
-ghost use Rattle.record.specs.Geometry.{bytesFor};
-ghost use Rattle.record.specs.Packing.{stored};
+ghost use Rattle.record.specs.Table.{slotsOf};
 ghost use Rattle.record.specs.Slots.{slotAt};
 ghost use Rattle.record.specs.Cursor.{origin, moved};
 ghost use Rattle.arguments.specs.Measure.{advance};
-ghost use Rattle.packer.specs.Writing.{putMove, put, written, Storable, Movable, Puttable, Writable};
+ghost use Rattle.packer.specs.Writing.{putMove, put, written, StoredAs, Storable, Movable, Puttable, Writable};
 use layout::Code;
 use layout::Count;
 use layout::Motion;
@@ -22,7 +19,7 @@ use record::slots::Slot;
 // n items of a string; tells how many bytes they fill.
 fn store_text(n: usize, a: Slot, area: &[u8], out: &mut [u8], at: usize, pad: u8) -> usize
     requires { ⌜ Storable (now area) (Text pad) n a at (length (now out)) ⌝ }
-    ensures { λ r. ⌜ (r ≡ bytesFor (Text pad) n) × (now (out .exit) ≡ storeAt (now (out .entry)) at (stored (Text pad) n (shown (now (area .entry)) a .items))) ⌝ }
+    ensures { λ r. ⌜ StoredAs (now (area .entry)) (Text pad) n a at (now (out .entry)) r (now (out .exit)) ⌝ }
 {
     codec::text::store(out, at, area, a.start, a.len, n, pad);
     n
@@ -39,7 +36,7 @@ fn store_digits(
     high: bool,
 ) -> usize
     requires { ⌜ Storable (now area) (Digits hex high) n a at (length (now out)) ⌝ }
-    ensures { λ r. ⌜ (r ≡ bytesFor (Digits hex high) n) × (now (out .exit) ≡ storeAt (now (out .entry)) at (stored (Digits hex high) n (shown (now (area .entry)) a .items))) ⌝ }
+    ensures { λ r. ⌜ StoredAs (now (area .entry)) (Digits hex high) n a at (now (out .entry)) r (now (out .exit)) ⌝ }
 {
     codec::digits::store(out, at, area, a.start, a.len, n, hex, high);
     record::bytes_for(Shape::Digits(hex, high), n)
@@ -56,7 +53,7 @@ fn store_integers(
     big: bool,
 ) -> usize
     requires { ⌜ Storable (now area) (Integers w big) n a at (length (now out)) ⌝ }
-    ensures { λ r. ⌜ (r ≡ bytesFor (Integers w big) n) × (now (out .exit) ≡ storeAt (now (out .entry)) at (stored (Integers w big) n (shown (now (area .entry)) a .items))) ⌝ }
+    ensures { λ r. ⌜ StoredAs (now (area .entry)) (Integers w big) n a at (now (out .entry)) r (now (out .exit)) ⌝ }
 {
     codec::integers::store(out, at, area, a.start, n, w, big);
     n * w
@@ -66,7 +63,7 @@ fn store_integers(
 // code of its own for each, and tests the type once.
 fn store_value(d: u32, n: usize, a: Slot, area: &[u8], out: &mut [u8], at: usize) -> usize
     requires { ⌜ (d ≤ lastData) × Storable (now area) (shapeNumbered d) n a at (length (now out)) ⌝ }
-    ensures { λ r. ⌜ (r ≡ bytesFor (shapeNumbered d) n) × (now (out .exit) ≡ storeAt (now (out .entry)) at (stored (shapeNumbered d) n (shown (now (area .entry)) a .items))) ⌝ }
+    ensures { λ r. ⌜ StoredAs (now (area .entry)) (shapeNumbered d) n a at (now (out .entry)) r (now (out .exit)) ⌝ }
 {
     match d {
         0 => store_text(n, a, area, out, at, 0),

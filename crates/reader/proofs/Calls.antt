@@ -21,13 +21,13 @@ use Rattle.record.specs.Table.{slotWidth, maxSlots, maxRecord, maxArea, slotsOf
 use Rattle.record.specs.Packing.{accepted, refusal}
 use Rattle.record.specs.Reading.{valuesFrom, reads, Read, putInto, read}
 use Rattle.reader.specs.Sizes.{lentFits}
-use Rattle.reader.specs.Tables.{Room}
+use Rattle.reader.specs.Tables.{TableRoom}
 use Rattle.record.specs.Geometry.{lengthsFit}
 use Rattle.record.proofs.Sizes.{Sized, sized}
 use Rattle.record.proofs.Readings.{values-few}
 use Rattle.reader.specs.Checks.{checked, fitting}
 
--- what line 1 leaves
+-- what is known where number 1 is not given
 pub record Fit (layout slots bytes area mark : ℕ) : Type 0 where
   pub test : lentFits layout slots bytes area mark ≡ true
   pub text : layout ≤ maxLayout
@@ -49,7 +49,7 @@ fit {layout} {slots} {bytes} {area} {mark} h =
       start = leb-true mark area start;
     }
 
--- ---- lines 5 and 11
+-- ---- numbers 5 and 11
 
 module _ (slots taken room size : ℕ) {r : Answer} where
   pub fitting-slots : slots / slotWidth < taken → r ≡ refusal WrongSlots 0 → r ≡ fitting slots taken room size
@@ -116,14 +116,14 @@ module _ (layout bs slots area : List ℕ) (mark : ℕ) where
           unfolding reads
           accepted-all = rw (sizes .test, l .fields, rows, le-leb _ _ inside)
 
-          room : Room (valuesFrom bs 0 (decoded n ws)) slots area mark
+          room : TableRoom (valuesFrom bs 0 (decoded n ws)) slots area mark
           room =
               record { rows = omega (arith, l .taken, values-few bs 0 (decoded n ws)); table = sizes .table; room = inside; limit = sizes .limit }
 
       -- either answer of `fits`
       pub fitted {ℓ} : {X : Type ℓ} {r : Answer} → r ≡ fitting (length slots) taken (length area - mark) (length (valueBytes (valuesFrom bs 0 (decoded n ws))))
           → ((why : Refusal) → reads layout bs slots area mark ≡ refused why 0 → r ≡ refusal why 0 → 0 < r .number → X)
-          → (reads layout bs slots area mark ≡ ok (valuesFrom bs 0 (decoded n ws)) → Room (valuesFrom bs 0 (decoded n ws)) slots area mark → r ≡ accepted taken 0 → X)
+          → (reads layout bs slots area mark ≡ ok (valuesFrom bs 0 (decoded n ws)) → TableRoom (valuesFrom bs 0 (decoded n ws)) slots area mark → r ≡ accepted taken 0 → X)
           → X
       unfolding fitting
       fitted {r} e refuses accepts =
@@ -144,5 +144,5 @@ module _ (layout bs slots area : List ℕ) (mark : ℕ) where
         pub read-unfit : (r .number ≡ 0 → ⊥) → record { answer = r; slots = slots; area = area } ≡ read layout bs slots area mark
         read-unfit k = fitted e (λ why h q z. read-refused h q) (λ h room q. absurd (k (ap (λ (a : Answer). a .number) q)))
 
-        pub read-fits : r .number ≡ 0 → (reads layout bs slots area mark ≡ ok (valuesFrom bs 0 (decoded n ws))) × Room (valuesFrom bs 0 (decoded n ws)) slots area mark
+        pub read-fits : r .number ≡ 0 → (reads layout bs slots area mark ≡ ok (valuesFrom bs 0 (decoded n ws))) × TableRoom (valuesFrom bs 0 (decoded n ws)) slots area mark
         read-fits k = fitted e (λ why h q z. absurd (omega arith)) (λ h room q. (h, room))

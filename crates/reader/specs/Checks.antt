@@ -21,7 +21,7 @@ unfoldable pub checked : List ℕ → List ℕ → List ℕ → List ℕ → ℕ
 unfolding reads fieldsOf slotCount
 checked layout bs slots area mark = checkAnswer (reads layout bs slots area mark >>= (λ _. fieldsOf false layout))
 
--- inside: lines 5 and 11, where so many numbers of slots and so many bytes of the area are lent
+-- inside: numbers 5 and 11, where so many numbers of slots and so many bytes of the area are lent
 unfoldable pub fitting : ℕ → ℕ → ℕ → ℕ → Answer
 fitting slots taken room size =
     if ltb (slots / slotWidth) taken then refusal WrongSlots 0

@@ -18,7 +18,7 @@ mod run;
 mod table;
 mod value;
 
-// No line 1: what is lent keeps to its size, the slots are whole, and the mark lies in the area.
+// What is lent keeps to its size, the slots are whole, and the mark lies in the area; else number 1 (the table of numbers is in include/curlew.h).
 fn sizes_fit(layout: usize, slots: usize, bytes: usize, area: usize, mark: usize) -> bool
     ensures { λ r. ⌜ r ≡ lentFits layout slots bytes area mark ⌝ }
 {
@@ -28,7 +28,7 @@ fn sizes_fit(layout: usize, slots: usize, bytes: usize, area: usize, mark: usize
     mark <= area
 }
 
-// Lines 5 and 11 for the fields of the words: enough slots for the `taken` that take one, and room for their values; else 0 and how many they are.
+// Numbers 5 and 11 for the fields of the words: enough slots for the `taken` that take one, and room for their values; else 0 and how many they are.
 fn fits(
     words: &[u32; layout::MAX_LAYOUT],
     n: usize,

@@ -70,7 +70,7 @@ module _ (layout bs ns area : List ℕ) (n mark : ℕ) where
 pub read-front : (zs rest : List ℕ) (k : ℕ) → length zs ≡ k → {a : Answer} {z : List ℕ} {e : Read} → record { answer = a; slots = zs; area = z } ≡ e → record { answer = a; slots = take k (zs ++ rest); area = z } ≡ e
 read-front zs rest k l {a} {z} r = ap (λ (s : List ℕ). record { answer = a; slots = s; area = z }) (take-at zs rest k l) ∙ r
 
--- ---- more than 64 slots: line 1
+-- ---- more slots than a table may have: number 1
 
 over : (layout bytes area : List ℕ) (ss : List Slot) → maxSlots < length ss → sizesFit layout (numbersOf ss) bytes area ≡ false
 over layout bytes area ss l = too-many (length layout) (length (numbersOf ss)) (length bytes) (length area) (omega (arith, length-numbers ss))

@@ -6,7 +6,7 @@ use mathlib.Core.List.{List, [], _∷_, _++_}
 use lib.ListN.{length, getD, set, take, drop, length-set}
 use lib.Seq.{sets, sets-eq, take-at, take-suc, take-add, drop-cons, drop-append-add, drop-drop, length-take-le, set-at, append-snoc}
 use Rattle.slots.specs.declared.Slot.{Slot}
-use Rattle.slots.specs.Slots.{numbersOf, slotsFrom, slotAt, putAt}
+use Rattle.slots.specs.Slots.{numbersOf, slotsFrom, slotFrom, putAt}
 
 abbrev pub noSlot : Slot
 noSlot = record { kind = 0; start = 0; length = 0 }
@@ -24,7 +24,7 @@ loaded ss ns (suc i) = putAt (loaded ss ns i) (i * 3) (slotOf ss i)
 -- the slots, after the first i are made of the numbers
 abbrev pub saved : List Slot → List ℕ → ℕ → List Slot
 saved ss ns zero = ss
-saved ss ns (suc i) = set (saved ss ns i) i (slotAt ns (i * 3))
+saved ss ns (suc i) = set (saved ss ns i) i (slotFrom ns (i * 3))
 
 pub length-put : (ns : List ℕ) (k : ℕ) (s : Slot) → length (putAt ns k s) ≡ length ns
 length-put ns k s = length-set (set (set ns k (s .kind)) (k + 1) (s .start)) (k + 2) (s .length) ∙ length-set (set ns k (s .kind)) (k + 1) (s .start) ∙ length-set ns k (s .kind)
@@ -35,7 +35,7 @@ length-loaded ss ns (suc i) = length-put (loaded ss ns i) (i * 3) (slotOf ss i) 
 
 pub length-saved : (ss : List Slot) (ns : List ℕ) (i : ℕ) → length (saved ss ns i) ≡ length ss
 length-saved ss ns zero = refl
-length-saved ss ns (suc i) = length-set (saved ss ns i) i (slotAt ns (i * 3)) ∙ length-saved ss ns i
+length-saved ss ns (suc i) = length-set (saved ss ns i) i (slotFrom ns (i * 3)) ∙ length-saved ss ns i
 
 -- ---- the numbers of slots
 
@@ -144,11 +144,11 @@ three-at ns k l = rw (drop-cons ns k 0 first, drop-cons ns (suc k) 0 second, dro
     all : k + 3 ≡ suc (suc (suc k))
     all = omega arith
 
-one-slot : (ns : List ℕ) (k : ℕ) → k + 3 ≤ length ns → slotsFrom (take 3 (drop k ns)) ≡ slotAt ns k ∷ []
+one-slot : (ns : List ℕ) (k : ℕ) → k + 3 ≤ length ns → slotsFrom (take 3 (drop k ns)) ≡ slotFrom ns k ∷ []
 unfolding slotsFrom
 one-slot ns k l = ap (λ (z : List ℕ). slotsFrom (take 3 z)) (three-at ns k l)
 
-slots-more : (ns : List ℕ) (i : ℕ) → suc i * 3 ≤ length ns → slotsFrom (take (suc i * 3) ns) ≡ slotsFrom (take (i * 3) ns) ++ (slotAt ns (i * 3) ∷ [])
+slots-more : (ns : List ℕ) (i : ℕ) → suc i * 3 ≤ length ns → slotsFrom (take (suc i * 3) ns) ≡ slotsFrom (take (i * 3) ns) ++ (slotFrom ns (i * 3) ∷ [])
 slots-more ns i l =
     ap (λ (k : ℕ). slotsFrom (take k ns)) three-on
     ∙ ap slotsFrom (take-add (i * 3) 3 ns)
@@ -163,7 +163,7 @@ pub saved-is : (ss : List Slot) (ns : List ℕ) (i : ℕ) → i ≤ length ss �
 unfolding slotsFrom
 saved-is ss ns zero l g = refl
 saved-is ss ns (suc i) l g =
-    ap (λ (z : List Slot). set z i (slotAt ns (i * 3))) (saved-is ss ns i (omega arith) (omega arith) ∙ ap (λ (z : List Slot). slotsFrom (take (i * 3) ns) ++ z) (drop-cons ss i noSlot l))
-    ∙ set-at (slotsFrom (take (i * 3) ns)) (slotOf ss i) (drop (suc i) ss) (slotAt ns (i * 3)) i (length-slots (take (i * 3) ns) i (length-take-le (i * 3) ns (omega arith)))
-    ∙ sym (append-snoc (slotsFrom (take (i * 3) ns)) (slotAt ns (i * 3)) (drop (suc i) ss))
+    ap (λ (z : List Slot). set z i (slotFrom ns (i * 3))) (saved-is ss ns i (omega arith) (omega arith) ∙ ap (λ (z : List Slot). slotsFrom (take (i * 3) ns) ++ z) (drop-cons ss i noSlot l))
+    ∙ set-at (slotsFrom (take (i * 3) ns)) (slotOf ss i) (drop (suc i) ss) (slotFrom ns (i * 3)) i (length-slots (take (i * 3) ns) i (length-take-le (i * 3) ns (omega arith)))
+    ∙ sym (append-snoc (slotsFrom (take (i * 3) ns)) (slotFrom ns (i * 3)) (drop (suc i) ss))
     ∙ ap (λ (z : List Slot). z ++ drop (suc i) ss) (sym (slots-more ns i g))

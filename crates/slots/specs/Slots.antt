@@ -44,14 +44,14 @@ readSlots layout bs slots area mark = withSlots (read layout bs (numbersOf slots
 -- ---- the steps of a call
 
 -- the slot at a place in the numbers
-abbrev pub slotAt : List ℕ → ℕ → Slot
-slotAt ns at = record { kind = getD ns at 0; start = getD ns (at + 1) 0; length = getD ns (at + 2) 0 }
+abbrev pub slotFrom : List ℕ → ℕ → Slot
+slotFrom ns at = record { kind = getD ns at 0; start = getD ns (at + 1) 0; length = getD ns (at + 2) 0 }
 
 -- a slot's numbers, stored at a place
 abbrev pub putAt : List ℕ → ℕ → Slot → List ℕ
 putAt ns at s = set (set (set ns at (s .kind)) (at + 1) (s .start)) (at + 2) (s .length)
 
--- how many of so many slots are taken apart: line 1 refuses more than 64
+-- how many of so many slots are taken apart: more than a table may have are refused with number 1
 unfoldable pub taken : ℕ → ℕ
 taken n = if leb n maxSlots then n else 0
 

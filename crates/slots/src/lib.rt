@@ -6,7 +6,7 @@ ghost use Prim.Native.Nat.{_+_, _*_, _≤_};
 ghost use lib.ListN.{length, take, drop};
 ghost use Rattle.record.specs.Table.{maxSlots, slotWidth};
 ghost use Rattle.record.specs.Packing.{pack};
-ghost use Rattle.slots.specs.Slots.{numbersOf, slotsFrom, slotAt, putAt, taken, packFirst, readFirst, readSlots};
+ghost use Rattle.slots.specs.Slots.{numbersOf, slotsFrom, slotFrom, putAt, taken, packFirst, readFirst, readSlots};
 use layout::Refusal;
 use record::Answer;
 
@@ -17,9 +17,9 @@ pub struct Slot {
 }
 
 // The slot that three numbers make.
-fn slot_at(numbers: &[u32], at: usize) -> Slot
+fn slot_from(numbers: &[u32], at: usize) -> Slot
     requires { ⌜ at + 3 ≤ length (now numbers) ⌝ }
-    ensures { λ r. ⌜ r ≡ slotAt (now (numbers .entry)) at ⌝ }
+    ensures { λ r. ⌜ r ≡ slotFrom (now (numbers .entry)) at ⌝ }
 {
     let kind = numbers[at];
     let start = numbers[at + 1];
@@ -69,7 +69,7 @@ fn save(slots: &mut [Slot], numbers: &[u32], count: usize)
 {
     let mut i = 0;
     while i < count {
-        slots[i] = slot_at(numbers, i * 3);
+        slots[i] = slot_from(numbers, i * 3);
         i = i + 1;
     }
 }

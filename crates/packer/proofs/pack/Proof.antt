@@ -1,4 +1,4 @@
--- Line by line of the table: each return is one law of the definition.
+-- Number by number, in the order of the definition: each return is one law of it.
 use native.Mathlib.Omega.{arith}
 use mathlib.Core.Path.{_≡_, sym, _∙_}
 use mathlib.Core.Bool.{true}

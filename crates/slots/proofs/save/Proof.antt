@@ -1,4 +1,4 @@
--- `slots::save` meets its contract: a walk of its MIR, by hand, with a loop and, in the loop, a call of `slot_at`. The borrow of the slots is opened once, before the loop, and closed once, after it.
+-- `slots::save` meets its contract: a walk of its MIR, by hand, with a loop and, in the loop, a call of `slot_from`. The borrow of the slots is opened once, before the loop, and closed once, after it.
 use mathlib.Core.Path.{_≡_, refl, sym, ap, subst, _∙_}
 use Prim.Native.Nat.{ℕ, suc, _+_, _*_, _-_, _<_, _≤_, _^_, zero-le}
 use native.Mathlib.Nat.{lt-of-lt-of-le}
@@ -45,15 +45,15 @@ use denote.Triple.Table.{entered, cited}
 use denote.Triple.Walked.{says, needs, Stays, gave-slice, stay-dropped, walkOf, goes-gave-slice, goes-dropped, Walks, ends-at, walked, walk-meets}
 use denote.Exit.{yes}
 use Rattle.slots.specs.declared.Slot.{Slot}
-use Rattle.slots.specs.Slots.{slotAt}
+use Rattle.slots.specs.Slots.{slotFrom}
 use Rattle.slots.proofs.Runs.{noSlot, saved, length-saved, saved-is}
 use Rattle.slots.proofs.Turns.{bytes-fit, place-fits, next-fits, three-more, less-left, one-more, held, over}
 use Rattle.slots.proofs.Slot as T
 use Rattle.slots.proofs.Slot.Laws as T′
-use Rattle.slots.proofs.slot_at as slot-at
-use Rattle.slots.proofs.slot_at.Symbol as slot-at-def
-use Rattle.slots.proofs.slot_at.Symbol.{name as #slots·slot-at}
-use Rattle.slots.proofs.slot_at.Met as slot-at-thm
+use Rattle.slots.proofs.slot_from as slot-from
+use Rattle.slots.proofs.slot_from.Symbol as slot-from-def
+use Rattle.slots.proofs.slot_from.Symbol.{name as #slots·slot-from}
+use Rattle.slots.proofs.slot_from.Met as slot-from-thm
 use Rattle.slots.proofs.save.Key.{name as #slots·save}
 use Rattle.slots.proofs.save as save
 use Rattle.slots.proofs.save.Statement as stated
@@ -77,7 +77,7 @@ stayed = (gave-slice (0 ∷ []) tt (plain (λ _. R)), (stay-dropped (shrSlice 1 
 
 -- the contract that the proof cites
 abbrev SlotAt : {M : Type 1} (𝓤 : URA M) (H : Heap 𝓤) (A : Atoms 𝓤) (mem : Memory → SProp 𝓤) (run : Routine → Fun 𝓤) → Contract 𝓤
-SlotAt 𝓤 H A mem run = tripleOf 𝓤 H A slot-at.signature (slot-at.spec 𝓤 H A mem run)
+SlotAt 𝓤 H A mem run = tripleOf 𝓤 H A slot-from.signature (slot-from.spec 𝓤 H A mem run)
 
 module _ {M : Type 1} (𝓤 : URA M) (H : Heap 𝓤) (A : Atoms 𝓤) (W : Given 𝓤 H A) (mem : Memory → SProp 𝓤) (run : Routine → Fun 𝓤) (κ κ₁ : Lft) (q q₁ : Share) (b o : ℕ) (γ : GName) (ys : List Slot) (x₁ : RefT (List ℕ)) (c : ℕ)
     (gn : Room R (length ys)) (gm : Room u32 (length (x₁ .now))) (gc : c < 2 ^ 64) (most : c ≤ length ys) (enough : c * 3 ≤ length (x₁ .now)) where
@@ -121,8 +121,8 @@ module _ {M : Type 1} (𝓤 : URA M) (H : Heap 𝓤) (A : Atoms 𝓤) (W : Given
       qed W (‵ (flft κ₁ q₁) ∷ ‵ Own₁ ∷ []) ∵ says ! within $ nothing ! $ move ! (1 ∷ 0 ∷ []) $ join ! $ frame ! $
       nothing ! $ owned ! usize (Is usize) (uint-makes 𝓤 H A W w64) k _ (refl, fits) $ fjoin ! $ move ! (1 ∷ 0 ∷ []) $ fjoin ! $ done !
 
-  said : (k : ℕ) (r : Slot) → ent 𝓤 (ensured 𝓤 H A slot-at.ended (slot-at.clauses 𝓤 H A mem run) (κ₁, tt) (x₁, (k, tt)) tt r) (fact 𝓤 (r ≡ slotAt ns k))
-  said k r = exE 𝓤 _ (λ ws. snd∗ 𝓤 (sem 𝓤 H A (lasts slot-at.ended (κ₁, tt) (x₁, (k, tt)) ws)) (fact 𝓤 (r ≡ slotAt ns k)))
+  said : (k : ℕ) (r : Slot) → ent 𝓤 (ensured 𝓤 H A slot-from.ended (slot-from.clauses 𝓤 H A mem run) (κ₁, tt) (x₁, (k, tt)) tt r) (fact 𝓤 (r ≡ slotFrom ns k))
+  said k r = exE 𝓤 _ (λ ws. snd∗ 𝓤 (sem 𝓤 H A (lasts slot-from.ended (κ₁, tt) (x₁, (k, tt)) ws)) (fact 𝓤 (r ≡ slotFrom ns k)))
 
   -- ---- the loop's invariant, at i
   abbrev Upto : Type 0
@@ -137,7 +137,7 @@ module _ {M : Type 1} (𝓤 : URA M) (H : Heap 𝓤) (A : Atoms 𝓤) (W : Given
   Nearer-wf : WellFounded Nearer
   Nearer-wf = InvImage·wf (λ (i : Upto). c - i .0) (Nat·lt-wfRel .wf)
 
-  module _ (𝓣 : Tables 𝓤 H) (known : Triple 𝓤 (𝓣 .C #slots·slot-at) (SlotAt 𝓤 H A mem run)) (l₀ l₁ l₂ l₃ l₄ l₅ l₆ l₇ l₈ l₉ : ℕ) where
+  module _ (𝓣 : Tables 𝓤 H) (known : Triple 𝓤 (𝓣 .C #slots·slot-from) (SlotAt 𝓤 H A mem run)) (l₀ l₁ l₂ l₃ l₄ l₅ l₆ l₇ l₈ l₉ : ℕ) where
     abbrev C : Calls 𝓤 H
     C = 𝓣 .C
 
@@ -167,8 +167,8 @@ module _ {M : Type 1} (𝓤 : URA M) (H : Heap 𝓤) (A : Atoms 𝓤) (W : Given
         use2 W (raw (SlotAt 𝓤 H A mem run .pre (to (i .0 * 3)))) (asked (i .0 * 3) (place-fits (i .0) n (inside i e) (gn .1)) (three-more (i .0) c (length ns) (held (i .0) c e) enough)) $
         -- [what the callee asks; the numbers; the row; the open borrow; obs; auth; _8; …]
         calls-at ! (fmOf 𝓤 H (W .laws) 𝓣) (SlotAt 𝓤 H A mem run) known (to (i .0 * 3)) (and-then ! (load ! (from ! (stop !)) (look ! 20 refl)) (and-then ! (load ! (from ! (stop !)) (look ! 10 refl)) (no-more !))) (λ u.
-        use1 W (later (some (λ (r : Slot). ((‵ (flft κ₁ q₁) ⊛ ‵ ftrue) ⊛ ‵ (R .own r (u ∷ []))) ⊛ raw (ensured 𝓤 H A slot-at.ended (slot-at.clauses 𝓤 H A mem run) (κ₁, tt) (x₁, (i .0 * 3, tt)) tt r)))) (id⊢ 𝓤 _) $ await ! tt $ pick ! (λ r.
-        split ! $ move ! (1 ∷ []) $ use1 W (raw (fact 𝓤 (r ≡ slotAt ns (i .0 * 3)))) (said (i .0 * 3) r) $ heard ! (r ≡ slotAt ns (i .0 * 3)) (λ is-slot. split ! $ move ! (1 ∷ []) $
+        use1 W (later (some (λ (r : Slot). ((‵ (flft κ₁ q₁) ⊛ ‵ ftrue) ⊛ ‵ (R .own r (u ∷ []))) ⊛ raw (ensured 𝓤 H A slot-from.ended (slot-from.clauses 𝓤 H A mem run) (κ₁, tt) (x₁, (i .0 * 3, tt)) tt r)))) (id⊢ 𝓤 _) $ await ! tt $ pick ! (λ r.
+        split ! $ move ! (1 ∷ []) $ use1 W (raw (fact 𝓤 (r ≡ slotFrom ns (i .0 * 3)))) (said (i .0 * 3) r) $ heard ! (r ≡ slotFrom ns (i .0 * 3)) (λ is-slot. split ! $ move ! (1 ∷ []) $
         peeks ! R (Is R) (shows 𝓤 H A R) r (u ∷ []) (λ is.
         -- [the slot; the token; the numbers; the row; the open borrow; obs; auth; _8; …]
         land ! (from ! (stop !)) (init ! 13 refl (LL.lawful T.the-type T′.the-laws 𝓤 H A W .typed r _ is .0)) $ move ! (1 ∷ []) $ split ! $
@@ -201,7 +201,7 @@ module _ {M : Type 1} (𝓤 : URA M) (H : Heap 𝓤) (A : Atoms 𝓤) (W : Given
     turns : (i : Upto) → Sq W (At i) (runs C Λ E mir.turn-1 (anyQ (Turned i)))
     turns i = turned i (ltb (i .0) c) refl
 
-  walk : (𝓣 : Tables 𝓤 H) → Triple 𝓤 (𝓣 .C #slots·slot-at) (SlotAt 𝓤 H A mem run) → ent 𝓤 (onEntry 𝓤 H A save.signature (κ, (κ₁, tt)) (q, (q₁, tt)) (x, (x₁, (c, tt))) at) (WpFn 𝓤 H (𝓣 .C) (𝓣 .Λ) code.function (v₀ ∷ v₁ ∷ vint w64 c ∷ []) Post)
+  walk : (𝓣 : Tables 𝓤 H) → Triple 𝓤 (𝓣 .C #slots·slot-from) (SlotAt 𝓤 H A mem run) → ent 𝓤 (onEntry 𝓤 H A save.signature (κ, (κ₁, tt)) (q, (q₁, tt)) (x, (x₁, (c, tt))) at) (WpFn 𝓤 H (𝓣 .C) (𝓣 .Λ) code.function (v₀ ∷ v₁ ∷ vint w64 c ∷ []) Post)
   walk 𝓣 known =
       qed W ((‵ (flft κ q) ⊛ (‵ (flft κ₁ q₁) ⊛ ‵ ftrue)) ∷ ‵ (owns (MutSlice (named 0) κ R ∷ ShrSlice (named 1) κ₁ u32 ∷ usize ∷ []) (x, (x₁, (c, tt))) at) ∷ []) ∵ enter ! (𝓣 .C) (𝓣 .Λ) code.function (v₀ ∷ v₁ ∷ vint w64 c ∷ []) _ $
       alloc1 ! (λ l₀. alloc1 ! (λ l₁. alloc1 ! (λ l₂. alloc1 ! (λ l₃. alloc1 ! (λ l₄. alloc1 ! (λ l₅. alloc1 ! (λ l₆. alloc1 ! (λ l₇. alloc1 ! (λ l₈. alloc1 ! (λ l₉. alloc0 ! $ params1 ! $
@@ -213,7 +213,7 @@ module _ {M : Type 1} (𝓤 : URA M) (H : Heap 𝓤) (A : Atoms 𝓤) (W : Given
       keep ! (0 ∷ 4 ∷ 6 ∷ 1 ∷ 2 ∷ 3 ∷ 8 ∷ 9 ∷ 10 ∷ 11 ∷ 12 ∷ 13 ∷ 14 ∷ 15 ∷ 16 ∷ 17 ∷ 18 ∷ 19 ∷ 20 ∷ 21 ∷ 22 ∷ 23 ∷ 24 ∷ 25 ∷ 26 ∷ 27 ∷ []) $
       first ! $ blocks ! $ loops ! 𝓣 Nearer Nearer-wf (At 𝓣 known l₀ l₁ l₂ l₃ l₄ l₅ l₆ l₇ l₈ l₉) (turns 𝓣 known l₀ l₁ l₂ l₃ l₄ l₅ l₆ l₇ l₈ l₉) (0, zero-le)))))))))))
 
-module _ {M : Type 1} (𝓤 : URA M) (H : Heap 𝓤) (A : Atoms 𝓤) (W : Given 𝓤 H A) (mem : Memory → SProp 𝓤) (run : Routine → Fun 𝓤) (𝓣 : Tables 𝓤 H) (known : Triple 𝓤 (𝓣 .C #slots·slot-at) (SlotAt 𝓤 H A mem run)) where
+module _ {M : Type 1} (𝓤 : URA M) (H : Heap 𝓤) (A : Atoms 𝓤) (W : Given 𝓤 H A) (mem : Memory → SProp 𝓤) (run : Routine → Fun 𝓤) (𝓣 : Tables 𝓤 H) (known : Triple 𝓤 (𝓣 .C #slots·slot-from) (SlotAt 𝓤 H A mem run)) where
   walks : Walks 𝓤 H A save.ended stayed (WpFn 𝓤 H (𝓣 .C) (𝓣 .Λ) code.function) (save.clauses 𝓤 H A mem run)
   walks = walked 𝓤 H A save.ended stayed (save.clauses 𝓤 H A mem run) (WpFn 𝓤 H (𝓣 .C) (𝓣 .Λ) code.function) (λ κs. (slice-vals, (slice-vals, (uint-vals w64, tt)))) (λ κs. (mut-slice-tells (named 0) (κs .0) R, (shr-slice-tells (named 1) (κs .1 .0) u32, (uint-tells w64, tt))))
       (λ κs qs bounds a g are. needs 𝓤 ((a .1 .1 .0 ≤ length (a .0 .now)) × (a .1 .1 .0 * 3 ≤ length (a .1 .0 .now))) _ (λ p.
@@ -228,4 +228,4 @@ save-spec 𝓤 H 𝓜 𝓖 𝓡 =
     entered 𝓤 H (tripleOf 𝓤 H (𝓖 .A) save.signature (save.spec 𝓤 H (𝓖 .A) (𝓜 .mem) (𝓡 .run)))
     (tables 𝓤 H 𝓜 𝓡 code.env .C) (tables 𝓤 H 𝓜 𝓡 code.env .Λ) #slots·save code.function (code.unfolded 𝓤 H 𝓜 𝓡)
     (meets 𝓤 H (𝓖 .A) (givenOf 𝓤 H 𝓜 𝓖) (𝓜 .mem) (𝓡 .run) (tablesOf 𝓤 H 𝓜 (tables 𝓤 H 𝓜 𝓡 code.env))
-    (cited 𝓤 H (SlotAt 𝓤 H (𝓖 .A) (𝓜 .mem) (𝓡 .run)) 𝓜 𝓡 code.env #slots·slot-at slot-at-def.routine code.calls-slots·slot-at (slot-at-thm.met 𝓤 H 𝓜 𝓖 𝓡)))
+    (cited 𝓤 H (SlotAt 𝓤 H (𝓖 .A) (𝓜 .mem) (𝓡 .run)) 𝓜 𝓡 code.env #slots·slot-from slot-from-def.routine code.calls-slots·slot-from (slot-from-thm.met 𝓤 H 𝓜 𝓖 𝓡)))
