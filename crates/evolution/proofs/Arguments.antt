@@ -26,12 +26,14 @@ use Rattle.record.specs.Table.{shown}
 use Rattle.record.specs.Geometry.{amount}
 use Rattle.record.specs.Packing.{insideArea, Filled, filled, nextSlot, argumentFits, argumentsFit, kindFits, amountFits, enough, digitsFit}
 use Rattle.layout.specs.Layout.{slotCount}
-use Rattle.evolution.specs.Claim.{plainCode, plainCount, plain}
+use Rattle.runs.specs.Ends.{plainCode, plainCount}
+use Rattle.runs.proofs.Joined.{plain-amount}
+use Rattle.evolution.specs.Claim.{plain}
 use Rattle.record.proofs.Bytes.{both}
 use Rattle.record.proofs.NumberLaws.{length-bigEndianIn}
 use Rattle.record.proofs.Tables.{integers-kind}
 use Rattle.record.proofs.Fields.{Served}
-use Rattle.evolution.proofs.Run.{AllGood, Forward, ForwardFields, fieldsIn}
+use Rattle.evolution.proofs.Run.{AllGood, fieldsIn}
 
 -- ---- the front of a layout
 
@@ -49,18 +51,6 @@ module _ (area : List ℕ) where
   unfolding fieldsIn filled
   fields-filled ts [] = refl
   fields-filled ts (f ∷ fs) = fields-step ts fs (λ us. fields-filled us fs) (f .code) (f .unsigned) (f .count)
-
-  -- what the fields say of the cursor holds of them with their arguments
-  forward-step : (fs : List Field) → ((ts : List Slot) → Forward (filled area ts fs)) → (ts : List Slot) (k : Code) (u : Bool) (n : Count) → T (plainCode k)
-      → Forward (filled area ts (made k u n ∷ fs))
-  unfolding filled
-  forward-step fs ih ts (Data s) u n h = (h, ih (drop 1 ts))
-  forward-step fs ih ts (Move m) u n h = (h, ih ts)
-
-  pub forward-filled : (fs : List Field) → ForwardFields fs → (ts : List Slot) → Forward (filled area ts fs)
-  unfolding filled
-  forward-filled [] h ts = tt
-  forward-filled (f ∷ fs) h ts = forward-step fs (λ us. forward-filled fs (h .1) us) ts (f .code) (f .unsigned) (f .count) (h .0)
 
   -- a front takes its slots from the front
   abbrev Front : List Field → List Field → List Slot → Type 0
@@ -113,12 +103,6 @@ module _ (area : List ℕ) where
   fit-front (f ∷ fs) gs i ts e = fit-step i ts fs gs (λ j us k. fit-front fs gs j us k) (f .code) (f .unsigned) (f .count) e
 
 -- ---- what was checked
-
--- a plain count does not ask for all
-plain-amount : (n : Count) → T (plainCount n) → (0 < amount n 0) × ((all : ℕ) → amount n all ≡ amount n 0)
-plain-amount Absent h = (omega arith, λ all. refl)
-plain-amount Star h = absurd h
-plain-amount (Times n) h = (leb→le 1 n h, λ all. refl)
 
 enough-le : (n : Count) (have : ℕ) → T (plainCount n) → enough n have ≡ true → amount n 0 ≤ have
 enough-le Absent have p e = omega (arith, eqb-true have 1 e)

@@ -14,7 +14,8 @@ use Rattle.record.specs.Table.{slotsOf, shown}
 use Rattle.record.specs.Packing.{packs, pack, packEffect, Packed, accepted}
 use Rattle.record.specs.Reading.{Read, read, putInto}
 use Rattle.record.proofs.Fields.{split}
-use Rattle.evolution.specs.Claim.{Layouts, packedBy, fieldsBy, endOf, due, ReadsBack}
+use Rattle.runs.specs.Ends.{endOf}
+use Rattle.evolution.specs.Claim.{Layouts, packedBy, fieldsBy, due, ReadsBack}
 use Rattle.evolution.specs.Calls.{Lent, PackedAndRead, packing, thenRead, packedAndRead, Meant, KeepsBack, ReadsBackAs}
 use Rattle.evolution.proofs.ReadsBack.{reads-back}
 

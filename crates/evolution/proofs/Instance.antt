@@ -15,7 +15,8 @@ use Rattle.layout.specs.Layout.{fieldsOf, slotCount}
 use Rattle.layout.specs.Quoted.{bytes}
 use Rattle.record.specs.Table.{slotsOf, valueBytes}
 use Rattle.record.specs.Packing.{pack, filled, argumentsFit}
-use Rattle.evolution.specs.Claim.{Layouts, Reading, plain, endOf, due, setBy}
+use Rattle.runs.specs.Ends.{endOf}
+use Rattle.evolution.specs.Claim.{Layouts, Reading, plain, due, setBy}
 
 -- `a3` and then `a03 xS`, with the arguments "ab" and {-2}
 pair : Layouts

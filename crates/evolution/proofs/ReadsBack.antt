@@ -18,30 +18,16 @@ use Rattle.record.specs.Table.{slotsOf, shown, valueBytes}
 use Rattle.record.specs.Packing.{accepted, Filled, filled, argumentsFit, packed, finished, packs, pack, packEffect, Packed}
 use Rattle.record.specs.Geometry.{sizesFit}
 use Rattle.record.specs.Reading.{Read, valuesFrom, reads, read, readEffect, putInto}
-use Rattle.evolution.specs.Claim.{plain, plainCode, plainCount, endOf, Layouts, packedBy, recordOf, textOf, outputBy, slotsBy, fieldsBy, due, cutRecord, Reading, ReadsBack}
+use Rattle.runs.specs.Ends.{plainCode, plainCount, endOf, recordOf}
+use Rattle.runs.proofs.Joined.{joined, joined-append, packed-joined}
+use Rattle.runs.proofs.Calls.{T→true, packs-by, reads-by}
+use Rattle.runs.proofs.Shown.{shows-put}
+use Rattle.evolution.specs.Claim.{plain, Layouts, packedBy, textOf, outputBy, slotsBy, fieldsBy, due, cutRecord, Reading, ReadsBack}
 use Rattle.record.proofs.Tables.{slots-take}
 use Rattle.record.proofs.Bytes.{both}
-use Rattle.evolution.proofs.Run.{AllGood, joined, joined-append, length-joined, packed-joined, all-forward, agree}
-use Rattle.evolution.proofs.Shown.{shows-put, set-proper}
+use Rattle.evolution.proofs.Run.{AllGood, length-joined, all-forward, agree}
+use Rattle.evolution.proofs.Proper.{set-proper}
 use Rattle.evolution.proofs.Arguments.{fields-filled, front, spare, fit-front, all-good}
-
--- ---- the calls, by their parts
-
-pub T→true : (t : Bool) → T t → t ≡ true
-T→true true h = refl
-T→true false h = absurd h
-
-pub packs-by : (text slots area output : List ℕ) (fs : List Field) → fieldsOf true text ≡ ok fs → sizesFit text slots output area ≡ true
-    → length (slotsOf slots) ≡ slotCount fs → argumentsFit area 0 (slotsOf slots) fs ≡ ok tt
-    → length (packed (filled area (slotsOf slots) fs)) ≤ length output → packs text slots area output ≡ ok (packed (filled area (slotsOf slots) fs))
-unfolding packs finished
-packs-by text slots area output fs f s c a r = rw (s, f, eq-eqb _ _ c, a, le-leb _ _ r)
-
-pub reads-by : (text bs slots area : List ℕ) (mark : ℕ) (fs : List Field) → fieldsOf false text ≡ ok fs → (sizesFit text slots bs area && leb mark (length area)) ≡ true
-    → slotCount fs ≤ length (slotsOf slots) → mark + length (valueBytes (valuesFrom bs 0 fs)) ≤ length area
-    → reads text bs slots area mark ≡ ok (valuesFrom bs 0 fs)
-unfolding reads
-reads-by text bs slots area mark fs f s c r = rw (s, f, le-leb _ _ c, le-leb _ _ r)
 
 -- ---- the front of a layout
 

@@ -1,4 +1,4 @@
--- Packing a plain layout joins the fields' bytes; reading what is left of them after a cut shows what `setBy` says.
+-- Reading what is left of the joined bytes of a plain layout after a cut shows what `setBy` says.
 use Prim.Native.Nat.{ℕ, _+_, _-_, _≤_, _<_, min}
 use native.Mathlib.Omega.{arith}
 use mathlib.Core.Path.{_≡_, refl, sym, ap, ap₂, _∙_}
@@ -16,67 +16,14 @@ use Rattle.layout.specs.declared.Field.{Field}
 use Rattle.layout.specs.Words.{FitCode}
 use Rattle.record.specs.Table.{Value}
 use Rattle.record.specs.Geometry.{amount, bytesFor, itemsIn}
-use Rattle.record.specs.Packing.{stored, Run, store, Filled, packOne, packAll, packed}
+use Rattle.record.specs.Packing.{stored, Filled}
 use Rattle.record.specs.Reading.{loaded, valuesFrom}
-use Rattle.evolution.specs.Claim.{plainCode, fills, endOf, setBy}
+use Rattle.runs.specs.Ends.{plainCode, fills, endOf}
+use Rattle.runs.proofs.Joined.{bytesOf, joined, Forward}
+use Rattle.evolution.specs.Claim.{setBy}
 use Rattle.record.proofs.Bytes.{drop-take}
 use Rattle.record.proofs.Fields.{Served, length-stored, fills-some, split}
 use Rattle.evolution.proofs.Fields.{back}
-
--- ---- a field with its argument
-
--- the bytes that it stores
-unfoldable pub bytesOf : Code → Count → List ℕ → List ℕ
-bytesOf (Data s) n xs = stored s (amount n (length xs)) xs
-bytesOf (Move Skip) n xs = replicate (amount n 0) 0
-bytesOf (Move Back) n xs = []
-bytesOf (Move Goto) n xs = []
-
-unfoldable pub joined : List Filled → List ℕ
-unfolding bytesOf
-joined [] = []
-joined (a ∷ rest) = bytesOf (a .field .code) (a .field .count) (a .items) ++ joined rest
-
--- ---- packing where the cursor only goes forward: no `X`, no `@`; stars are allowed
-
-abbrev pub ForwardFields : List Field → Type 0
-ForwardFields [] = Unit {0}
-ForwardFields (f ∷ fs) = T (plainCode (f .code)) × ForwardFields fs
-
-abbrev pub Forward : List Filled → Type 0
-Forward [] = Unit {0}
-Forward (a ∷ rest) = T (plainCode (a .field .code)) × Forward rest
-
--- a store at the end appends
-store-end : (out bs : List ℕ) → store (record { out = out; at = length out }) bs ≡ record { out = out ++ bs; at = length (out ++ bs) }
-store-end out bs = simp (take-length, length-append, drop-of-length-le out {i = length out + length bs} (omega arith), append-nil)
-
-pack-one : (out : List ℕ) (k : Code) (n : Count) (xs : List ℕ) → T (plainCode k)
-    → packOne (record { out = out; at = length out }) k n xs ≡ record { out = out ++ bytesOf k n xs; at = length (out ++ bytesOf k n xs) }
-unfolding packOne bytesOf
-pack-one out (Data s) n xs h = store-end out (stored s (amount n (length xs)) xs)
-pack-one out (Move Skip) n xs h = store-end out (replicate (amount n 0) 0)
-pack-one out (Move Back) n xs h = absurd h
-pack-one out (Move Goto) n xs h = absurd h
-
-pack-all : (out : List ℕ) (fs : List Filled) → Forward fs
-    → packAll (record { out = out; at = length out }) fs ≡ record { out = out ++ joined fs; at = length (out ++ joined fs) }
-unfolding packAll joined
-pack-all out [] h = rw append-nil
-pack-all out (a ∷ rest) h =
-    let bs : List ℕ = bytesOf (a .field .code) (a .field .count) (a .items) in
-    ap (λ (r : Run). packAll r rest) (pack-one out (a .field .code) (a .field .count) (a .items) (h .0))
-    ∙ pack-all (out ++ bs) rest (h .1)
-    ∙ ap (λ (o : List ℕ). record { out = o; at = length o }) (append-assoc out bs (joined rest))
-
-pub packed-joined : (fs : List Filled) → Forward fs → packed fs ≡ joined fs
-unfolding packed
-packed-joined fs h = ap (λ (r : Run). r .out) (pack-all [] fs h)
-
-pub joined-append : (fs gs : List Filled) → joined (fs ++ gs) ≡ joined fs ++ joined gs
-unfolding joined
-joined-append [] gs = refl
-joined-append (a ∷ fs) gs = ap (λ (r : List ℕ). bytesOf (a .field .code) (a .field .count) (a .items) ++ r) (joined-append fs gs) ∙ sym (append-assoc (bytesOf (a .field .code) (a .field .count) (a .items)) (joined fs) (joined gs))
 
 -- ---- a field with its argument, in a plain layout that the packer accepts
 

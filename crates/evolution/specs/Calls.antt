@@ -10,7 +10,8 @@ use Rattle.record.specs.declared.Answer.{Answer}
 use Rattle.record.specs.Table.{slotsOf, shown}
 use Rattle.record.specs.Packing.{Packed, pack, accepted}
 use Rattle.record.specs.Reading.{Read, read, putInto}
-use Rattle.evolution.specs.Claim.{Layouts, Reading, textOf, fieldsBy, slotsBy, outputBy, recordOf, endOf, due}
+use Rattle.runs.specs.Ends.{endOf, recordOf}
+use Rattle.evolution.specs.Claim.{Layouts, Reading, textOf, fieldsBy, slotsBy, outputBy, due}
 
 -- all that the two calls are lent: the packer's four runs, the cut, and what the reader has beside the record
 pub record Lent : Type 0 where

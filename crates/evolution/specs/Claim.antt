@@ -6,34 +6,20 @@ use mathlib.Core.Bool.{Bool, true, false, _&&_}
 use mathlib.Core.List.{List, [], _∷_, _++_, map}
 use lib.ListN.{length, take}
 use lib.Dec.{T, leb, eqb}
-use Rattle.layout.specs.declared.Code.{Code}
 use Rattle.layout.specs.declared.Code.the-variants.{Data, Move}
-use Rattle.layout.specs.declared.Motion.the-variants.{Skip, Back, Goto}
 use Rattle.layout.specs.declared.Shape.{Shape}
 use Rattle.layout.specs.declared.Shape.the-variants.{Text, Digits, Integers}
-use Rattle.layout.specs.declared.Count.{Count}
-use Rattle.layout.specs.declared.Count.the-variants.{Absent, Star, Times}
 use Rattle.layout.specs.declared.Field.{Field}
 use Rattle.layout.specs.Refusals.{if_then_else_, ok}
 use Rattle.layout.specs.Layout.{fieldsOf, slotCount}
 use Rattle.record.specs.Bytes.{fit}
 use Rattle.record.specs.Table.{string, integerKind, slotsOf, Value, shown, slotWidth, valueBytes}
-use Rattle.record.specs.Geometry.{amount, bytesFor, sizesFit}
+use Rattle.record.specs.Geometry.{amount, sizesFit}
 use Rattle.record.specs.Packing.{Filled, filled, argumentsFit, accepted, Packed, pack}
 use Rattle.record.specs.Reading.{trimmed, widened, putInto, read}
+use Rattle.runs.specs.Ends.{plainCode, plainCount, fills, endOf, recordOf}
 
 -- ---- a plain layout: no star, no `X`, no `@`, no count of 0
-
-abbrev pub plainCount : Count → Bool
-plainCount Absent = true
-plainCount Star = false
-plainCount (Times n) = leb 1 n
-
-abbrev pub plainCode : Code → Bool
-plainCode (Data s) = true
-plainCode (Move Skip) = true
-plainCode (Move Back) = false
-plainCode (Move Goto) = false
 
 unfoldable pub plain : List Field → Bool
 plain [] = true
@@ -55,19 +41,7 @@ readBack (Digits hex high) u n xs = record { kind = string; items = map lowered 
 readBack (Integers w big) u n xs =
     record { kind = integerKind u; items = map (λ x. widened w u (x % 256 ^ w)) (take n xs) }
 
--- ---- the end of a field: how far packing has come after it; `x` fills bytes too
-
-unfoldable pub fills : Code → Count → ℕ
-fills (Data s) n = bytesFor s (amount n 0)
-fills (Move Skip) n = amount n 0
-fills (Move Back) n = 0
-fills (Move Goto) n = 0
-
--- the end of a layout's last field; of no fields 0
-unfoldable pub endOf : List Field → ℕ
-unfolding fills
-endOf [] = 0
-endOf (f ∷ fs) = fills (f .code) (f .count) + endOf fs
+-- ---- what a reading of a cut record sets
 
 -- The values of exactly the fields that take a slot and end at or before the cut; `before` is the end of the fields before.
 -- An `x` has no value, wherever the cut is.
@@ -98,7 +72,7 @@ pub record Layouts : Type 0 where
   pub area : List ℕ
   pub oldOutput : List ℕ
   pub newOutput : List ℕ
-  -- what is added is added as fields, whatever the texts: two fields are the same where type, flag and count agree
+  -- what is added is added as fields, whatever the texts: fields that agree in type, flag and count are the same
   pub old-fields : fieldsOf true old ≡ ok fields
   pub new-fields : fieldsOf true new ≡ ok (fields ++ added)
   pub is-plain : T (plain (fields ++ added))
@@ -131,10 +105,6 @@ outputBy l false = l .oldOutput
 
 abbrev pub packedBy : Layouts → Bool → Packed
 packedBy l which = pack (textOf l which) (slotsBy l which) (l .area) (outputBy l which)
-
--- the record that a packing made
-abbrev pub recordOf : Packed → List ℕ
-recordOf p = take (p .answer .first) (p .output)
 
 -- a record cut at k: its first k bytes
 abbrev pub cutRecord : Layouts → Bool → ℕ → List ℕ

@@ -1,4 +1,4 @@
-// Both calls over a lent run of slot records: the slots are taken apart into numbers, the call is made over the numbers,
+// Packing and reading over a slice of slot records: the slots are taken apart into numbers, the call is made over the numbers,
 // and after a reading the slots are put together again. The functions over slots are few and thin: proved by hand.
 ghost use mathlib.Core.Path.{_≡_};
 ghost use mathlib.Core.List.{_++_};

@@ -37,7 +37,7 @@ fn whole(layout: &[u8]) {
     print::text(b"\n");
 }
 
-// Bytes past the result stay as lent, and all of the output of a refused call does.
+// What a packing does not touch: the output behind the result, and all of it after a refusal.
 pub fn kept() {
     whole(b"a2x");
     whole(b"a2x7");

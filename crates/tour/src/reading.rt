@@ -60,7 +60,7 @@ pub fn two(layout: &[u8], record: &[u8]) {
     show(layout, record, b"", &mut [0u32; 6], &mut [0u8; 512], 0);
 }
 
-// A second reading into the same table: what it does not set and lies below the mark still shows.
+// A second reading into the same table: a value that it leaves alone, below its mark, is shown as before.
 pub fn kept() {
     let mut slots = [0u32; 6];
     let mut area = [0u8; 512];

@@ -3,26 +3,16 @@ use Prim.Native.Nat.{ℕ, _+_, _-_, _*_, _%_, _^_, _≤_, _<_}
 use native.Mathlib.Nat.{mod-lt, one-le-pow, pow-le-pow-right}
 use native.Mathlib.Omega.{arith}
 use mathlib.Core.Path.{_≡_, refl, sym, ap, ap₂, _∙_}
-use mathlib.Core.Bool.{Bool, true, false, _||_}
+use mathlib.Core.Bool.{Bool, true, false, true≢false, _||_}
 use mathlib.Core.List.{List, [], _∷_, _++_, map, append-assoc}
 use lib.ListN.{length, take, drop}
 use lib.Seq.{take-at, drop-at, drop-drop, length-take-le}
-use lib.Dec.{eqb, leb, ltb}
-use Rattle.layout.specs.declared.Code.{Code}
-use Rattle.layout.specs.declared.Code.the-variants.{Data, Move}
-use Rattle.layout.specs.declared.Shape.{Shape}
-use Rattle.layout.specs.declared.Shape.the-variants.{Text, Digits, Integers}
-use Rattle.layout.specs.declared.Count.{Count}
-use Rattle.layout.specs.Words.{FitCode}
+use lib.Dec.{eqb, ltb}
 use Rattle.layout.specs.Refusals.{if_then_else_}
 use Rattle.record.specs.Bytes.{join, storeAt}
 use Rattle.record.specs.Table.{slotsOf, Value, integerSize, integerBytes, integersIn, areaBytes, shown, slotNumbers, valueBytes}
-use Rattle.record.specs.Geometry.{amount, bytesFor}
-use Rattle.record.specs.Packing.{Filled}
 use Rattle.record.specs.Reading.{putInto, widened}
 use Rattle.record.proofs.Bytes.{All}
-use Rattle.evolution.specs.Claim.{readBack, setBy}
-use Rattle.evolution.proofs.Run.{Good, AllGood}
 use Rattle.record.proofs.NumberLaws.{numbers-back}
 
 -- an integer fits eight bytes
@@ -65,10 +55,10 @@ shows-put slots area mark vs h k =
     shows-from vs h (storeAt area mark (valueBytes vs)) after _ mark
     (ap (drop mark) (append-assoc (take mark area) (valueBytes vs) after) ∙ drop-at (take mark area) (valueBytes vs ++ after) mark (length-take-le mark area k))
 
--- ---- what demand 3 reads back is proper
+-- ---- what makes a value proper
 
 pub true-false {ℓ} : {X : Type ℓ} → true ≡ false → X
-true-false e = let z : _≡_ {A = ℕ} 0 1 = cc in absurd (omega arith)
+true-false e = absurd (true≢false e)
 
 pub widened-fits : (w : ℕ) (u : Bool) (x : ℕ) → w ≤ 8 → widened w u (x % 256 ^ w) < 2 ^ 64
 unfolding widened
@@ -83,31 +73,3 @@ widened-fits w u x h = by-sign (u || ltb (2 * (x % 256 ^ w)) (256 ^ w))
     by-sign : (t : Bool) → (if t then x % 256 ^ w else (x % 256 ^ w + (2 ^ 64 - 256 ^ w))) < 2 ^ 64
     by-sign true = omega (arith, low, top)
     by-sign false = omega (arith, low, top)
-
-all-widened : (w : ℕ) (u : Bool) (xs : List ℕ) → w ≤ 8 → All (λ x. x < 2 ^ 64) (map (λ x. widened w u (x % 256 ^ w)) xs)
-all-widened w u [] h = tt
-all-widened w u (x ∷ xs) h = (widened-fits w u x h, all-widened w u xs h)
-
-read-back-proper : (s : Shape) (u : Bool) (n : ℕ) (xs : List ℕ) → FitCode (Data s) → Proper (readBack s u n xs)
-unfolding readBack
-read-back-proper (Text pad) u n xs h e = true-false e
-read-back-proper (Digits hex high) u n xs h e = true-false e
-read-back-proper (Integers w big) u n xs h e = all-widened w u (take n xs) (h .1)
-
-chosen : (t : Bool) (v : Value) (vs : List Value) → Proper v → AllProper vs → AllProper (if t then v ∷ vs else vs)
-chosen true v vs h k = (h, k)
-chosen false v vs h k = k
-
-set-proper-step : (cut before : ℕ) (rest : List Filled) → ((b : ℕ) → AllProper (setBy cut b rest))
-    → (k : Code) (u : Bool) (n : Count) (xs : List ℕ) → Good k n xs
-    → AllProper (setBy cut before (record { field = record { code = k; unsigned = u; count = n }; items = xs } ∷ rest))
-unfolding setBy
-set-proper-step cut before rest ih (Data s) u n xs h =
-    chosen (leb (before + bytesFor s (amount n 0)) cut) (readBack s u (amount n 0) xs) _ (read-back-proper s u (amount n 0) xs (h .0)) (ih _)
-set-proper-step cut before rest ih (Move m) u n xs h = ih _
-
-pub set-proper : (cut before : ℕ) (fs : List Filled) → AllGood fs → AllProper (setBy cut before fs)
-unfolding setBy
-set-proper cut before [] h = tt
-set-proper cut before (a ∷ rest) h =
-    set-proper-step cut before rest (λ b. set-proper cut b rest (h .1)) (a .field .code) (a .field .unsigned) (a .field .count) (a .items) (h .0)

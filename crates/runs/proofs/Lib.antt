@@ -1,0 +1,4 @@
+-- Laws of packing and reading that the theorems share, for the crates above.
+pub mod Joined
+pub mod Calls
+pub mod Shown
