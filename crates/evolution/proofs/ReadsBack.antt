@@ -8,16 +8,15 @@ use mathlib.Core.Bool.{Bool, true, false, _&&_}
 use mathlib.Core.List.{List, [], _∷_, _++_, map, append-nil}
 use lib.ListN.{length, take, drop, length-append}
 use lib.Seq.{take-at, take-append-le, length-take-le}
-use lib.Dec.{T, leb}
-use borrow.Author.Tests.{le-leb, eq-eqb}
+use lib.Dec.{T}
 use Rattle.layout.specs.declared.Field.{Field}
 use Rattle.layout.specs.Layout.{takesSlot, fieldsOf, slotCount}
 use Rattle.layout.specs.Refusals.{if_then_else_, ok}
 use Rattle.layout.proofs.Laws.{AllSound, packed-reads}
-use Rattle.record.specs.Table.{slotsOf, shown, valueBytes}
-use Rattle.record.specs.Packing.{accepted, Filled, filled, argumentsFit, packed, finished, packs, pack, packEffect, Packed}
+use Rattle.record.specs.Table.{slotsOf, shown}
+use Rattle.record.specs.Packing.{accepted, Filled, filled, argumentsFit, packed, pack, packEffect, Packed}
 use Rattle.record.specs.Geometry.{sizesFit}
-use Rattle.record.specs.Reading.{Read, valuesFrom, reads, read, readEffect, putInto}
+use Rattle.record.specs.Reading.{Read, valuesFrom, read, readEffect, putInto}
 use Rattle.runs.specs.Ends.{plainCode, plainCount, endOf, recordOf}
 use Rattle.runs.proofs.Joined.{joined, joined-append, packed-joined}
 use Rattle.runs.proofs.Calls.{T→true, packs-by, reads-by}
