@@ -6,7 +6,7 @@ use lib.Dec.{leb}
 use Rattle.layout.specs.declared.Refusal.the-variants.{BadSize}
 use Rattle.layout.specs.Refusals.{if_then_else_, refused}
 use Rattle.record.specs.declared.Answer.{Answer}
-use Rattle.record.specs.Table.{maxSlots}
+use Rattle.record.specs.Table.{maxSlots, slotWidth}
 use Rattle.record.specs.Packing.{Packed, pack, packEffect}
 use Rattle.record.specs.Reading.{Read, read, readEffect}
 use Rattle.slots.specs.declared.Slot.{Slot}
@@ -58,8 +58,8 @@ taken n = if leb n maxSlots then n else 0
 -- the calls on the numbers of the first n slots
 unfoldable pub packFirst : List ℕ → List ℕ → ℕ → List ℕ → List ℕ → Packed
 unfolding pack
-packFirst layout ns n area output = if leb n maxSlots then pack layout (take (n * 3) ns) area output else packEffect output (refused BadSize 0)
+packFirst layout ns n area output = if leb n maxSlots then pack layout (take (n * slotWidth) ns) area output else packEffect output (refused BadSize 0)
 
 unfoldable pub readFirst : List ℕ → List ℕ → List ℕ → ℕ → List ℕ → ℕ → Read
 unfolding read
-readFirst layout bs ns n area mark = if leb n maxSlots then read layout bs (take (n * 3) ns) area mark else readEffect (take (n * 3) ns) area mark (refused BadSize 0)
+readFirst layout bs ns n area mark = if leb n maxSlots then read layout bs (take (n * slotWidth) ns) area mark else readEffect (take (n * slotWidth) ns) area mark (refused BadSize 0)

@@ -18,7 +18,7 @@ pub struct Slot {
 
 // The slot that three numbers make.
 fn slot_from(numbers: &[u32], at: usize) -> Slot
-    requires { ⌜ at + 3 ≤ length (now numbers) ⌝ }
+    requires { ⌜ at + slotWidth ≤ length (now numbers) ⌝ }
     ensures { λ r. ⌜ r ≡ slotFrom (now (numbers .entry)) at ⌝ }
 {
     let kind = numbers[at];
@@ -33,7 +33,7 @@ fn slot_from(numbers: &[u32], at: usize) -> Slot
 
 // The three numbers of a slot.
 fn put_slot(numbers: &mut [u32], at: usize, slot: Slot)
-    requires { ⌜ at + 3 ≤ length (now numbers) ⌝ }
+    requires { ⌜ at + slotWidth ≤ length (now numbers) ⌝ }
     ensures { λ _. ⌜ now (numbers .exit) ≡ putAt (now (numbers .entry)) at slot ⌝ }
 {
     numbers[at] = slot.kind;
@@ -45,18 +45,18 @@ fn put_slot(numbers: &mut [u32], at: usize, slot: Slot)
 fn taken(count: usize) -> usize
     ensures { λ r. ⌜ r ≡ taken count ⌝ }
 {
-    if count <= 64 { count } else { 0 }
+    if count <= record::MAX_SLOTS { count } else { 0 }
 }
 
 // Takes the slots apart into numbers, and tells how many.
 fn load(slots: &[Slot], numbers: &mut [u32]) -> usize
     requires { ⌜ slotWidth * maxSlots ≤ length (now numbers) ⌝ }
-    ensures { λ r. ⌜ (r ≡ taken (length (now (slots .entry)))) × (now (numbers .exit) ≡ numbersOf (take r (now (slots .entry))) ++ drop (r * 3) (now (numbers .entry))) ⌝ }
+    ensures { λ r. ⌜ (r ≡ taken (length (now (slots .entry)))) × (now (numbers .exit) ≡ numbersOf (take r (now (slots .entry))) ++ drop (r * slotWidth) (now (numbers .entry))) ⌝ }
 {
     let count = taken(slots.len());
     let mut i = 0;
     while i < count {
-        put_slot(numbers, i * 3, slots[i]);
+        put_slot(numbers, i * record::SLOT_WIDTH, slots[i]);
         i = i + 1;
     }
     count
@@ -64,12 +64,12 @@ fn load(slots: &[Slot], numbers: &mut [u32]) -> usize
 
 // Puts so many slots together out of their numbers.
 fn save(slots: &mut [Slot], numbers: &[u32], count: usize)
-    requires { ⌜ (count ≤ length (now slots)) × (count * 3 ≤ length (now numbers)) ⌝ }
-    ensures { λ _. ⌜ now (slots .exit) ≡ slotsFrom (take (count * 3) (now (numbers .entry))) ++ drop count (now (slots .entry)) ⌝ }
+    requires { ⌜ (count ≤ length (now slots)) × (count * slotWidth ≤ length (now numbers)) ⌝ }
+    ensures { λ _. ⌜ now (slots .exit) ≡ slotsFrom (take (count * slotWidth) (now (numbers .entry))) ++ drop count (now (slots .entry)) ⌝ }
 {
     let mut i = 0;
     while i < count {
-        slots[i] = slot_from(numbers, i * 3);
+        slots[i] = slot_from(numbers, i * record::SLOT_WIDTH);
         i = i + 1;
     }
 }
@@ -85,10 +85,10 @@ fn pack_first(
     requires { ⌜ slotWidth * maxSlots ≤ length (now numbers) ⌝ }
     ensures { λ r. ⌜ record { answer = r; output = now (output .exit) } ≡ packFirst (now (layout .entry)) (now (numbers .entry)) count (now (area .entry)) (now (output .entry)) ⌝ }
 {
-    if 64 < count {
+    if record::MAX_SLOTS < count {
         return Answer::refused(Refusal::BadSize, 0);
     }
-    let end = count * 3;
+    let end = count * record::SLOT_WIDTH;
     packer::pack(layout, &numbers[..end], area, output)
 }
 
@@ -102,12 +102,12 @@ fn read_first(
     mark: usize,
 ) -> Answer
     requires { ⌜ slotWidth * maxSlots ≤ length (now numbers) ⌝ }
-    ensures { λ r. ⌜ record { answer = r; slots = take (count * 3) (now (numbers .exit)); area = now (area .exit) } ≡ readFirst (now (layout .entry)) (now (bytes .entry)) (now (numbers .entry)) count (now (area .entry)) mark ⌝ }
+    ensures { λ r. ⌜ record { answer = r; slots = take (count * slotWidth) (now (numbers .exit)); area = now (area .exit) } ≡ readFirst (now (layout .entry)) (now (bytes .entry)) (now (numbers .entry)) count (now (area .entry)) mark ⌝ }
 {
-    if 64 < count {
+    if record::MAX_SLOTS < count {
         return Answer::refused(Refusal::BadSize, 0);
     }
-    let end = count * 3;
+    let end = count * record::SLOT_WIDTH;
     reader::read(layout, bytes, &mut numbers[..end], area, mark)
 }
 
@@ -115,7 +115,7 @@ fn read_first(
 pub fn pack_slots(layout: &[u8], slots: &[Slot], area: &[u8], output: &mut [u8]) -> Answer
     ensures { λ r. ⌜ record { answer = r; output = now (output .exit) } ≡ pack (now (layout .entry)) (numbersOf (now (slots .entry))) (now (area .entry)) (now (output .entry)) ⌝ }
 {
-    let mut numbers = [0; 192];
+    let mut numbers = [0; record::MAX_NUMBERS];
     load(slots, &mut numbers);
     pack_first(layout, &numbers, slots.len(), area, output)
 }
@@ -130,7 +130,7 @@ pub fn read_slots(
 ) -> Answer
     ensures { λ r. ⌜ record { answer = r; slots = now (slots .exit); area = now (area .exit) } ≡ readSlots (now (layout .entry)) (now (bytes .entry)) (now (slots .entry)) (now (area .entry)) mark ⌝ }
 {
-    let mut numbers = [0; 192];
+    let mut numbers = [0; record::MAX_NUMBERS];
     let count = load(slots, &mut numbers);
     let answer = read_first(layout, bytes, &mut numbers, slots.len(), area, mark);
     save(slots, &numbers, count);
