@@ -1,4 +1,4 @@
--- Each call over slots is the core call on their numbers: of at most 64 slots it is made over the first part of the scratch, and of more it is refused.
+-- Each call over slots is the core call on their numbers: of no more slots than a table may have it is made over the first part of the scratch, and of more it is refused.
 use mathlib.Core.Path.{_≡_, sym, ap, _∙_}
 use Prim.Native.Nat.{ℕ, _*_, _<_, _≤_}
 use native.Mathlib.Nat.{lt-of-not-le}
@@ -17,54 +17,54 @@ use Rattle.record.specs.Table.{slotWidth, maxSlots}
 use Rattle.record.specs.Packing.{pack, packs, refusal}
 use Rattle.record.specs.Reading.{Read, read, reads}
 use Rattle.slots.specs.declared.Slot.{Slot}
-use Rattle.slots.specs.Slots.{numbersOf, slotsFrom, taken, packFirst, readFirst, readSlots, withSlots}
+use Rattle.slots.specs.Slots.{maxNumbers, numbersOf, slotsFrom, taken, packFirst, readFirst, readSlots, withSlots}
 use Rattle.slots.proofs.Runs.{filled, length-numbers, slots-back}
 
 -- ---- how many are taken apart
 
-pub taken-few : (n : ℕ) → n ≤ 64 → taken n ≡ n
+pub taken-few : (n : ℕ) → n ≤ maxSlots → taken n ≡ n
 unfolding taken
-taken-few n l = rw (le-leb n 64 l)
+taken-few n l = rw (le-leb n maxSlots l)
 
-pub taken-many : (n : ℕ) → 64 < n → taken n ≡ 0
+pub taken-many : (n : ℕ) → maxSlots < n → taken n ≡ 0
 unfolding taken
-taken-many n l = rw (lt-leb n 64 l)
+taken-many n l = rw (lt-leb n maxSlots l)
 
-pub taken-within : (n : ℕ) → (taken n ≤ n) × (taken n ≤ 64)
-taken-within n = elim (decLe n 64) [
+pub taken-within : (n : ℕ) → (taken n ≤ n) × (taken n ≤ maxSlots)
+taken-within n = elim (decLe n maxSlots) [
   | yes l ↦ (rw (taken-few n l) (omega arith), rw (taken-few n l) l)
   | no l ↦ (rw (taken-many n (lt-of-not-le l)) (omega arith), rw (taken-many n (lt-of-not-le l)) (omega arith))
 ]
 
 -- the first numbers of the scratch
-pub first-numbers : (ss : List Slot) (ns : List ℕ) → length ss ≤ 64 → take (length ss * 3) (filled (taken (length ss)) ss ns) ≡ numbersOf ss
+pub first-numbers : (ss : List Slot) (ns : List ℕ) → length ss ≤ maxSlots → take (length ss * slotWidth) (filled (taken (length ss)) ss ns) ≡ numbersOf ss
 first-numbers ss ns l =
-    ap (λ (k : ℕ). take (length ss * 3) (filled k ss ns)) (taken-few (length ss) l)
-    ∙ ap (λ (z : List Slot). take (length ss * 3) (numbersOf z ++ drop (length ss * 3) ns)) (take-length ss)
-    ∙ take-at (numbersOf ss) (drop (length ss * 3) ns) (length ss * 3) (length-numbers ss)
+    ap (λ (k : ℕ). take (length ss * slotWidth) (filled k ss ns)) (taken-few (length ss) l)
+    ∙ ap (λ (z : List Slot). take (length ss * slotWidth) (numbersOf z ++ drop (length ss * slotWidth) ns)) (take-length ss)
+    ∙ take-at (numbersOf ss) (drop (length ss * slotWidth) ns) (length ss * slotWidth) (length-numbers ss)
 
-pub first-part : (ns : List ℕ) (n : ℕ) → n ≤ 64 → slotWidth * maxSlots ≤ length ns → n * 3 ≡ length (take (n * 3) ns)
-first-part ns n l g = sym (length-take-le (n * 3) ns (omega arith))
+pub first-part : (ns : List ℕ) (n : ℕ) → n ≤ maxSlots → maxNumbers ≤ length ns → n * slotWidth ≡ length (take (n * slotWidth) ns)
+first-part ns n l g = sym (length-take-le (n * slotWidth) ns (omega arith))
 
 -- ---- the core call on the first part of the scratch
 
 module _ (layout ns area output : List ℕ) (n : ℕ) where
-  pub pack-few : n ≤ 64 → pack layout (take (n * 3) ns) area output ≡ packFirst layout ns n area output
+  pub pack-few : n ≤ maxSlots → pack layout (take (n * slotWidth) ns) area output ≡ packFirst layout ns n area output
   unfolding packFirst
-  pack-few l = rw (le-leb n 64 l)
+  pack-few l = rw (le-leb n maxSlots l)
 
-  pub pack-many : 64 < n → record { answer = refusal BadSize 0; output = output } ≡ packFirst layout ns n area output
+  pub pack-many : maxSlots < n → record { answer = refusal BadSize 0; output = output } ≡ packFirst layout ns n area output
   unfolding packFirst
-  pack-many l = rw (lt-leb n 64 l)
+  pack-many l = rw (lt-leb n maxSlots l)
 
 module _ (layout bs ns area : List ℕ) (n mark : ℕ) where
-  pub read-few : n ≤ 64 → read layout bs (take (n * 3) ns) area mark ≡ readFirst layout bs ns n area mark
+  pub read-few : n ≤ maxSlots → read layout bs (take (n * slotWidth) ns) area mark ≡ readFirst layout bs ns n area mark
   unfolding readFirst
-  read-few l = rw (le-leb n 64 l)
+  read-few l = rw (le-leb n maxSlots l)
 
-  pub read-many : 64 < n → record { answer = refusal BadSize 0; slots = take (n * 3) ns; area = area } ≡ readFirst layout bs ns n area mark
+  pub read-many : maxSlots < n → record { answer = refusal BadSize 0; slots = take (n * slotWidth) ns; area = area } ≡ readFirst layout bs ns n area mark
   unfolding readFirst
-  read-many l = rw (lt-leb n 64 l)
+  read-many l = rw (lt-leb n maxSlots l)
 
 -- what the call leaves at the front of the scratch
 pub read-front : (zs rest : List ℕ) (k : ℕ) → length zs ≡ k → {a : Answer} {z : List ℕ} {e : Read} → record { answer = a; slots = zs; area = z } ≡ e → record { answer = a; slots = take k (zs ++ rest); area = z } ≡ e
@@ -75,44 +75,44 @@ read-front zs rest k l {a} {z} r = ap (λ (s : List ℕ). record { answer = a; s
 over : (layout bytes area : List ℕ) (ss : List Slot) → maxSlots < length ss → sizesFit layout (numbersOf ss) bytes area ≡ false
 over layout bytes area ss l = too-many (length layout) (length (numbersOf ss)) (length bytes) (length area) (omega (arith, length-numbers ss))
 
-pack-over : (layout area output : List ℕ) (ss : List Slot) → 64 < length ss → record { answer = refusal BadSize 0; output = output } ≡ pack layout (numbersOf ss) area output
+pack-over : (layout area output : List ℕ) (ss : List Slot) → maxSlots < length ss → record { answer = refusal BadSize 0; output = output } ≡ pack layout (numbersOf ss) area output
 unfolding pack packs
 pack-over layout area output ss l = rw (over layout output area ss l)
 
-read-over : (layout bs area : List ℕ) (ss : List Slot) (mark : ℕ) → 64 < length ss → record { answer = refusal BadSize 0; slots = numbersOf ss; area = area } ≡ read layout bs (numbersOf ss) area mark
+read-over : (layout bs area : List ℕ) (ss : List Slot) (mark : ℕ) → maxSlots < length ss → record { answer = refusal BadSize 0; slots = numbersOf ss; area = area } ≡ read layout bs (numbersOf ss) area mark
 unfolding read reads
 read-over layout bs area ss mark l = rw (over layout bs area ss l)
 
 -- ---- the calls over slots
 
 pub pack-loaded : (layout ns area output : List ℕ) (ss : List Slot) → packFirst layout (filled (taken (length ss)) ss ns) (length ss) area output ≡ pack layout (numbersOf ss) area output
-pack-loaded layout ns area output ss = elim (decLe (length ss) 64) [
+pack-loaded layout ns area output ss = elim (decLe (length ss) maxSlots) [
   | yes l ↦ sym (pack-few layout _ area output (length ss) l) ∙ ap (λ (z : List ℕ). pack layout z area output) (first-numbers ss ns l)
   | no l ↦ sym (pack-many layout _ area output (length ss) (lt-of-not-le l)) ∙ pack-over layout area output ss (lt-of-not-le l)
 ]
 
 module _ (layout bs ns ws area z : List ℕ) (ss ts : List Slot) (mark : ℕ) (a : Answer) where
   pub read-loaded :
-      record { answer = a; slots = take (length ss * 3) ws; area = z } ≡ readFirst layout bs (filled (taken (length ss)) ss ns) (length ss) area mark
-      → ts ≡ slotsFrom (take (taken (length ss) * 3) ws) ++ drop (taken (length ss)) ss
+      record { answer = a; slots = take (length ss * slotWidth) ws; area = z } ≡ readFirst layout bs (filled (taken (length ss)) ss ns) (length ss) area mark
+      → ts ≡ slotsFrom (take (taken (length ss) * slotWidth) ws) ++ drop (taken (length ss)) ss
       → record { answer = a; slots = ts; area = z } ≡ readSlots layout bs ss area mark
   unfolding readSlots slotsFrom
-  read-loaded r s = elim (decLe (length ss) 64) [
+  read-loaded r s = elim (decLe (length ss) maxSlots) [
     | yes l ↦ few l
     | no l ↦ many (lt-of-not-le l)
   ]
     where
-      few : length ss ≤ 64 → record { answer = a; slots = ts; area = z } ≡ withSlots (read layout bs (numbersOf ss) area mark)
+      few : length ss ≤ maxSlots → record { answer = a; slots = ts; area = z } ≡ withSlots (read layout bs (numbersOf ss) area mark)
       few l = ap (λ (t : List Slot). record { answer = a; slots = t; area = z }) whole ∙ ap withSlots (r ∙ sym (read-few layout bs _ area (length ss) mark l) ∙ ap (λ (m : List ℕ). read layout bs m area mark) (first-numbers ss ns l))
         where
-          whole : ts ≡ slotsFrom (take (length ss * 3) ws)
-          whole = s ∙ ap (λ (k : ℕ). slotsFrom (take (k * 3) ws) ++ drop k ss) (taken-few (length ss) l) ∙ ap (λ (t : List Slot). slotsFrom (take (length ss * 3) ws) ++ t) (drop-length ss) ∙ append-nil (slotsFrom (take (length ss * 3) ws))
+          whole : ts ≡ slotsFrom (take (length ss * slotWidth) ws)
+          whole = s ∙ ap (λ (k : ℕ). slotsFrom (take (k * slotWidth) ws) ++ drop k ss) (taken-few (length ss) l) ∙ ap (λ (t : List Slot). slotsFrom (take (length ss * slotWidth) ws) ++ t) (drop-length ss) ∙ append-nil (slotsFrom (take (length ss * slotWidth) ws))
 
-      many : 64 < length ss → record { answer = a; slots = ts; area = z } ≡ withSlots (read layout bs (numbersOf ss) area mark)
+      many : maxSlots < length ss → record { answer = a; slots = ts; area = z } ≡ withSlots (read layout bs (numbersOf ss) area mark)
       many l = (λ i. record { answer = same i .answer; slots = kept i; area = same i .area }) ∙ ap withSlots (read-over layout bs area ss mark l)
         where
-          same : _≡_ {A = Read} (record { answer = a; slots = take (length ss * 3) ws; area = z }) (record { answer = refusal BadSize 0; slots = take (length ss * 3) (filled (taken (length ss)) ss ns); area = area })
+          same : _≡_ {A = Read} (record { answer = a; slots = take (length ss * slotWidth) ws; area = z }) (record { answer = refusal BadSize 0; slots = take (length ss * slotWidth) (filled (taken (length ss)) ss ns); area = area })
           same = r ∙ sym (read-many layout bs _ area (length ss) mark l)
 
           kept : ts ≡ slotsFrom (numbersOf ss)
-          kept = s ∙ ap (λ (k : ℕ). slotsFrom (take (k * 3) ws) ++ drop k ss) (taken-many (length ss) l) ∙ sym (slots-back ss)
+          kept = s ∙ ap (λ (k : ℕ). slotsFrom (take (k * slotWidth) ws) ++ drop k ss) (taken-many (length ss) l) ∙ sym (slots-back ss)

@@ -1,4 +1,4 @@
--- `load` called with a local array of 192 zeros, lent for the call: what it asks, and what comes back.
+-- `load` called with a local array of as many zeros as the most slots have numbers, lent for the call: what it asks, and what comes back.
 use mathlib.Core.Path.{_≡_, refl, sym, ap, subst, _∙_}
 use Prim.Native.Nat.{ℕ, _*_, _<_, _≤_}
 use mathlib.Core.List.{List, [], _∷_}
@@ -30,8 +30,9 @@ use denote.Triple.Statement.{Contract}
 use denote.Triple.Clauses.{ensured, lasts}
 use denote.Triple.Spec.{tripleOf}
 use denote.Triple.Walked.{says}
+use Rattle.record.specs.Table.{slotWidth}
 use Rattle.slots.specs.declared.Slot.{Slot}
-use Rattle.slots.specs.Slots.{taken}
+use Rattle.slots.specs.Slots.{maxNumbers, taken}
 use Rattle.slots.proofs.Runs.{filled, length-filled}
 use Rattle.slots.proofs.Calls.{taken-within}
 use Rattle.slots.proofs.Turns.{numbers-fit}
@@ -45,18 +46,18 @@ R = T.the-row
 abbrev pub Load : {M : Type 1} (𝓤 : URA M) (H : Heap 𝓤) (A : Atoms 𝓤) (mem : Memory → SProp 𝓤) (run : Routine → Fun 𝓤) → Contract 𝓤
 Load 𝓤 H A mem run = tripleOf 𝓤 H A ld.signature (ld.spec 𝓤 H A mem run)
 
-pub zeros-long : length (zeros 192) ≡ 192
-zeros-long = length-replicate {A = ℕ} 192 0
+pub zeros-long : length (zeros maxNumbers) ≡ maxNumbers
+zeros-long = length-replicate {A = ℕ} maxNumbers 0
 
-pub room-192 : Room u32 192
-room-192 = (lit< tt, lit< tt)
+pub room-numbers : Room u32 maxNumbers
+room-numbers = (lit< tt, lit< tt)
 
 -- the scratch after the call
 abbrev pub scratch : List Slot → List ℕ
-scratch ss = filled (taken (length ss)) ss (zeros 192)
+scratch ss = filled (taken (length ss)) ss (zeros maxNumbers)
 
-pub scratch-long : (ss : List Slot) → length (scratch ss) ≡ 192
-scratch-long ss = length-filled ss (zeros 192) c (taken-within (length ss) .0) (subst (λ (k : ℕ). c * 3 ≤ k) (sym zeros-long) (numbers-fit c 192 (taken-within (length ss) .1) (lit≤ tt))) ∙ zeros-long
+pub scratch-long : (ss : List Slot) → length (scratch ss) ≡ maxNumbers
+scratch-long ss = length-filled ss (zeros maxNumbers) c (taken-within (length ss) .0) (subst (λ (k : ℕ). c * slotWidth ≤ k) (sym zeros-long) (numbers-fit c maxNumbers (taken-within (length ss) .1) (lit≤ tt))) ∙ zeros-long
   where
     c : ℕ
     c = taken (length ss)
@@ -69,31 +70,31 @@ module _ {M : Type 1} (𝓤 : URA M) (H : Heap 𝓤) (A : Atoms 𝓤) (W : Given
   vs = sliceVal (x .ptr) (length ys)
 
   abbrev xa : RefT (List ℕ)
-  xa = record { ptr = (l, 0); name = δ; now = zeros 192 }
+  xa = record { ptr = (l, 0); name = δ; now = zeros maxNumbers }
 
   abbrev pub Own-zeros : ℕ → Fml
   Own-zeros k = MutSlice (named 1) (ν ∷ []) u32 .own xa (sliceVal (l, 0) k ∷ [])
 
   abbrev pub to-load : Load 𝓤 H A mem run .Ghost
-  to-load = (((κ, (ν ∷ [], tt)), (q, (fullShare, tt)), tt, (x, (xa, tt)), (vs ∷ [], (sliceVal (l, 0) 192 ∷ [], tt))), tt)
+  to-load = (((κ, (ν ∷ [], tt)), (q, (fullShare, tt)), tt, (x, (xa, tt)), (vs ∷ [], (sliceVal (l, 0) maxNumbers ∷ [], tt))), tt)
 
-  pub asked-load : ent 𝓤 (⋆ 𝓤 H A (‵ (flft κ q) ∷ ‵ (flft (ν ∷ []) fullShare) ∷ ‵ (ShrSlice (named 0) κ R .own x (vs ∷ [])) ∷ ‵ (Own-zeros 192) ∷ [])) (Load 𝓤 H A mem run .pre to-load)
+  pub asked-load : ent 𝓤 (⋆ 𝓤 H A (‵ (flft κ q) ∷ ‵ (flft (ν ∷ []) fullShare) ∷ ‵ (ShrSlice (named 0) κ R .own x (vs ∷ [])) ∷ ‵ (Own-zeros maxNumbers) ∷ [])) (Load 𝓤 H A mem run .pre to-load)
   asked-load =
-      qed W (‵ (flft κ q) ∷ ‵ (flft (ν ∷ []) fullShare) ∷ ‵ (ShrSlice (named 0) κ R .own x (vs ∷ [])) ∷ ‵ (Own-zeros 192) ∷ []) ∵ says ! (subst (λ (k : ℕ). 192 ≤ k) (sym zeros-long) (lit≤ tt)) $
+      qed W (‵ (flft κ q) ∷ ‵ (flft (ν ∷ []) fullShare) ∷ ‵ (ShrSlice (named 0) κ R .own x (vs ∷ [])) ∷ ‵ (Own-zeros maxNumbers) ∷ []) ∵ says ! (subst (λ (k : ℕ). maxNumbers ≤ k) (sym zeros-long) (lit≤ tt)) $
       nothing ! $ move ! (2 ∷ 0 ∷ []) $ join ! $ move ! (1 ∷ 0 ∷ []) $ join ! $ frame ! $ nothing ! $ move ! (2 ∷ 0 ∷ []) $ fjoin ! $ move ! (1 ∷ 0 ∷ []) $ fjoin ! $ done !
 
   abbrev Got : Val → ℕ → SProp 𝓤
   Got u r = guard 𝓤 (r ≡ taken (length ys)) (⋆ 𝓤 H A (‵ (usize .own r (u ∷ [])) ∷ ‵ (flft κ q) ∷ ‵ (cells (mem′ u32) (scratch ys) l 0) ∷ []))
 
-  pub back-load : (u : Val) → ent 𝓤 (sep 𝓤 (Load 𝓤 H A mem run .post to-load u) (A .lent (ν ∷ []) (Held u32 (length (zeros 192)) l 0 δ))) (H .⇛ (ex 𝓤 (Got u)))
+  pub back-load : (u : Val) → ent 𝓤 (sep 𝓤 (Load 𝓤 H A mem run .post to-load u) (A .lent (ν ∷ []) (Held u32 (length (zeros maxNumbers)) l 0 δ))) (H .⇛ (ex 𝓤 (Got u)))
   back-load u =
-      qed W (raw (Load 𝓤 H A mem run .post to-load u) ∷ ‵ (flent (ν ∷ []) (Held u32 (length (zeros 192)) l 0 δ)) ∷ []) ∵ updating ! $
+      qed W (raw (Load 𝓤 H A mem run .post to-load u) ∷ ‵ (flent (ν ∷ []) (Held u32 (length (zeros maxNumbers)) l 0 δ)) ∷ []) ∵ updating ! $
       use1 W (later (some (λ (r : ℕ). ((‵ (flft κ q) ⊛ (‵ (flft (ν ∷ []) fullShare) ⊛ ‵ ftrue)) ⊛ ‵ (usize .own r (u ∷ []))) ⊛ raw (ensured 𝓤 H A ld.ended (ld.clauses 𝓤 H A mem run) (κ, (ν ∷ [], tt)) (x, (xa, tt)) tt r)))) (id⊢ 𝓤 _) $ await ! tt $ pick ! (λ r.
-      split ! $ move ! (1 ∷ []) $ use1 W (some (λ (z : Unit {0} × (List ℕ × Unit {0})). ‵ (lasts ld.ended (κ, (ν ∷ [], tt)) (x, (xa, tt)) z) ⊛ raw (fact 𝓤 ((r ≡ taken (length ys)) × (z .1 .0 ≡ filled r ys (zeros 192)))))) (id⊢ 𝓤 _) $ pick ! (λ z.
-      split ! $ move ! (1 ∷ []) $ heard ! ((r ≡ taken (length ys)) × (z .1 .0 ≡ filled r ys (zeros 192))) (λ e. fsplit ! $ drop ! $ fsplit ! $ fsplit ! $ move ! (1 ∷ []) $ feqL ! (λ _.
+      split ! $ move ! (1 ∷ []) $ use1 W (some (λ (z : Unit {0} × (List ℕ × Unit {0})). ‵ (lasts ld.ended (κ, (ν ∷ [], tt)) (x, (xa, tt)) z) ⊛ raw (fact 𝓤 ((r ≡ taken (length ys)) × (z .1 .0 ≡ filled r ys (zeros maxNumbers)))))) (id⊢ 𝓤 _) $ pick ! (λ z.
+      split ! $ move ! (1 ∷ []) $ heard ! ((r ≡ taken (length ys)) × (z .1 .0 ≡ filled r ys (zeros maxNumbers))) (λ e. fsplit ! $ drop ! $ fsplit ! $ fsplit ! $ move ! (1 ∷ []) $ feqL ! (λ _.
       -- [the numbers' last list; true; the tokens and the result; the lender's part]
       move ! (2 ∷ []) $ split ! $ split ! $ move ! (1 ∷ []) $ split ! $ lft-end ! tt $ move ! (0 ∷ 6 ∷ 4 ∷ []) $
-      use3 W (later (‵ (Arr (mem′ u32) (length (zeros 192)) .lies (z .1 .0) l 0))) (slice-back 𝓤 H A W u32 (ν ∷ []) δ (z .1 .0) (length (zeros 192)) l 0) $ await ! tt $ fsplit ! $ drop ! $
+      use3 W (later (‵ (Arr (mem′ u32) (length (zeros maxNumbers)) .lies (z .1 .0) l 0))) (slice-back 𝓤 H A W u32 (ν ∷ []) δ (z .1 .0) (length (zeros maxNumbers)) l 0) $ await ! tt $ fsplit ! $ drop ! $
       -- [the cells; true; the slots' token; the result; true]
-      rewrite ! 0 (λ (ns : List ℕ). ‵ (cells (mem′ u32) ns l 0)) (e .1 ∙ ap (λ (k : ℕ). filled k ys (zeros 192)) (e .0)) refl $
+      rewrite ! 0 (λ (ns : List ℕ). ‵ (cells (mem′ u32) ns l 0)) (e .1 ∙ ap (λ (k : ℕ). filled k ys (zeros maxNumbers)) (e .0)) refl $
       at-once ! $ show ! (Got u) r $ check ! (e .0) $ keep ! (3 ∷ 2 ∷ 0 ∷ []) $ done !))))

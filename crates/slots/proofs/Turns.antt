@@ -5,20 +5,22 @@ use native.Mathlib.Nat.{add-zero, add-suc, le-antisymm}
 use native.Mathlib.Omega.{arith}
 use mathlib.Core.Bool.{Bool, true, false, not}
 use lib.Dec.{T as Holds, ltb, ltb→lt, nltb→le}
+use Rattle.record.specs.Table.{slotWidth, maxSlots}
+use Rattle.slots.specs.Slots.{maxNumbers}
 
 pub bytes-fit : (i n : ℕ) → i < n → n * 12 < 2 ^ 63 → i * 12 < 2 ^ 64
 bytes-fit i n l g = omega arith
 
-pub place-fits : (i n : ℕ) → i < n → n * 12 < 2 ^ 63 → i * 3 < 2 ^ 64
+pub place-fits : (i n : ℕ) → i < n → n * 12 < 2 ^ 63 → i * slotWidth < 2 ^ 64
 place-fits i n l g = omega arith
 
 pub next-fits : (i c : ℕ) → i < c → c < 2 ^ 64 → i + 1 < 2 ^ 64
 next-fits i c l g = omega arith
 
-pub numbers-fit : (c m : ℕ) → c ≤ 64 → 192 ≤ m → c * 3 ≤ m
+pub numbers-fit : (c m : ℕ) → c ≤ maxSlots → maxNumbers ≤ m → c * slotWidth ≤ m
 numbers-fit c m l g = omega arith
 
-pub three-more : (i c m : ℕ) → i < c → c * 3 ≤ m → i * 3 + 3 ≤ m
+pub three-more : (i c m : ℕ) → i < c → c * slotWidth ≤ m → i * slotWidth + slotWidth ≤ m
 three-more i c m l g = omega arith
 
 pub less-left : (i c : ℕ) → i < c → c - suc i < c - i

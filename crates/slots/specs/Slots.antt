@@ -25,6 +25,10 @@ slotsFrom (k ∷ []) = []
 slotsFrom (k ∷ s ∷ []) = []
 slotsFrom (k ∷ s ∷ n ∷ rest) = record { kind = k; start = s; length = n } ∷ slotsFrom rest
 
+-- the numbers of the most slots
+abbrev pub maxNumbers : ℕ
+maxNumbers = slotWidth * maxSlots
+
 -- ---- the reader's call
 
 -- all that a call of the reader leaves: its answer, the slots and the area

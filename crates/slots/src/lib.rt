@@ -4,9 +4,9 @@ ghost use mathlib.Core.Path.{_≡_};
 ghost use mathlib.Core.List.{_++_};
 ghost use Prim.Native.Nat.{_+_, _*_, _≤_};
 ghost use lib.ListN.{length, take, drop};
-ghost use Rattle.record.specs.Table.{maxSlots, slotWidth};
+ghost use Rattle.record.specs.Table.{slotWidth};
 ghost use Rattle.record.specs.Packing.{pack};
-ghost use Rattle.slots.specs.Slots.{numbersOf, slotsFrom, slotFrom, putAt, taken, packFirst, readFirst, readSlots};
+ghost use Rattle.slots.specs.Slots.{maxNumbers, numbersOf, slotsFrom, slotFrom, putAt, taken, packFirst, readFirst, readSlots};
 use layout::Refusal;
 use record::Answer;
 
@@ -50,7 +50,7 @@ fn taken(count: usize) -> usize
 
 // Takes the slots apart into numbers, and tells how many.
 fn load(slots: &[Slot], numbers: &mut [u32]) -> usize
-    requires { ⌜ slotWidth * maxSlots ≤ length (now numbers) ⌝ }
+    requires { ⌜ maxNumbers ≤ length (now numbers) ⌝ }
     ensures { λ r. ⌜ (r ≡ taken (length (now (slots .entry)))) × (now (numbers .exit) ≡ numbersOf (take r (now (slots .entry))) ++ drop (r * slotWidth) (now (numbers .entry))) ⌝ }
 {
     let count = taken(slots.len());
@@ -82,7 +82,7 @@ fn pack_first(
     area: &[u8],
     output: &mut [u8],
 ) -> Answer
-    requires { ⌜ slotWidth * maxSlots ≤ length (now numbers) ⌝ }
+    requires { ⌜ maxNumbers ≤ length (now numbers) ⌝ }
     ensures { λ r. ⌜ record { answer = r; output = now (output .exit) } ≡ packFirst (now (layout .entry)) (now (numbers .entry)) count (now (area .entry)) (now (output .entry)) ⌝ }
 {
     if record::MAX_SLOTS < count {
@@ -101,7 +101,7 @@ fn read_first(
     area: &mut [u8],
     mark: usize,
 ) -> Answer
-    requires { ⌜ slotWidth * maxSlots ≤ length (now numbers) ⌝ }
+    requires { ⌜ maxNumbers ≤ length (now numbers) ⌝ }
     ensures { λ r. ⌜ record { answer = r; slots = take (count * slotWidth) (now (numbers .exit)); area = now (area .exit) } ≡ readFirst (now (layout .entry)) (now (bytes .entry)) (now (numbers .entry)) count (now (area .entry)) mark ⌝ }
 {
     if record::MAX_SLOTS < count {

@@ -47,7 +47,7 @@ use denote.Triple.Walked.{says, needs, Stays, stay-slice, stay-dropped, walkOf, 
 use denote.Exit.{yes}
 use Rattle.slots.specs.declared.Slot.{Slot}
 use Rattle.record.specs.Table.{slotWidth, maxSlots}
-use Rattle.slots.specs.Slots.{putAt, taken}
+use Rattle.slots.specs.Slots.{maxNumbers, putAt, taken}
 use Rattle.slots.proofs.Runs.{noSlot, slotOf, loaded, length-loaded, loaded-is}
 use Rattle.slots.proofs.Calls.{taken-within}
 use Rattle.slots.proofs.Turns.{numbers-fit, bytes-fit, place-fits, next-fits, three-more, less-left, one-more, held, over}
@@ -95,7 +95,7 @@ abbrev PutSlot : {M : Type 1} (𝓤 : URA M) (H : Heap 𝓤) (A : Atoms 𝓤) (m
 PutSlot 𝓤 H A mem run = tripleOf 𝓤 H A put-slot.signature (put-slot.spec 𝓤 H A mem run)
 
 module _ {M : Type 1} (𝓤 : URA M) (H : Heap 𝓤) (A : Atoms 𝓤) (W : Given 𝓤 H A) (mem : Memory → SProp 𝓤) (run : Routine → Fun 𝓤) (κ κ₁ : Lft) (q q₁ : Share) (x : RefT (List Slot)) (b o : ℕ) (γ : GName) (ms : List ℕ)
-    (gn : Room R (length (x .now))) (gm : Room u32 (length ms)) (enough : 192 ≤ length ms) where
+    (gn : Room R (length (x .now))) (gm : Room u32 (length ms)) (enough : maxNumbers ≤ length ms) where
   abbrev ys : List Slot
   ys = x .now
 
@@ -112,7 +112,7 @@ module _ {M : Type 1} (𝓤 : URA M) (H : Heap 𝓤) (A : Atoms 𝓤) (W : Given
   most : c ≤ n
   most = taken-within n .0
 
-  room : c * 3 ≤ m
+  room : c * slotWidth ≤ m
   room = numbers-fit c m (taken-within n .1) enough
 
   gc : c < 2 ^ 64
@@ -167,21 +167,21 @@ module _ {M : Type 1} (𝓤 : URA M) (H : Heap 𝓤) (A : Atoms 𝓤) (W : Given
   Args = RefT (List ℕ) × (ℕ × (Slot × Unit {0}))
 
   abbrev args : GName → ℕ → Args
-  args δ i = (x₁ δ (done-at i), (i * 3, (slotOf ys i, tt)))
+  args δ i = (x₁ δ (done-at i), (i * slotWidth, (slotOf ys i, tt)))
 
   abbrev mach : ℕ → Val
   mach i = LL.val T.the-type T′.the-laws (slotOf ys i)
 
   abbrev to : ℕ → GName → ℕ → PutSlot 𝓤 H A mem run .Ghost
-  to ν δ i = (((ν ∷ [], tt), (fullShare, tt), tt, args δ i, (v₁ ∷ [], (vint w64 (i * 3) ∷ [], (mach i ∷ [], tt)))), tt)
+  to ν δ i = (((ν ∷ [], tt), (fullShare, tt), tt, args δ i, (v₁ ∷ [], (vint w64 (i * slotWidth) ∷ [], (mach i ∷ [], tt)))), tt)
 
   abbrev Lent : ℕ → GName → ℕ → ℕ → Fml
   Lent ν δ i k = MutSlice (named 0) (ν ∷ []) u32 .own (x₁ δ (done-at i)) (sliceVal (b, o) k ∷ [])
 
-  asked : (ν : ℕ) (δ : GName) (i : ℕ) → i * 3 < 2 ^ 64 → Is R (slotOf ys i) (mach i ∷ []) → i * 3 + 3 ≤ length (done-at i) → ent 𝓤 (sep 𝓤 (A .lft (ν ∷ []) fullShare) (sem 𝓤 H A (Lent ν δ i m))) (PutSlot 𝓤 H A mem run .pre (to ν δ i))
+  asked : (ν : ℕ) (δ : GName) (i : ℕ) → i * slotWidth < 2 ^ 64 → Is R (slotOf ys i) (mach i ∷ []) → i * slotWidth + slotWidth ≤ length (done-at i) → ent 𝓤 (sep 𝓤 (A .lft (ν ∷ []) fullShare) (sem 𝓤 H A (Lent ν δ i m))) (PutSlot 𝓤 H A mem run .pre (to ν δ i))
   asked ν δ i fits is within =
       qed W (‵ (flft (ν ∷ []) fullShare) ∷ ‵ (Lent ν δ i m) ∷ []) ∵ says ! within $ nothing ! $ move ! (1 ∷ 0 ∷ []) $ join ! $ frame ! $
-      nothing ! $ owned ! R (Is R) (LL.makes T.the-type T′.the-plain 𝓤 H A) (slotOf ys i) _ is $ fjoin ! $ owned ! usize (Is usize) (uint-makes 𝓤 H A W w64) (i * 3) _ (refl, fits) $ fjoin ! $ move ! (1 ∷ 0 ∷ []) $ fjoin ! $ done !
+      nothing ! $ owned ! R (Is R) (LL.makes T.the-type T′.the-plain 𝓤 H A) (slotOf ys i) _ is $ fjoin ! $ owned ! usize (Is usize) (uint-makes 𝓤 H A W w64) (i * slotWidth) _ (refl, fits) $ fjoin ! $ move ! (1 ∷ 0 ∷ []) $ fjoin ! $ done !
 
   -- ---- the loop's invariant, at i
   abbrev Upto : Type 0
@@ -234,12 +234,12 @@ module _ {M : Type 1} (𝓤 : URA M) (H : Heap 𝓤) (A : Atoms 𝓤) (W : Given
         rewrite ! 3 (λ (k : ℕ). ‵ (Own₁ (done-at (i .0)) k)) (sym (length-loaded ys ms (i .0))) refl $ lft-new ! tt (λ ν. move ! (4 ∷ 3 ∷ []) $
         use2 W (later (some (λ (δ : GName). ‵ (Lent ν δ (i .0) (length (done-at (i .0)))) ⊛ ‵ (LentAgain u32 κ₁ (ν ∷ []) q₁ γ b o δ (done-at (i .0)))))) (lends-again u32 κ₁ (ν ∷ []) q₁ γ b o 𝓤 H A W (named 1) (named 0) (done-at (i .0))) $ await ! tt $ pick ! (λ δ. split ! $
         rewrite ! 0 (λ (k : ℕ). ‵ (Lent ν δ (i .0) k)) (length-loaded ys ms (i .0)) refl $ move ! (2 ∷ 0 ∷ []) $
-        use2 W (raw (PutSlot 𝓤 H A mem run .pre (to ν δ (i .0)))) (asked ν δ (i .0) (place-fits (i .0) n (inside i e) (gn .1)) is (subst (λ (k : ℕ). i .0 * 3 + 3 ≤ k) (sym (length-loaded ys ms (i .0))) (three-more (i .0) c m (held (i .0) c e) room))) $
+        use2 W (raw (PutSlot 𝓤 H A mem run .pre (to ν δ (i .0)))) (asked ν δ (i .0) (place-fits (i .0) n (inside i e) (gn .1)) is (subst (λ (k : ℕ). i .0 * slotWidth + slotWidth ≤ k) (sym (length-loaded ys ms (i .0))) (three-more (i .0) c m (held (i .0) c e) room))) $
         -- [what the callee asks; what is kept meanwhile; the row; the open borrow; _11; …]
         calls-at ! (fmOf 𝓤 H (W .laws) 𝓣) (PutSlot 𝓤 H A mem run) known (to ν δ (i .0)) (and-then ! (load ! (from ! (stop !)) (look ! 12 refl)) (and-then ! (load ! (from ! (stop !)) (look ! 10 refl)) (and-then ! (load ! (from ! (stop !)) (look ! 4 refl)) (no-more !)))) (λ u.
         use1 W (later (some (λ (r : Unit {0}). ((‵ (flft (ν ∷ []) fullShare) ⊛ ‵ ftrue) ⊛ ‵ (unit .own r (u ∷ []))) ⊛ raw (ensured 𝓤 H A put-slot.ended (put-slot.clauses 𝓤 H A mem run) (ν ∷ [], tt) (args δ (i .0)) tt r)))) (id⊢ 𝓤 _) $ await ! tt $ pick ! (λ r.
-        split ! $ move ! (1 ∷ []) $ use1 W (some (λ (zs : List ℕ × (Unit {0} × (Unit {0} × Unit {0}))). ‵ (lasts put-slot.ended (ν ∷ [], tt) (args δ (i .0)) zs) ⊛ raw (fact 𝓤 (zs .0 ≡ putAt (done-at (i .0)) (i .0 * 3) (slotOf ys (i .0)))))) (id⊢ 𝓤 _) $ pick ! (λ zs.
-        split ! $ move ! (1 ∷ []) $ heard ! (zs .0 ≡ putAt (done-at (i .0)) (i .0 * 3) (slotOf ys (i .0))) (λ is-put. fsplit ! $ fsplit ! $ move ! (1 ∷ []) $ feqL ! (λ l.
+        split ! $ move ! (1 ∷ []) $ use1 W (some (λ (zs : List ℕ × (Unit {0} × (Unit {0} × Unit {0}))). ‵ (lasts put-slot.ended (ν ∷ [], tt) (args δ (i .0)) zs) ⊛ raw (fact 𝓤 (zs .0 ≡ putAt (done-at (i .0)) (i .0 * slotWidth) (slotOf ys (i .0)))))) (id⊢ 𝓤 _) $ pick ! (λ zs.
+        split ! $ move ! (1 ∷ []) $ heard ! (zs .0 ≡ putAt (done-at (i .0)) (i .0 * slotWidth) (slotOf ys (i .0))) (λ is-put. fsplit ! $ fsplit ! $ move ! (1 ∷ []) $ feqL ! (λ l.
         -- [the last list; true; the token and the result; what is kept; the row; the open borrow; _11; …]
         move ! (2 ∷ []) $ split ! $ move ! (1 ∷ []) $ feqL ! (λ is-unit. land ! (from ! (stop !)) (init ! 18 refl (subst (λ (w : Val). Holds (hasTy tyUnit w) × WT w) (sym (ap only is-unit)) (tt, tt))) $
         -- the lifetime is ended, and the numbers come back at that list

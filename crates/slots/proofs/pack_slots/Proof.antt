@@ -44,7 +44,7 @@ use denote.Triple.Walked.{says, Stays, stay-dropped, gave-slice, walkOf, goes-dr
 use denote.Exit.{yes}
 use Rattle.record.specs.declared.Answer.{Answer}
 use Rattle.slots.specs.declared.Slot.{Slot}
-use Rattle.slots.specs.Slots.{taken, packFirst}
+use Rattle.slots.specs.Slots.{maxNumbers, taken, packFirst}
 use Rattle.slots.proofs.Calls.{pack-loaded}
 use Rattle.slots.proofs.Arrays.{arr, cells-part, part-cells, room-back}
 use Rattle.slots.proofs.Zeros.{zeros, zeros-fit, zeros-apart}
@@ -52,7 +52,7 @@ use Rattle.slots.proofs.Slot as T
 use Rattle.record.proofs.Answer as TA
 use Rattle.record.proofs.Answer.Laws as TA′
 use Rattle.record.specs.Packing.{Packed}
-use Rattle.slots.proofs.Loads.{Load, zeros-long, room-192, scratch, scratch-long, Own-zeros, to-load, asked-load, back-load}
+use Rattle.slots.proofs.Loads.{Load, zeros-long, room-numbers, scratch, scratch-long, Own-zeros, to-load, asked-load, back-load}
 use Rattle.slots.proofs.load.Symbol as ld-def
 use Rattle.slots.proofs.load.Symbol.{name as #slots·load}
 use Rattle.slots.proofs.load.Met as ld-thm
@@ -123,7 +123,7 @@ module _ {M : Type 1} (𝓤 : URA M) (H : Heap 𝓤) (A : Atoms 𝓤) (W : Given
   exits : (p : Answer × List ℕ) (v : Val) → Fine p → ent 𝓤 (⋆ 𝓤 H A (‵ (Ans .own (p .0) (v ∷ [])) ∷ ‵ (finally u8 (o .name) (p .1)) ∷ ‵ (flft κ₃ q₃) ∷ ‵ (flft κ₂ q₂) ∷ ‵ (flft κ₁ q₁) ∷ ‵ (flft κ₀ q₀) ∷ [])) (Post v)
   exits p v f =
       qed W (‵ (Ans .own (p .0) (v ∷ [])) ∷ ‵ (finally u8 (o .name) (p .1)) ∷ ‵ (flft κ₃ q₃) ∷ ‵ (flft κ₂ q₂) ∷ ‵ (flft κ₁ q₁) ∷ ‵ (flft κ₀ q₀) ∷ []) ∵
-      suffices ! _ (ends-at 𝓤 H A ps.ended stayed (ps.clauses 𝓤 H A mem run) W bound v (p .0) (tt, (tt, (tt, (p .1, tt)))) (tt, (tt, (tt, (f .1, tt))))) $ says ! (f .0 ∙ pack-loaded (t .now) (zeros 192) (a .now) (o .now) ys) $
+      suffices ! _ (ends-at 𝓤 H A ps.ended stayed (ps.clauses 𝓤 H A mem run) W bound v (p .0) (tt, (tt, (tt, (p .1, tt)))) (tt, (tt, (tt, (f .1, tt))))) $ says ! (f .0 ∙ pack-loaded (t .now) (zeros maxNumbers) (a .now) (o .now) ys) $
       nothing ! $ move ! (3 ∷ 0 ∷ []) $ join ! $ move ! (3 ∷ 0 ∷ []) $ join ! $ move ! (3 ∷ 0 ∷ []) $ join ! $ move ! (3 ∷ 0 ∷ []) $ join ! $ frame ! $
       nothing ! $ move ! (2 ∷ 0 ∷ []) $ fjoin ! $ nothing ! $ fjoin ! $ nothing ! $ fjoin ! $ nothing ! $ fjoin ! $ frame ! $ done !
 
@@ -145,16 +145,16 @@ module _ {M : Type 1} (𝓤 : URA M) (H : Heap 𝓤) (A : Atoms 𝓤) (W : Given
     args = (t, (xa, (n, (a, (o, tt)))))
 
     abbrev to-pack : PackFirst 𝓤 H A mem run .Ghost
-    to-pack = ((κs, (q₀, (fullShare, (q₂, (q₃, tt)))), tt, args, (vt ∷ [], (sliceVal (l, 0) 192 ∷ [], (vint w64 n ∷ [], (va ∷ [], (vo ∷ [], tt)))))), tt)
+    to-pack = ((κs, (q₀, (fullShare, (q₂, (q₃, tt)))), tt, args, (vt ∷ [], (sliceVal (l, 0) maxNumbers ∷ [], (vint w64 n ∷ [], (va ∷ [], (vo ∷ [], tt)))))), tt)
 
-    asked-pack : ent 𝓤 (⋆ 𝓤 H A (‵ (flft κ₀ q₀) ∷ ‵ (flft (μ ∷ []) fullShare) ∷ ‵ (flft κ₂ q₂) ∷ ‵ (flft κ₃ q₃) ∷ ‵ Own-t ∷ ‵ (See-a 192) ∷ ‵ Own-a ∷ ‵ Own-o ∷ [])) (PackFirst 𝓤 H A mem run .pre to-pack)
+    asked-pack : ent 𝓤 (⋆ 𝓤 H A (‵ (flft κ₀ q₀) ∷ ‵ (flft (μ ∷ []) fullShare) ∷ ‵ (flft κ₂ q₂) ∷ ‵ (flft κ₃ q₃) ∷ ‵ Own-t ∷ ‵ (See-a maxNumbers) ∷ ‵ Own-a ∷ ‵ Own-o ∷ [])) (PackFirst 𝓤 H A mem run .pre to-pack)
     asked-pack =
-        qed W (‵ (flft κ₀ q₀) ∷ ‵ (flft (μ ∷ []) fullShare) ∷ ‵ (flft κ₂ q₂) ∷ ‵ (flft κ₃ q₃) ∷ ‵ Own-t ∷ ‵ (See-a 192) ∷ ‵ Own-a ∷ ‵ Own-o ∷ []) ∵ says ! (subst (λ (k : ℕ). 192 ≤ k) (sym (scratch-long ys)) (lit≤ tt)) $
+        qed W (‵ (flft κ₀ q₀) ∷ ‵ (flft (μ ∷ []) fullShare) ∷ ‵ (flft κ₂ q₂) ∷ ‵ (flft κ₃ q₃) ∷ ‵ Own-t ∷ ‵ (See-a maxNumbers) ∷ ‵ Own-a ∷ ‵ Own-o ∷ []) ∵ says ! (subst (λ (k : ℕ). maxNumbers ≤ k) (sym (scratch-long ys)) (lit≤ tt)) $
         nothing ! $ move ! (4 ∷ 0 ∷ []) $ join ! $ move ! (3 ∷ 0 ∷ []) $ join ! $ move ! (2 ∷ 0 ∷ []) $ join ! $ move ! (1 ∷ 0 ∷ []) $ join ! $ frame ! $
         nothing ! $ move ! (4 ∷ 0 ∷ []) $ fjoin ! $ move ! (3 ∷ 0 ∷ []) $ fjoin ! $ owned ! usize (Is usize) (uint-makes 𝓤 H A W w64) n _ (refl, gn .0) $ fjoin ! $ move ! (2 ∷ 0 ∷ []) $ fjoin ! $ move ! (1 ∷ 0 ∷ []) $ fjoin ! $ done !
 
     abbrev Got : Val → Answer × List ℕ → SProp 𝓤
-    Got u p = guard 𝓤 (Fine p) (⋆ 𝓤 H A (‵ (Ans .own (p .0) (u ∷ [])) ∷ ‵ (finally u8 (o .name) (p .1)) ∷ ‵ (flft κ₃ q₃) ∷ ‵ (flft κ₂ q₂) ∷ ‵ (flft κ₀ q₀) ∷ ‵ (froom (arr u32 192) l 0) ∷ []))
+    Got u p = guard 𝓤 (Fine p) (⋆ 𝓤 H A (‵ (Ans .own (p .0) (u ∷ [])) ∷ ‵ (finally u8 (o .name) (p .1)) ∷ ‵ (flft κ₃ q₃) ∷ ‵ (flft κ₂ q₂) ∷ ‵ (flft κ₀ q₀) ∷ ‵ (froom (arr u32 maxNumbers) l 0) ∷ []))
 
     back-pack : (u : Val) → ent 𝓤 (sep 𝓤 (PackFirst 𝓤 H A mem run .post to-pack u) (sem 𝓤 H A Lent)) (H .⇛ (ex 𝓤 (Got u)))
     back-pack u =
@@ -165,7 +165,7 @@ module _ {M : Type 1} (𝓤 : URA M) (H : Heap 𝓤) (A : Atoms 𝓤) (W : Given
         fsplit ! $ drop ! $ fsplit ! $ drop ! $ fsplit ! $ drop ! $ fsplit ! $ drop ! $ fsplit ! $ fsplit ! $ move ! (1 ∷ []) $ feqL ! (λ long.
         -- [the output's last list; true; the tokens and the result; the lender's part]
         move ! (2 ∷ []) $ split ! $ split ! $ move ! (1 ∷ []) $ split ! $ lft-end ! tt $ move ! (0 ∷ 6 ∷ []) $ lent-back ! tt $
-        use1 W (‵ (cells (mem′ u32) (scratch ys) l 0)) (part-cells u32 (length (scratch ys)) 𝓤 H A W l (scratch ys)) $ use1 W (‵ (froom (arr u32 192) l 0)) (room-back u32 192 𝓤 H A W l (scratch ys) (scratch-long ys)) $
+        use1 W (‵ (cells (mem′ u32) (scratch ys) l 0)) (part-cells u32 (length (scratch ys)) 𝓤 H A W l (scratch ys)) $ use1 W (‵ (froom (arr u32 maxNumbers) l 0)) (room-back u32 maxNumbers 𝓤 H A W l (scratch ys) (scratch-long ys)) $
         -- [the array's room; the area's and the output's tokens; the layout's token; the result; the output's last list; true]
         move ! (1 ∷ []) $ split ! $ move ! (1 ∷ []) $ split ! $ at-once ! $ show ! (Got u) (r, z .1 .1 .1 .1 .0) $ check ! (e, long) $ keep ! (5 ∷ 6 ∷ 0 ∷ 2 ∷ 4 ∷ 3 ∷ []) $ done !))))
 
@@ -179,12 +179,12 @@ module _ {M : Type 1} (𝓤 : URA M) (H : Heap 𝓤) (A : Atoms 𝓤) (W : Given
         move ! (26 ∷ 27 ∷ []) $ split ! $ move ! (1 ∷ []) $ split ! $ move ! (1 ∷ []) $ split ! $ move ! (1 ∷ []) $ split ! $ move ! (1 ∷ []) $ drop ! $
         move ! (4 ∷ []) $ fsplit ! $ move ! (1 ∷ []) $ fsplit ! $ move ! (1 ∷ []) $ fsplit ! $ move ! (1 ∷ []) $ fsplit ! $ move ! (1 ∷ []) $ drop ! $
         -- [what output, area, slots and layout own; the tokens of output, area, slots and layout; _12; …; _0; …]
-        assigns ! (rep ! 192 (lit ! tt)) (from ! (stop !)) (init ! 22 refl (zeros-fit 𝓤 H A W 192)) $
+        assigns ! (rep ! maxNumbers (lit ! tt)) (from ! (stop !)) (init ! 22 refl (zeros-fit 𝓤 H A W maxNumbers)) $
         assigns ! (addr ! (from ! (stop !))) (from ! (stop !)) (init ! 18 refl (tt, tt)) $
         assigns ! (agg ! (and-then ! (load ! (from ! (stop !)) (look ! 18 refl)) (and-then ! (lit ! tt) (no-more !)))) (from ! (stop !)) (init ! 16 refl (tt, (tt, (record { fits = lit< tt }, tt)))) $
         -- the array is lent by `&mut`
-        move ! (22 ∷ []) $ use1 W (‵ (cells (mem′ u32) (zeros 192) l₅ 0)) (zeros-apart 𝓤 H A W 192 l₅) $ lft-new ! tt (λ ν. move ! (1 ∷ []) $
-        use1 W (later (some (λ (δ : GName). ‵ (Own-zeros 𝓤 H A W mem run κ₁ q₁ x l₅ ν δ (length (zeros 192))) ⊛ ‵ (flent (ν ∷ []) (Held u32 (length (zeros 192)) l₅ 0 δ))))) (lends-slice 𝓤 H A W u32 (named 1) (ν ∷ []) (zeros 192) l₅ 0 (subst (Room u32) (sym zeros-long) room-192)) $ await ! tt $ pick ! (λ δ. split ! $
+        move ! (22 ∷ []) $ use1 W (‵ (cells (mem′ u32) (zeros maxNumbers) l₅ 0)) (zeros-apart 𝓤 H A W maxNumbers l₅) $ lft-new ! tt (λ ν. move ! (1 ∷ []) $
+        use1 W (later (some (λ (δ : GName). ‵ (Own-zeros 𝓤 H A W mem run κ₁ q₁ x l₅ ν δ (length (zeros maxNumbers))) ⊛ ‵ (flent (ν ∷ []) (Held u32 (length (zeros maxNumbers)) l₅ 0 δ))))) (lends-slice 𝓤 H A W u32 (named 1) (ν ∷ []) (zeros maxNumbers) l₅ 0 (subst (Room u32) (sym zeros-long) room-numbers)) $ await ! tt $ pick ! (λ δ. split ! $
         rewrite ! 0 (λ (k : ℕ). ‵ (Own-zeros 𝓤 H A W mem run κ₁ q₁ x l₅ ν δ k)) zeros-long refl $ move ! (9 ∷ 2 ∷ 5 ∷ 0 ∷ []) $ group ! 4 $ use1 W (raw (Load 𝓤 H A mem run .pre (to-load 𝓤 H A W mem run κ₁ q₁ x l₅ ν δ))) (asked-load 𝓤 H A W mem run κ₁ q₁ x l₅ ν δ) $
         -- [what `load` asks; the lender's part; output's; area's; layout's; their tokens; _12; …; that _5 dies; _4; …; _0; …]
         calls-at ! (fmOf 𝓤 H (W .laws) 𝓣) (Load 𝓤 H A mem run) known-load (to-load 𝓤 H A W mem run κ₁ q₁ x l₅ ν δ) (and-then ! (load ! (from ! (stop !)) (look ! 27 refl)) (and-then ! (load ! (from ! (stop !)) (look ! 16 refl)) (no-more !))) (λ u.
@@ -198,11 +198,11 @@ module _ {M : Type 1} (𝓤 : URA M) (H : Heap 𝓤) (A : Atoms 𝓤) (W : Given
         assigns ! (agg ! (and-then ! (load ! (from ! (stop !)) (look ! 10 refl)) (and-then ! (load ! (from ! (fld ! refl (stop !))) (look-in ! 23 (sub ! 1 refl (whole !)))) (no-more !)))) (from ! (stop !)) (init ! 8 refl (tt, (tt, (record { fits = go .0 }, tt)))) $
         -- the array is lent by `&`
         move ! (1 ∷ []) $ use1 W (‵ (arr-parts (shares u32) (length (scratch ys)) .part fullShare (scratch ys) l₅ 0)) (cells-part u32 (length (scratch ys)) 𝓤 H A W l₅ (scratch ys) refl) $ lft-new ! tt (λ μ. move ! (1 ∷ []) $
-        use1 W (later (some (λ (ε : GName). ‵ (See-a l₅ μ ε (length (scratch ys))) ⊛ ‵ (Lent l₅ μ ε)))) (lends-shr-slice 𝓤 H A W u32 (named 1) (μ ∷ []) fullShare (scratch ys) l₅ 0 (subst (Room u32) (sym (scratch-long ys)) room-192)) $ await ! tt $ pick ! (λ ε. split ! $
+        use1 W (later (some (λ (ε : GName). ‵ (See-a l₅ μ ε (length (scratch ys))) ⊛ ‵ (Lent l₅ μ ε)))) (lends-shr-slice 𝓤 H A W u32 (named 1) (μ ∷ []) fullShare (scratch ys) l₅ 0 (subst (Room u32) (sym (scratch-long ys)) room-numbers)) $ await ! tt $ pick ! (λ ε. split ! $
         rewrite ! 0 (λ (k : ℕ). ‵ (See-a l₅ μ ε k)) (scratch-long ys) refl $ move ! (9 ∷ 2 ∷ 8 ∷ 7 ∷ 6 ∷ 0 ∷ 5 ∷ 4 ∷ []) $ group ! 8 $ use1 W (raw (PackFirst 𝓤 H A mem run .pre (to-pack l₅ μ ε))) (asked-pack l₅ μ ε) $
         -- [what `pack_first` asks; the lender's part; slots' token; _12; …; that _5 dies; _4; …; _0; …]
         calls-at ! (fmOf 𝓤 H (W .laws) 𝓣) (PackFirst 𝓤 H A mem run) known-pack (to-pack l₅ μ ε) (and-then ! (load ! (from ! (stop !)) (look ! 24 refl)) (and-then ! (load ! (from ! (stop !)) (look ! 7 refl)) (and-then ! (load ! (from ! (stop !)) (look ! 15 refl)) (and-then ! (load ! (from ! (stop !)) (look ! 20 refl)) (and-then ! (load ! (from ! (stop !)) (look ! 3 refl)) (no-more !)))))) (λ v.
-        use2 W (later (some (λ (p : Answer × List ℕ). given (Fine p) (‵ (Ans .own (p .0) (v ∷ [])) ⊛ (‵ (finally u8 (o .name) (p .1)) ⊛ (‵ (flft κ₃ q₃) ⊛ (‵ (flft κ₂ q₂) ⊛ (‵ (flft κ₀ q₀) ⊛ ‵ (froom (arr u32 192) l₅ 0))))))))) (back-pack l₅ μ ε v) $ await ! tt $ pick ! (λ p. learn ! (λ f. split ! $
+        use2 W (later (some (λ (p : Answer × List ℕ). given (Fine p) (‵ (Ans .own (p .0) (v ∷ [])) ⊛ (‵ (finally u8 (o .name) (p .1)) ⊛ (‵ (flft κ₃ q₃) ⊛ (‵ (flft κ₂ q₂) ⊛ (‵ (flft κ₀ q₀) ⊛ ‵ (froom (arr u32 maxNumbers) l₅ 0))))))))) (back-pack l₅ μ ε v) $ await ! tt $ pick ! (λ p. learn ! (λ f. split ! $
         peeks ! Ans (Is Ans) (shows 𝓤 H A Ans) (p .0) (v ∷ []) (λ is. land ! (from ! (stop !)) (init ! 26 refl (LL.lawful TA.the-type TA′.the-laws 𝓤 H A W .typed (p .0) _ is .0)) $
         move ! (1 ∷ []) $ split ! $ move ! (1 ∷ []) $ split ! $ move ! (1 ∷ []) $ split ! $ move ! (1 ∷ []) $ split ! $ move ! (1 ∷ 5 ∷ 4 ∷ 3 ∷ 2 ∷ 6 ∷ 0 ∷ []) $
         -- [the array's room; the answer; the output's last list; the tokens of output, area, slots and layout; _12; …; that _5 dies; _4; …; _0; …]

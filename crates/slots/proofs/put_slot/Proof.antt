@@ -4,14 +4,15 @@ use native.Mathlib.Omega.{arith}
 use mathlib.Core.List.{List}
 use lib.ListN.{length, set}
 use borrow.Author.Needs.{below-set, needs}
+use Rattle.record.specs.Table.{slotWidth}
 use Rattle.slots.proofs.Runs.{length-put}
 use Rattle.slots.proofs.put_slot.Statement.{statement}
 use Rattle.slots.proofs.put_slot.Tie as tie
 
-second : (ns : List ℕ) (k a : ℕ) → k + 3 ≤ length ns → k + 1 < length (set ns k a)
+second : (ns : List ℕ) (k a : ℕ) → k + slotWidth ≤ length ns → k + 1 < length (set ns k a)
 second ns k a l = below-set ℕ ns (k + 1) k a (omega arith)
 
-third : (ns : List ℕ) (k a b : ℕ) → k + 3 ≤ length ns → k + 2 < length (set (set ns k a) (k + 1) b)
+third : (ns : List ℕ) (k a b : ℕ) → k + slotWidth ≤ length ns → k + 2 < length (set (set ns k a) (k + 1) b)
 third ns k a b l = below-set ℕ (set ns k a) (k + 2) (k + 1) b (below-set ℕ ns (k + 2) k a (omega arith))
 
 mul-numbers : tie.Need-mul-numbers

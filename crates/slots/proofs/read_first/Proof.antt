@@ -4,6 +4,7 @@ use Prim.Native.Nat.{_*_}
 use lib.ListN.{length, take}
 use Rattle.slots.proofs.Calls.{first-part, read-few, read-many, read-front}
 use borrow.Author.Needs.{needs}
+use Rattle.record.specs.Table.{slotWidth}
 use Rattle.slots.proofs.read_first.Statement.{statement}
 use Rattle.slots.proofs.read_first.Tie as tie
 
@@ -31,7 +32,7 @@ same-length c = search needs
 same-length-2 : tie.Need-same-length-2
 same-length-2 c = search needs
 
-part-back : (c : tie.After-slice-known4) → length (c .before .before .before .before .read .last .1 .1 .0) ≡ length (take (c .before .before .before .before .before .before .before .before .before .before .before .before .args .count * 3) (c .before .before .before .before .before .before .before .before .before .before .before .before .args .numbers .now))
+part-back : (c : tie.After-slice-known4) → length (c .before .before .before .before .read .last .1 .1 .0) ≡ length (take (c .before .before .before .before .before .before .before .before .before .before .before .before .args .count * slotWidth) (c .before .before .before .before .before .before .before .before .before .before .before .before .args .numbers .now))
 part-back c = search needs
 
 returns-2 : tie.Need-returns-2

@@ -45,7 +45,7 @@ use denote.Triple.Walked.{says, Stays, stay-dropped, gave-slice, walkOf, goes-dr
 use denote.Exit.{yes}
 use Rattle.record.specs.declared.Answer.{Answer}
 use Rattle.slots.specs.declared.Slot.{Slot}
-use Rattle.slots.specs.Slots.{slotsFrom, taken, readFirst}
+use Rattle.slots.specs.Slots.{maxNumbers, slotsFrom, taken, readFirst}
 use Rattle.slots.proofs.Calls.{taken-within, read-loaded}
 use Rattle.slots.proofs.Turns.{numbers-fit}
 use Rattle.slots.proofs.Arrays.{arr, cells-part, part-cells, room-back}
@@ -54,8 +54,9 @@ use Rattle.slots.proofs.Slot as T
 use Rattle.record.proofs.Answer as TA
 use Rattle.record.proofs.Answer.Laws as TA′
 use Rattle.record.specs.Reading.{Read}
+use Rattle.record.specs.Table.{slotWidth}
 use Rattle.slots.proofs.Shared.{LentShared, lends-shared, comes-back-shared}
-use Rattle.slots.proofs.Loads.{Load, zeros-long, room-192, scratch, scratch-long, Own-zeros, to-load, asked-load, back-load}
+use Rattle.slots.proofs.Loads.{Load, zeros-long, room-numbers, scratch, scratch-long, Own-zeros, to-load, asked-load, back-load}
 use Rattle.slots.proofs.load.Symbol as ld-def
 use Rattle.slots.proofs.load.Symbol.{name as #slots·load}
 use Rattle.slots.proofs.load.Met as ld-thm
@@ -148,12 +149,12 @@ module _ {M : Type 1} (𝓤 : URA M) (H : Heap 𝓤) (A : Atoms 𝓤) (W : Given
   Left = Answer × List ℕ × List ℕ
 
   abbrev Fine : Left → Type 0
-  Fine p = (_≡_ {A = Read} (record { answer = p .0; slots = take (n * 3) (p .1); area = p .2 }) (readFirst (t .now) (y .now) (scratch ys) n (a .now) k)) × (length (p .1) ≡ length (scratch ys)) × (length (p .2) ≡ length (a .now))
+  Fine p = (_≡_ {A = Read} (record { answer = p .0; slots = take (n * slotWidth) (p .1); area = p .2 }) (readFirst (t .now) (y .now) (scratch ys) n (a .now) k)) × (length (p .1) ≡ length (scratch ys)) × (length (p .2) ≡ length (a .now))
 
   abbrev Saved : List ℕ → List Slot → Type 0
-  Saved ws zs = (zs ≡ slotsFrom (take (c * 3) ws) ++ rest c ys) × (length zs ≡ n)
+  Saved ws zs = (zs ≡ slotsFrom (take (c * slotWidth) ws) ++ rest c ys) × (length zs ≡ n)
 
-  numbers-long : (p : Left) → Fine p → length (p .1) ≡ 192
+  numbers-long : (p : Left) → Fine p → length (p .1) ≡ maxNumbers
   numbers-long p f = f .1 ∙ scratch-long ys
 
   exits : (p : Left) (zs : List Slot) (v : Val) → Fine p → Saved (p .1) zs
@@ -161,7 +162,7 @@ module _ {M : Type 1} (𝓤 : URA M) (H : Heap 𝓤) (A : Atoms 𝓤) (W : Given
   exits p zs v f s =
       qed W (‵ (Ans .own (p .0) (v ∷ [])) ∷ ‵ (finally R γ zs) ∷ ‵ (finally u8 (a .name) (p .2)) ∷ ‵ (flft κ₃ q₃) ∷ ‵ (flft κ₂ q₂) ∷ ‵ (flft κ₁ q₁) ∷ ‵ (flft κ₀ q₀) ∷ []) ∵
       suffices ! _ (ends-at 𝓤 H A rs.ended stayed (rs.clauses 𝓤 H A mem run) W bound v (p .0) (tt, (tt, (zs, (p .2, (tt, tt))))) (tt, (tt, (s .1, (f .2, (tt, tt)))))) $
-      says ! (read-loaded (t .now) (y .now) (zeros 192) (p .1) (a .now) (p .2) ys zs k (p .0) (f .0) (s .0)) $
+      says ! (read-loaded (t .now) (y .now) (zeros maxNumbers) (p .1) (a .now) (p .2) ys zs k (p .0) (f .0) (s .0)) $
       nothing ! $ move ! (4 ∷ 0 ∷ []) $ join ! $ move ! (4 ∷ 0 ∷ []) $ join ! $ move ! (4 ∷ 0 ∷ []) $ join ! $ move ! (4 ∷ 0 ∷ []) $ join ! $ frame ! $
       nothing ! $ nothing ! $ fjoin ! $ move ! (3 ∷ 0 ∷ []) $ fjoin ! $ move ! (2 ∷ 0 ∷ []) $ fjoin ! $ nothing ! $ fjoin ! $ nothing ! $ fjoin ! $ frame ! $ done !
 
@@ -180,11 +181,11 @@ module _ {M : Type 1} (𝓤 : URA M) (H : Heap 𝓤) (A : Atoms 𝓤) (W : Given
     args = (t, (y, (xa l ε (scratch ys), (n, (a, (k, tt))))))
 
     abbrev to-read : ReadFirst 𝓤 H A mem run .Ghost
-    to-read = ((κs, (q₀, (q₁, (fullShare, (q₃, tt)))), tt, args, (vt ∷ [], (vy ∷ [], (sliceVal (l, 0) 192 ∷ [], (vint w64 n ∷ [], (va ∷ [], (vint w64 k ∷ [], tt))))))), tt)
+    to-read = ((κs, (q₀, (q₁, (fullShare, (q₃, tt)))), tt, args, (vt ∷ [], (vy ∷ [], (sliceVal (l, 0) maxNumbers ∷ [], (vint w64 n ∷ [], (va ∷ [], (vint w64 k ∷ [], tt))))))), tt)
 
-    asked-read : ent 𝓤 (⋆ 𝓤 H A (‵ (flft κ₀ q₀) ∷ ‵ (flft κ₁ q₁) ∷ ‵ (flft (μ ∷ []) fullShare) ∷ ‵ (flft κ₃ q₃) ∷ ‵ Own-t ∷ ‵ Own-y ∷ ‵ (Own-n 192) ∷ ‵ Own-a ∷ [])) (ReadFirst 𝓤 H A mem run .pre to-read)
+    asked-read : ent 𝓤 (⋆ 𝓤 H A (‵ (flft κ₀ q₀) ∷ ‵ (flft κ₁ q₁) ∷ ‵ (flft (μ ∷ []) fullShare) ∷ ‵ (flft κ₃ q₃) ∷ ‵ Own-t ∷ ‵ Own-y ∷ ‵ (Own-n maxNumbers) ∷ ‵ Own-a ∷ [])) (ReadFirst 𝓤 H A mem run .pre to-read)
     asked-read =
-        qed W (‵ (flft κ₀ q₀) ∷ ‵ (flft κ₁ q₁) ∷ ‵ (flft (μ ∷ []) fullShare) ∷ ‵ (flft κ₃ q₃) ∷ ‵ Own-t ∷ ‵ Own-y ∷ ‵ (Own-n 192) ∷ ‵ Own-a ∷ []) ∵ says ! (subst (λ (m : ℕ). 192 ≤ m) (sym (scratch-long ys)) (lit≤ tt)) $
+        qed W (‵ (flft κ₀ q₀) ∷ ‵ (flft κ₁ q₁) ∷ ‵ (flft (μ ∷ []) fullShare) ∷ ‵ (flft κ₃ q₃) ∷ ‵ Own-t ∷ ‵ Own-y ∷ ‵ (Own-n maxNumbers) ∷ ‵ Own-a ∷ []) ∵ says ! (subst (λ (m : ℕ). maxNumbers ≤ m) (sym (scratch-long ys)) (lit≤ tt)) $
         nothing ! $ move ! (4 ∷ 0 ∷ []) $ join ! $ move ! (3 ∷ 0 ∷ []) $ join ! $ move ! (2 ∷ 0 ∷ []) $ join ! $ move ! (1 ∷ 0 ∷ []) $ join ! $ frame ! $
         nothing ! $ owned ! usize (Is usize) (uint-makes 𝓤 H A W w64) k _ (refl, gk) $ fjoin ! $ move ! (4 ∷ 0 ∷ []) $ fjoin ! $ owned ! usize (Is usize) (uint-makes 𝓤 H A W w64) n _ (refl, gn .0) $ fjoin ! $
         move ! (3 ∷ 0 ∷ []) $ fjoin ! $ move ! (2 ∷ 0 ∷ []) $ fjoin ! $ move ! (1 ∷ 0 ∷ []) $ fjoin ! $ done !
@@ -202,8 +203,8 @@ module _ {M : Type 1} (𝓤 : URA M) (H : Heap 𝓤) (A : Atoms 𝓤) (W : Given
     back-read u =
         qed W (raw (ReadFirst 𝓤 H A mem run .post to-read u) ∷ ‵ Lent-n ∷ []) ∵ updating ! $
         use1 W (later (some (λ (r : Answer). ((‵ (flft κ₀ q₀) ⊛ (‵ (flft κ₁ q₁) ⊛ (‵ (flft (μ ∷ []) fullShare) ⊛ (‵ (flft κ₃ q₃) ⊛ ‵ ftrue)))) ⊛ ‵ (Ans .own r (u ∷ []))) ⊛ raw (ensured 𝓤 H A rf.ended (rf.clauses 𝓤 H A mem run) κs args tt r)))) (id⊢ 𝓤 _) $ await ! tt $ pick ! (λ r.
-        split ! $ move ! (1 ∷ []) $ use1 W (some (λ (z : Last). ‵ (lasts rf.ended κs args z) ⊛ raw (fact 𝓤 (_≡_ {A = Read} (record { answer = r; slots = take (n * 3) (z .1 .1 .0); area = z .1 .1 .1 .1 .0 }) (readFirst (t .now) (y .now) (scratch ys) n (a .now) k))))) (id⊢ 𝓤 _) $ pick ! (λ z.
-        split ! $ move ! (1 ∷ []) $ heard ! (_≡_ {A = Read} (record { answer = r; slots = take (n * 3) (z .1 .1 .0); area = z .1 .1 .1 .1 .0 }) (readFirst (t .now) (y .now) (scratch ys) n (a .now) k)) (λ e.
+        split ! $ move ! (1 ∷ []) $ use1 W (some (λ (z : Last). ‵ (lasts rf.ended κs args z) ⊛ raw (fact 𝓤 (_≡_ {A = Read} (record { answer = r; slots = take (n * slotWidth) (z .1 .1 .0); area = z .1 .1 .1 .1 .0 }) (readFirst (t .now) (y .now) (scratch ys) n (a .now) k))))) (id⊢ 𝓤 _) $ pick ! (λ z.
+        split ! $ move ! (1 ∷ []) $ heard ! (_≡_ {A = Read} (record { answer = r; slots = take (n * slotWidth) (z .1 .1 .0); area = z .1 .1 .1 .1 .0 }) (readFirst (t .now) (y .now) (scratch ys) n (a .now) k)) (λ e.
         fsplit ! $ drop ! $ fsplit ! $ drop ! $ fsplit ! $ fsplit ! $ move ! (1 ∷ []) $ feqL ! (λ as-many. move ! (1 ∷ []) $ fsplit ! $ drop ! $ fsplit ! $ fsplit ! $ move ! (1 ∷ []) $ feqL ! (λ long.
         -- [the area's last list; true; the numbers' last list; the tokens and the result; the lender's part]
         move ! (3 ∷ []) $ split ! $ split ! $ move ! (1 ∷ []) $ split ! $ move ! (1 ∷ []) $ split ! $ lft-end ! tt $ move ! (0 ∷ 8 ∷ 7 ∷ []) $
@@ -212,7 +213,7 @@ module _ {M : Type 1} (𝓤 : URA M) (H : Heap 𝓤) (A : Atoms 𝓤) (W : Given
         move ! (1 ∷ []) $ split ! $ at-once ! $ show ! (Got-read u) (left r z) $ check ! (e, as-many, long) $ keep ! (5 ∷ 6 ∷ 0 ∷ 3 ∷ 4 ∷ 2 ∷ []) $ done !)))))
 
   -- ---- `save`: the array is lent by `&`
-  module _ (l ρ : ℕ) (ε : GName) (ws : List ℕ) (long : length ws ≡ 192) where
+  module _ (l ρ : ℕ) (ε : GName) (ws : List ℕ) (long : length ws ≡ maxNumbers) where
     abbrev See-n : ℕ → Fml
     See-n m = ShrSlice (named 1) (ρ ∷ []) u32 .own (xa l ε ws) (sliceVal (l, 0) m ∷ [])
 
@@ -220,26 +221,26 @@ module _ {M : Type 1} (𝓤 : URA M) (H : Heap 𝓤) (A : Atoms 𝓤) (W : Given
     Lent-w = flent (ρ ∷ []) (arr-parts (shares u32) (length ws) .part fullShare ws l 0)
 
     abbrev to-save : Save 𝓤 H A mem run .Ghost
-    to-save = (((κ₂, (ρ ∷ [], tt)), (q₂, (fullShare, tt)), tt, (xs γ, (xa l ε ws, (c, tt))), (vs ∷ [], (sliceVal (l, 0) 192 ∷ [], (vint w64 c ∷ [], tt)))), tt)
+    to-save = (((κ₂, (ρ ∷ [], tt)), (q₂, (fullShare, tt)), tt, (xs γ, (xa l ε ws, (c, tt))), (vs ∷ [], (sliceVal (l, 0) maxNumbers ∷ [], (vint w64 c ∷ [], tt)))), tt)
 
-    asked-save : ent 𝓤 (⋆ 𝓤 H A (‵ (flft κ₂ q₂) ∷ ‵ (flft (ρ ∷ []) fullShare) ∷ ‵ Own-s ∷ ‵ (See-n 192) ∷ [])) (Save 𝓤 H A mem run .pre to-save)
+    asked-save : ent 𝓤 (⋆ 𝓤 H A (‵ (flft κ₂ q₂) ∷ ‵ (flft (ρ ∷ []) fullShare) ∷ ‵ Own-s ∷ ‵ (See-n maxNumbers) ∷ [])) (Save 𝓤 H A mem run .pre to-save)
     asked-save =
-        qed W (‵ (flft κ₂ q₂) ∷ ‵ (flft (ρ ∷ []) fullShare) ∷ ‵ Own-s ∷ ‵ (See-n 192) ∷ []) ∵ says ! (taken-within n .0, subst (λ (m : ℕ). c * 3 ≤ m) (sym long) (numbers-fit c 192 (taken-within n .1) (lit≤ tt))) $
+        qed W (‵ (flft κ₂ q₂) ∷ ‵ (flft (ρ ∷ []) fullShare) ∷ ‵ Own-s ∷ ‵ (See-n maxNumbers) ∷ []) ∵ says ! (taken-within n .0, subst (λ (m : ℕ). c * slotWidth ≤ m) (sym long) (numbers-fit c maxNumbers (taken-within n .1) (lit≤ tt))) $
         nothing ! $ move ! (2 ∷ 0 ∷ []) $ join ! $ move ! (1 ∷ 0 ∷ []) $ join ! $ frame ! $
         nothing ! $ owned ! usize (Is usize) (uint-makes 𝓤 H A W w64) c _ (refl, lt-of-le-of-lt (taken-within n .0) (gn .0)) $ fjoin ! $ move ! (2 ∷ 0 ∷ []) $ fjoin ! $ move ! (1 ∷ 0 ∷ []) $ fjoin ! $ done !
 
     abbrev Got-save : Val → List Slot → SProp 𝓤
-    Got-save u zs = guard 𝓤 ((u ≡ vunit) × Saved ws zs) (⋆ 𝓤 H A (‵ (finally R γ zs) ∷ ‵ (flft κ₂ q₂) ∷ ‵ (froom (arr u32 192) l 0) ∷ []))
+    Got-save u zs = guard 𝓤 ((u ≡ vunit) × Saved ws zs) (⋆ 𝓤 H A (‵ (finally R γ zs) ∷ ‵ (flft κ₂ q₂) ∷ ‵ (froom (arr u32 maxNumbers) l 0) ∷ []))
 
     back-save : (u : Val) → ent 𝓤 (sep 𝓤 (Save 𝓤 H A mem run .post to-save u) (sem 𝓤 H A Lent-w)) (H .⇛ (ex 𝓤 (Got-save u)))
     back-save u =
         qed W (raw (Save 𝓤 H A mem run .post to-save u) ∷ ‵ Lent-w ∷ []) ∵ updating ! $
         use1 W (later (some (λ (r : Unit {0}). ((‵ (flft κ₂ q₂) ⊛ (‵ (flft (ρ ∷ []) fullShare) ⊛ ‵ ftrue)) ⊛ ‵ (unit .own r (u ∷ []))) ⊛ raw (ensured 𝓤 H A sv.ended (sv.clauses 𝓤 H A mem run) (κ₂, (ρ ∷ [], tt)) (xs γ, (xa l ε ws, (c, tt))) tt r)))) (id⊢ 𝓤 _) $ await ! tt $ pick ! (λ r.
-        split ! $ move ! (1 ∷ []) $ use1 W (some (λ (z : List Slot × (Unit {0} × (Unit {0} × Unit {0}))). ‵ (lasts sv.ended (κ₂, (ρ ∷ [], tt)) (xs γ, (xa l ε ws, (c, tt))) z) ⊛ raw (fact 𝓤 (z .0 ≡ slotsFrom (take (c * 3) ws) ++ rest c ys)))) (id⊢ 𝓤 _) $ pick ! (λ z.
-        split ! $ move ! (1 ∷ []) $ heard ! (z .0 ≡ slotsFrom (take (c * 3) ws) ++ rest c ys) (λ e. fsplit ! $ fsplit ! $ move ! (1 ∷ []) $ feqL ! (λ as-many.
+        split ! $ move ! (1 ∷ []) $ use1 W (some (λ (z : List Slot × (Unit {0} × (Unit {0} × Unit {0}))). ‵ (lasts sv.ended (κ₂, (ρ ∷ [], tt)) (xs γ, (xa l ε ws, (c, tt))) z) ⊛ raw (fact 𝓤 (z .0 ≡ slotsFrom (take (c * slotWidth) ws) ++ rest c ys)))) (id⊢ 𝓤 _) $ pick ! (λ z.
+        split ! $ move ! (1 ∷ []) $ heard ! (z .0 ≡ slotsFrom (take (c * slotWidth) ws) ++ rest c ys) (λ e. fsplit ! $ fsplit ! $ move ! (1 ∷ []) $ feqL ! (λ as-many.
         -- [the slots' last list; true; the tokens and the result; the lender's part]
         move ! (2 ∷ []) $ split ! $ move ! (1 ∷ []) $ feqL ! (λ is-unit. split ! $ move ! (1 ∷ []) $ split ! $ lft-end ! tt $ move ! (0 ∷ 5 ∷ []) $ lent-back ! tt $
-        use1 W (‵ (cells (mem′ u32) ws l 0)) (part-cells u32 (length ws) 𝓤 H A W l ws) $ use1 W (‵ (froom (arr u32 192) l 0)) (room-back u32 192 𝓤 H A W l ws long) $
+        use1 W (‵ (cells (mem′ u32) ws l 0)) (part-cells u32 (length ws) 𝓤 H A W l ws) $ use1 W (‵ (froom (arr u32 maxNumbers) l 0)) (room-back u32 maxNumbers 𝓤 H A W l ws long) $
         -- [the array's room; true; the slots' token; their last list; true]
         at-once ! $ show ! (Got-save u) (z .0) $ check ! (ap only is-unit, (e, as-many)) $ keep ! (3 ∷ 2 ∷ 0 ∷ []) $ done !)))))
 
@@ -253,14 +254,14 @@ module _ {M : Type 1} (𝓤 : URA M) (H : Heap 𝓤) (A : Atoms 𝓤) (W : Given
         move ! (46 ∷ 47 ∷ []) $ split ! $ move ! (1 ∷ []) $ split ! $ move ! (1 ∷ []) $ split ! $ move ! (1 ∷ []) $ split ! $ move ! (1 ∷ []) $ drop ! $
         move ! (4 ∷ []) $ fsplit ! $ move ! (1 ∷ []) $ fsplit ! $ move ! (1 ∷ []) $ fsplit ! $ move ! (1 ∷ []) $ fsplit ! $ move ! (1 ∷ []) $ drop ! $
         -- [what area, slots, record and layout own; the tokens of area, slots, record and layout; _22; …; _0; …]
-        assigns ! (rep ! 192 (lit ! tt)) (from ! (stop !)) (init ! 40 refl (zeros-fit 𝓤 H A W 192)) $
+        assigns ! (rep ! maxNumbers (lit ! tt)) (from ! (stop !)) (init ! 40 refl (zeros-fit 𝓤 H A W maxNumbers)) $
         assigns ! (addr ! (from ! (fld ! refl (hop ! (look-in ! 46 (sub ! 0 refl (whole !))) (stop !))))) (from ! (stop !)) (init ! 34 refl (tt, tt)) $
         assigns ! (agg ! (and-then ! (load ! (from ! (stop !)) (look ! 34 refl)) (and-then ! (load ! (from ! (fld ! refl (stop !))) (look-in ! 46 (sub ! 1 refl (whole !)))) (no-more !)))) (from ! (stop !)) (init ! 32 refl (tt, (tt, (record { fits = gn .0 }, tt)))) $
         assigns ! (addr ! (from ! (stop !))) (from ! (stop !)) (init ! 30 refl (tt, tt)) $
         assigns ! (agg ! (and-then ! (load ! (from ! (stop !)) (look ! 30 refl)) (and-then ! (lit ! tt) (no-more !)))) (from ! (stop !)) (init ! 28 refl (tt, (tt, (record { fits = lit< tt }, tt)))) $
         -- the array is lent by `&mut`, and the slots by `&`
-        move ! (40 ∷ []) $ use1 W (‵ (cells (mem′ u32) (zeros 192) l₆ 0)) (zeros-apart 𝓤 H A W 192 l₆) $ lft-new ! tt (λ ν. move ! (1 ∷ []) $
-        use1 W (later (some (λ (δ : GName). ‵ (Own-zeros 𝓤 H A W mem run κ₂ q₂ (xs γ) l₆ ν δ (length (zeros 192))) ⊛ ‵ (flent (ν ∷ []) (Held u32 (length (zeros 192)) l₆ 0 δ))))) (lends-slice 𝓤 H A W u32 (named 1) (ν ∷ []) (zeros 192) l₆ 0 (subst (Room u32) (sym zeros-long) room-192)) $ await ! tt $ pick ! (λ δ. split ! $
+        move ! (40 ∷ []) $ use1 W (‵ (cells (mem′ u32) (zeros maxNumbers) l₆ 0)) (zeros-apart 𝓤 H A W maxNumbers l₆) $ lft-new ! tt (λ ν. move ! (1 ∷ []) $
+        use1 W (later (some (λ (δ : GName). ‵ (Own-zeros 𝓤 H A W mem run κ₂ q₂ (xs γ) l₆ ν δ (length (zeros maxNumbers))) ⊛ ‵ (flent (ν ∷ []) (Held u32 (length (zeros maxNumbers)) l₆ 0 δ))))) (lends-slice 𝓤 H A W u32 (named 1) (ν ∷ []) (zeros maxNumbers) l₆ 0 (subst (Room u32) (sym zeros-long) room-numbers)) $ await ! tt $ pick ! (λ δ. split ! $
         rewrite ! 0 (λ (m : ℕ). ‵ (Own-zeros 𝓤 H A W mem run κ₂ q₂ (xs γ) l₆ ν δ m)) zeros-long refl $ lft-new ! tt (λ η. move ! (5 ∷ 9 ∷ []) $
         use2 W (later (some (λ (δ′ : GName). ‵ (ShrSlice (named 0) (η ∷ []) R .own (xs δ′) (vs ∷ [])) ⊛ ‵ (LentShared R κ₂ (η ∷ []) q₂ γ b o ys)))) (lends-shared R κ₂ (η ∷ []) q₂ γ b o 𝓤 H A W (named 2) (named 0) ys) $ await ! tt $ pick ! (λ δ′. split ! $
         move ! (2 ∷ 5 ∷ 0 ∷ 3 ∷ []) $ group ! 4 $ use1 W (raw (Load 𝓤 H A mem run .pre (to-load 𝓤 H A W mem run (η ∷ []) fullShare (xs δ′) l₆ ν δ))) (asked-load 𝓤 H A W mem run (η ∷ []) fullShare (xs δ′) l₆ ν δ) $
@@ -277,7 +278,7 @@ module _ {M : Type 1} (𝓤 : URA M) (H : Heap 𝓤) (A : Atoms 𝓤) (W : Given
         assigns ! (addr ! (from ! (fld ! refl (hop ! (look-in ! 44 (sub ! 0 refl (whole !))) (stop !))))) (from ! (stop !)) (init ! 21 refl (tt, tt)) $
         assigns ! (agg ! (and-then ! (load ! (from ! (stop !)) (look ! 21 refl)) (and-then ! (load ! (from ! (fld ! refl (stop !))) (look-in ! 44 (sub ! 1 refl (whole !)))) (no-more !)))) (from ! (stop !)) (init ! 19 refl (tt, (tt, (record { fits = ga .0 }, tt)))) $
         move ! (2 ∷ []) $ lft-new ! tt (λ μ. move ! (1 ∷ []) $
-        use1 W (later (some (λ (ε : GName). ‵ (Own-n l₆ μ ε (length (scratch ys))) ⊛ ‵ (Lent-n l₆ μ ε)))) (lends-slice 𝓤 H A W u32 (named 2) (μ ∷ []) (scratch ys) l₆ 0 (subst (Room u32) (sym (scratch-long ys)) room-192)) $ await ! tt $ pick ! (λ ε. split ! $
+        use1 W (later (some (λ (ε : GName). ‵ (Own-n l₆ μ ε (length (scratch ys))) ⊛ ‵ (Lent-n l₆ μ ε)))) (lends-slice 𝓤 H A W u32 (named 2) (μ ∷ []) (scratch ys) l₆ 0 (subst (Room u32) (sym (scratch-long ys)) room-numbers)) $ await ! tt $ pick ! (λ ε. split ! $
         rewrite ! 0 (λ (m : ℕ). ‵ (Own-n l₆ μ ε m)) (scratch-long ys) refl $ move ! (10 ∷ 9 ∷ 2 ∷ 8 ∷ 7 ∷ 6 ∷ 0 ∷ 5 ∷ []) $ group ! 8 $ use1 W (raw (ReadFirst 𝓤 H A mem run .pre (to-read l₆ μ ε))) (asked-read l₆ μ ε) $
         -- [what `read_first` asks; the lender's part; slots'; their token; _22; …; that _6 dies; _5; …; _0; …]
         calls-at ! (fmOf 𝓤 H (W .laws) 𝓣) (ReadFirst 𝓤 H A mem run) known-read (to-read l₆ μ ε) (and-then ! (load ! (from ! (stop !)) (look ! 45 refl)) (and-then ! (load ! (from ! (stop !)) (look ! 43 refl)) (and-then ! (load ! (from ! (stop !)) (look ! 20 refl)) (and-then ! (load ! (from ! (stop !)) (look ! 18 refl)) (and-then ! (load ! (from ! (stop !)) (look ! 14 refl)) (and-then ! (load ! (from ! (stop !)) (look ! 37 refl)) (no-more !))))))) (λ v.
@@ -290,11 +291,11 @@ module _ {M : Type 1} (𝓤 : URA M) (H : Heap 𝓤) (A : Atoms 𝓤) (W : Given
         assigns ! (addr ! (from ! (stop !))) (from ! (stop !)) (init ! 10 refl (tt, tt)) $
         assigns ! (agg ! (and-then ! (load ! (from ! (stop !)) (look ! 10 refl)) (and-then ! (lit ! tt) (no-more !)))) (from ! (stop !)) (init ! 8 refl (tt, (tt, (record { fits = lit< tt }, tt)))) $
         move ! (1 ∷ []) $ use1 W (‵ (arr-parts (shares u32) (length (p .1)) .part fullShare (p .1) l₆ 0)) (cells-part u32 (length (p .1)) 𝓤 H A W l₆ (p .1) refl) $ lft-new ! tt (λ ρ. move ! (1 ∷ []) $
-        use1 W (later (some (λ (ε′ : GName). ‵ (See-n l₆ ρ ε′ (p .1) (numbers-long p f) (length (p .1))) ⊛ ‵ (Lent-w l₆ ρ ε′ (p .1) (numbers-long p f))))) (lends-shr-slice 𝓤 H A W u32 (named 1) (ρ ∷ []) fullShare (p .1) l₆ 0 (subst (Room u32) (sym (numbers-long p f)) room-192)) $ await ! tt $ pick ! (λ ε′. split ! $
+        use1 W (later (some (λ (ε′ : GName). ‵ (See-n l₆ ρ ε′ (p .1) (numbers-long p f) (length (p .1))) ⊛ ‵ (Lent-w l₆ ρ ε′ (p .1) (numbers-long p f))))) (lends-shr-slice 𝓤 H A W u32 (named 1) (ρ ∷ []) fullShare (p .1) l₆ 0 (subst (Room u32) (sym (numbers-long p f)) room-numbers)) $ await ! tt $ pick ! (λ ε′. split ! $
         rewrite ! 0 (λ (m : ℕ). ‵ (See-n l₆ ρ ε′ (p .1) (numbers-long p f) m)) (numbers-long p f) refl $ move ! (9 ∷ 2 ∷ 8 ∷ 0 ∷ []) $ group ! 4 $ use1 W (raw (Save 𝓤 H A mem run .pre (to-save l₆ ρ ε′ (p .1) (numbers-long p f)))) (asked-save l₆ ρ ε′ (p .1) (numbers-long p f)) $
         -- [what `save` asks; the lender's part; layout's, record's and area's tokens; the area's last list; the answer; _22; …; that _6 dies; _5; …; _0; …]
         calls-at ! (fmOf 𝓤 H (W .laws) 𝓣) (Save 𝓤 H A mem run) known-save (to-save l₆ ρ ε′ (p .1) (numbers-long p f)) (and-then ! (load ! (from ! (stop !)) (look ! 11 refl)) (and-then ! (load ! (from ! (stop !)) (look ! 7 refl)) (and-then ! (load ! (from ! (stop !)) (look ! 37 refl)) (no-more !)))) (λ w.
-        use2 W (later (some (λ (zs : List Slot). given ((w ≡ vunit) × Saved (p .1) zs) (‵ (finally R γ zs) ⊛ (‵ (flft κ₂ q₂) ⊛ ‵ (froom (arr u32 192) l₆ 0)))))) (back-save l₆ ρ ε′ (p .1) (numbers-long p f) w) $ await ! tt $ pick ! (λ zs. learn ! (λ s.
+        use2 W (later (some (λ (zs : List Slot). given ((w ≡ vunit) × Saved (p .1) zs) (‵ (finally R γ zs) ⊛ (‵ (flft κ₂ q₂) ⊛ ‵ (froom (arr u32 maxNumbers) l₆ 0)))))) (back-save l₆ ρ ε′ (p .1) (numbers-long p f) w) $ await ! tt $ pick ! (λ zs. learn ! (λ s.
         land ! (from ! (stop !)) (init ! 14 refl (unit-fits w (s .0))) $ split ! $ move ! (1 ∷ []) $ split ! $
         assigns ! (of-opd ! (load ! (from ! (stop !)) (look ! 36 refl))) (from ! (stop !)) (init ! 51 refl (LL.lawful TA.the-type TA′.the-laws 𝓤 H A W .typed (p .0) _ is .0)) $
         move ! (1 ∷ 7 ∷ 2 ∷ 6 ∷ 5 ∷ 0 ∷ 4 ∷ 3 ∷ []) $

@@ -44,6 +44,7 @@ use denote.Triple.Spec.{Meets, tripleOf}
 use denote.Triple.Table.{entered, cited}
 use denote.Triple.Walked.{says, needs, Stays, gave-slice, stay-dropped, walkOf, goes-gave-slice, goes-dropped, Walks, ends-at, walked, walk-meets}
 use denote.Exit.{yes}
+use Rattle.record.specs.Table.{slotWidth}
 use Rattle.slots.specs.declared.Slot.{Slot}
 use Rattle.slots.specs.Slots.{slotFrom}
 use Rattle.slots.proofs.Runs.{noSlot, saved, length-saved, saved-is}
@@ -80,7 +81,7 @@ abbrev SlotAt : {M : Type 1} (𝓤 : URA M) (H : Heap 𝓤) (A : Atoms 𝓤) (me
 SlotAt 𝓤 H A mem run = tripleOf 𝓤 H A slot-from.signature (slot-from.spec 𝓤 H A mem run)
 
 module _ {M : Type 1} (𝓤 : URA M) (H : Heap 𝓤) (A : Atoms 𝓤) (W : Given 𝓤 H A) (mem : Memory → SProp 𝓤) (run : Routine → Fun 𝓤) (κ κ₁ : Lft) (q q₁ : Share) (b o : ℕ) (γ : GName) (ys : List Slot) (x₁ : RefT (List ℕ)) (c : ℕ)
-    (gn : Room R (length ys)) (gm : Room u32 (length (x₁ .now))) (gc : c < 2 ^ 64) (most : c ≤ length ys) (enough : c * 3 ≤ length (x₁ .now)) where
+    (gn : Room R (length ys)) (gm : Room u32 (length (x₁ .now))) (gc : c < 2 ^ 64) (most : c ≤ length ys) (enough : c * slotWidth ≤ length (x₁ .now)) where
   abbrev n : ℕ
   n = length ys
 
@@ -116,7 +117,7 @@ module _ {M : Type 1} (𝓤 : URA M) (H : Heap 𝓤) (A : Atoms 𝓤) (W : Given
   abbrev to : ℕ → SlotAt 𝓤 H A mem run .Ghost
   to k = (((κ₁, tt), (q₁, tt), tt, (x₁, (k, tt)), (v₁ ∷ [], (vint w64 k ∷ [], tt))), tt)
 
-  asked : (k : ℕ) → k < 2 ^ 64 → k + 3 ≤ length ns → ent 𝓤 (sep 𝓤 (A .lft κ₁ q₁) (sem 𝓤 H A Own₁)) (SlotAt 𝓤 H A mem run .pre (to k))
+  asked : (k : ℕ) → k < 2 ^ 64 → k + slotWidth ≤ length ns → ent 𝓤 (sep 𝓤 (A .lft κ₁ q₁) (sem 𝓤 H A Own₁)) (SlotAt 𝓤 H A mem run .pre (to k))
   asked k fits within =
       qed W (‵ (flft κ₁ q₁) ∷ ‵ Own₁ ∷ []) ∵ says ! within $ nothing ! $ move ! (1 ∷ 0 ∷ []) $ join ! $ frame ! $
       nothing ! $ owned ! usize (Is usize) (uint-makes 𝓤 H A W w64) k _ (refl, fits) $ fjoin ! $ move ! (1 ∷ 0 ∷ []) $ fjoin ! $ done !
@@ -164,11 +165,11 @@ module _ {M : Type 1} (𝓤 : URA M) (H : Heap 𝓤) (A : Atoms 𝓤) (W : Given
         assigns ! (bin ! (load ! (from ! (stop !)) (look ! 16 refl)) (lit ! tt) (record { fits = place-fits (i .0) n (inside i e) (gn .1) })) (from ! (stop !)) (init ! 10 refl (tt, record { fits = place-fits (i .0) n (inside i e) (gn .1) })) $
         -- the callee gets a copy of the numbers' reference, and the token
         move ! (2 ∷ []) $ use1 W (‵ Own₁ ⊛ ‵ Own₁) (shr-slice-copy 𝓤 H A W (named 1) κ₁ u32 .twice x₁ (v₁ ∷ [])) $ split ! $ move ! (3 ∷ 0 ∷ []) $
-        use2 W (raw (SlotAt 𝓤 H A mem run .pre (to (i .0 * 3)))) (asked (i .0 * 3) (place-fits (i .0) n (inside i e) (gn .1)) (three-more (i .0) c (length ns) (held (i .0) c e) enough)) $
+        use2 W (raw (SlotAt 𝓤 H A mem run .pre (to (i .0 * slotWidth)))) (asked (i .0 * slotWidth) (place-fits (i .0) n (inside i e) (gn .1)) (three-more (i .0) c (length ns) (held (i .0) c e) enough)) $
         -- [what the callee asks; the numbers; the row; the open borrow; obs; auth; _8; …]
-        calls-at ! (fmOf 𝓤 H (W .laws) 𝓣) (SlotAt 𝓤 H A mem run) known (to (i .0 * 3)) (and-then ! (load ! (from ! (stop !)) (look ! 20 refl)) (and-then ! (load ! (from ! (stop !)) (look ! 10 refl)) (no-more !))) (λ u.
-        use1 W (later (some (λ (r : Slot). ((‵ (flft κ₁ q₁) ⊛ ‵ ftrue) ⊛ ‵ (R .own r (u ∷ []))) ⊛ raw (ensured 𝓤 H A slot-from.ended (slot-from.clauses 𝓤 H A mem run) (κ₁, tt) (x₁, (i .0 * 3, tt)) tt r)))) (id⊢ 𝓤 _) $ await ! tt $ pick ! (λ r.
-        split ! $ move ! (1 ∷ []) $ use1 W (raw (fact 𝓤 (r ≡ slotFrom ns (i .0 * 3)))) (said (i .0 * 3) r) $ heard ! (r ≡ slotFrom ns (i .0 * 3)) (λ is-slot. split ! $ move ! (1 ∷ []) $
+        calls-at ! (fmOf 𝓤 H (W .laws) 𝓣) (SlotAt 𝓤 H A mem run) known (to (i .0 * slotWidth)) (and-then ! (load ! (from ! (stop !)) (look ! 20 refl)) (and-then ! (load ! (from ! (stop !)) (look ! 10 refl)) (no-more !))) (λ u.
+        use1 W (later (some (λ (r : Slot). ((‵ (flft κ₁ q₁) ⊛ ‵ ftrue) ⊛ ‵ (R .own r (u ∷ []))) ⊛ raw (ensured 𝓤 H A slot-from.ended (slot-from.clauses 𝓤 H A mem run) (κ₁, tt) (x₁, (i .0 * slotWidth, tt)) tt r)))) (id⊢ 𝓤 _) $ await ! tt $ pick ! (λ r.
+        split ! $ move ! (1 ∷ []) $ use1 W (raw (fact 𝓤 (r ≡ slotFrom ns (i .0 * slotWidth)))) (said (i .0 * slotWidth) r) $ heard ! (r ≡ slotFrom ns (i .0 * slotWidth)) (λ is-slot. split ! $ move ! (1 ∷ []) $
         peeks ! R (Is R) (shows 𝓤 H A R) r (u ∷ []) (λ is.
         -- [the slot; the token; the numbers; the row; the open borrow; obs; auth; _8; …]
         land ! (from ! (stop !)) (init ! 13 refl (LL.lawful T.the-type T′.the-laws 𝓤 H A W .typed r _ is .0)) $ move ! (1 ∷ []) $ split ! $
@@ -216,7 +217,7 @@ module _ {M : Type 1} (𝓤 : URA M) (H : Heap 𝓤) (A : Atoms 𝓤) (W : Given
 module _ {M : Type 1} (𝓤 : URA M) (H : Heap 𝓤) (A : Atoms 𝓤) (W : Given 𝓤 H A) (mem : Memory → SProp 𝓤) (run : Routine → Fun 𝓤) (𝓣 : Tables 𝓤 H) (known : Triple 𝓤 (𝓣 .C #slots·slot-from) (SlotAt 𝓤 H A mem run)) where
   walks : Walks 𝓤 H A save.ended stayed (WpFn 𝓤 H (𝓣 .C) (𝓣 .Λ) code.function) (save.clauses 𝓤 H A mem run)
   walks = walked 𝓤 H A save.ended stayed (save.clauses 𝓤 H A mem run) (WpFn 𝓤 H (𝓣 .C) (𝓣 .Λ) code.function) (λ κs. (slice-vals, (slice-vals, (uint-vals w64, tt)))) (λ κs. (mut-slice-tells (named 0) (κs .0) R, (shr-slice-tells (named 1) (κs .1 .0) u32, (uint-tells w64, tt))))
-      (λ κs qs bounds a g are. needs 𝓤 ((a .1 .1 .0 ≤ length (a .0 .now)) × (a .1 .1 .0 * 3 ≤ length (a .1 .0 .now))) _ (λ p.
+      (λ κs qs bounds a g are. needs 𝓤 ((a .1 .1 .0 ≤ length (a .0 .now)) × (a .1 .1 .0 * slotWidth ≤ length (a .1 .0 .now))) _ (λ p.
       walk 𝓤 H A W mem run (κs .0) (κs .1 .0) (qs .0) (qs .1 .0) (a .0 .ptr .0) (a .0 .ptr .1) (a .0 .name) (a .0 .now) (a .1 .0) (a .1 .1 .0) (are .0 .0 .1) (are .1 .0 .0 .1) (are .1 .1 .0 .1) (p .0) (p .1) 𝓣 known))
 
   meets : Meets 𝓤 H A save.signature (WpFn 𝓤 H (𝓣 .C) (𝓣 .Λ) code.function) (save.spec 𝓤 H A mem run)
