@@ -17,7 +17,7 @@ use Rattle.record.specs.Table.{slotWidth, maxSlots}
 use Rattle.record.specs.Packing.{pack, packs, refusal}
 use Rattle.record.specs.Reading.{Read, read, reads}
 use Rattle.slots.specs.declared.Slot.{Slot}
-use Rattle.slots.specs.Slots.{maxNumbers, numbersOf, slotsFrom, taken, packFirst, readFirst, readSlots, withSlots}
+use Rattle.slots.specs.Slots.{maxNumbers, numbersOf, slotsFrom, taken, packFirst, readFirst, readSlots, readPart, withSlots, withRest}
 use Rattle.slots.proofs.Runs.{filled, length-numbers, slots-back}
 
 -- ---- how many are taken apart
@@ -116,3 +116,9 @@ module _ (layout bs ns ws area z : List ℕ) (ss ts : List Slot) (mark : ℕ) (a
 
           kept : ts ≡ slotsFrom (numbersOf ss)
           kept = s ∙ ap (λ (k : ℕ). slotsFrom (take (k * slotWidth) ws) ++ drop k ss) (taken-many (length ss) l) ∙ sym (slots-back ss)
+
+-- ---- the reader on the first slots of a table
+
+pub read-part : (layout bs area z : List ℕ) (ss ts : List Slot) (n mark : ℕ) (a : Answer) → record { answer = a; slots = ts; area = z } ≡ readSlots layout bs (take n ss) area mark → record { answer = a; slots = ts ++ drop n ss; area = z } ≡ readPart layout bs ss n area mark
+unfolding readPart
+read-part layout bs area z ss ts n mark a e = ap (withRest (drop n ss)) e

@@ -6,7 +6,7 @@ use native.Mathlib.Omega.{arith}
 use mathlib.Core.Bool.{Bool, true, false, not}
 use lib.Dec.{T as Holds, ltb, ltb→lt, nltb→le}
 use Rattle.record.specs.Table.{slotWidth, maxSlots}
-use Rattle.slots.specs.Slots.{maxNumbers}
+use Rattle.slots.specs.Slots.{maxNumbers, rows}
 
 pub bytes-fit : (i n : ℕ) → i < n → n * 12 < 2 ^ 63 → i * 12 < 2 ^ 64
 bytes-fit i n l g = omega arith
@@ -16,6 +16,9 @@ place-fits i n l g = omega arith
 
 pub next-fits : (i c : ℕ) → i < c → c < 2 ^ 64 → i + 1 < 2 ^ 64
 next-fits i c l g = omega arith
+
+pub rows-fit : (n : ℕ) → n ≤ rows → (n < 2 ^ 64) × (n * 12 < 2 ^ 63)
+rows-fit n l = (omega arith, omega arith)
 
 pub numbers-fit : (c m : ℕ) → c ≤ maxSlots → maxNumbers ≤ m → c * slotWidth ≤ m
 numbers-fit c m l g = omega arith

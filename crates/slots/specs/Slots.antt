@@ -1,7 +1,7 @@
--- Packing and reading over a slice of slot records (01, Slot tables): THE EFFECT OF A CALL is `pack` of the slots' numbers, and `readSlots`.
-use Prim.Native.Nat.{ℕ, _+_, _*_}
-use mathlib.Core.List.{List, [], _∷_}
-use lib.ListN.{getD, set, take}
+-- The calls over a lent run of slot records: THE EFFECT OF A CALL is `pack` of the slots' numbers, and `readSlots`.
+use Prim.Native.Nat.{ℕ, suc, _+_, _*_}
+use mathlib.Core.List.{List, [], _∷_, _++_}
+use lib.ListN.{getD, set, take, drop}
 use lib.Dec.{leb}
 use Rattle.layout.specs.declared.Refusal.the-variants.{BadSize}
 use Rattle.layout.specs.Refusals.{if_then_else_, refused}
@@ -13,7 +13,7 @@ use Rattle.slots.specs.declared.Slot.{Slot}
 
 -- ---- slots and numbers
 
--- the numbers of a slot, in the order of 01, Slot tables
+-- "A slot is three 32-bit numbers: kind, start, length"
 unfoldable pub numbersOf : List Slot → List ℕ
 numbersOf [] = []
 numbersOf (s ∷ ss) = s .kind ∷ s .start ∷ s .length ∷ numbersOf ss
@@ -44,6 +44,18 @@ withSlots e = record { answer = e .answer; slots = slotsFrom (e .slots); area = 
 unfoldable pub readSlots : List ℕ → List ℕ → List Slot → List ℕ → ℕ → ReadSlots
 unfolding numbersOf slotsFrom read
 readSlots layout bs slots area mark = withSlots (read layout bs (numbersOf slots) area mark)
+
+-- the same on the first n slots; the others stay
+abbrev pub withRest : List Slot → ReadSlots → ReadSlots
+withRest rest e = record { answer = e .answer; slots = e .slots ++ rest; area = e .area }
+
+unfoldable pub readPart : List ℕ → List ℕ → List Slot → ℕ → List ℕ → ℕ → ReadSlots
+unfolding readSlots
+readPart layout bs slots n area mark = withRest (drop n slots) (readSlots layout bs (take n slots) area mark)
+
+-- how many slots a table by value has: the most, and one more
+abbrev pub rows : ℕ
+rows = suc maxSlots
 
 -- ---- the steps of a call
 

@@ -6,7 +6,7 @@ ghost use Prim.Native.Nat.{_+_, _*_, _≤_};
 ghost use lib.ListN.{length, take, drop};
 ghost use Rattle.record.specs.Table.{slotWidth};
 ghost use Rattle.record.specs.Packing.{pack};
-ghost use Rattle.slots.specs.Slots.{maxNumbers, numbersOf, slotsFrom, slotFrom, putAt, taken, packFirst, readFirst, readSlots};
+ghost use Rattle.slots.specs.Slots.{maxNumbers, numbersOf, slotsFrom, slotFrom, putAt, taken, packFirst, readFirst, readSlots, readPart, rows};
 use layout::Refusal;
 use record::Answer;
 
@@ -137,13 +137,15 @@ pub fn read_slots(
     answer
 }
 
-// Two slots by value, for callers that the borrow checker covers: an array goes in, and comes back beside the answer.
+// A table by value, for callers that the borrow checker covers: as many rows as the most slots and one more, of which the first so many are lent.
+pub const ROWS: usize = record::MAX_SLOTS + 1;
+
 pub struct Outcome {
     pub answer: Answer,
-    pub slots: [Slot; 2],
+    pub slots: [Slot; ROWS],
 }
 
-fn together(answer: Answer, slots: [Slot; 2]) -> Outcome
+fn together(answer: Answer, slots: [Slot; ROWS]) -> Outcome
     ensures { λ r. ⌜ r ≡ record { answer = answer; slots = slots } ⌝ }
 {
     Outcome {
@@ -152,23 +154,32 @@ fn together(answer: Answer, slots: [Slot; 2]) -> Outcome
     }
 }
 
-pub fn pack_two(layout: &[u8], slots: [Slot; 2], area: &[u8], output: &mut [u8]) -> Answer
-    ensures { λ r. ⌜ record { answer = r; output = now (output .exit) } ≡ pack (now (layout .entry)) (numbersOf slots) (now (area .entry)) (now (output .entry)) ⌝ }
+pub fn pack_some(
+    layout: &[u8],
+    slots: [Slot; ROWS],
+    count: usize,
+    area: &[u8],
+    output: &mut [u8],
+) -> Answer
+    requires { ⌜ count ≤ rows ⌝ }
+    ensures { λ r. ⌜ record { answer = r; output = now (output .exit) } ≡ pack (now (layout .entry)) (numbersOf (take count slots)) (now (area .entry)) (now (output .entry)) ⌝ }
 {
     let table = slots;
-    pack_slots(layout, &table, area, output)
+    pack_slots(layout, &table[..count], area, output)
 }
 
-pub fn read_two(
+pub fn read_some(
     layout: &[u8],
     bytes: &[u8],
-    slots: [Slot; 2],
+    slots: [Slot; ROWS],
+    count: usize,
     area: &mut [u8],
     mark: usize,
 ) -> Outcome
-    ensures { λ r. ⌜ record { answer = r .answer; slots = r .slots; area = now (area .exit) } ≡ readSlots (now (layout .entry)) (now (bytes .entry)) slots (now (area .entry)) mark ⌝ }
+    requires { ⌜ count ≤ rows ⌝ }
+    ensures { λ r. ⌜ record { answer = r .answer; slots = r .slots; area = now (area .exit) } ≡ readPart (now (layout .entry)) (now (bytes .entry)) slots count (now (area .entry)) mark ⌝ }
 {
     let mut table = slots;
-    let answer = read_slots(layout, bytes, &mut table, area, mark);
+    let answer = read_slots(layout, bytes, &mut table[..count], area, mark);
     together(answer, table)
 }
