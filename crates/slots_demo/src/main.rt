@@ -238,7 +238,7 @@ fn main() {
     all(&layout[..0], 0);
     all(&layout[..1], 0);
     all(&layout[..1], 1);
-    all(&layout[..0], 1);
+    all(&layout[..2], 1);
     all(&layout[..record::MAX_SLOTS], record::MAX_SLOTS);
     all(&layout[..slots::ROWS], record::MAX_SLOTS);
     all(&layout[..slots::ROWS], slots::ROWS);
