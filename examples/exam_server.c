@@ -3,7 +3,7 @@
  *
  * Last year a record held a number, a name and two legs. This year there is a third leg and an answer strip.
  * The office packs records by both layouts, gets one back from a laptop that lost its end, and reads all of
- * them by both layouts.
+ * them by both layouts. Tables with a leg in the middle that nobody marked it keeps as sheets.
  */
 #include <inttypes.h>
 #include <stdio.h>
@@ -13,7 +13,7 @@
 
 #define FIELDS 6
 #define AREA 128
-#define RECORD 64
+#define RECORD 96
 #define CANDIDATES 4
 
 static const char old_layout[] = "a6 A12 Su Su";
@@ -21,7 +21,7 @@ static const char new_layout[] = "a6 A12 Su Su Su b10";
 static const char *const heads[FIELDS] = {"number", "name", "written", "oral", "steno", "strip"};
 
 /* The values of one record, in the form in which the library takes and gives them. */
-struct sheet {
+struct table {
     uint8_t slots[FIELDS * CURLEW_SLOT_SIZE];
     size_t count;
     uint8_t area[AREA];
@@ -44,46 +44,46 @@ struct candidate {
 
 /* ---- putting values in ---- */
 
-static void clear(struct sheet *sheet)
+static void clear(struct table *table)
 {
-    memset(sheet, 0, sizeof *sheet);
+    memset(table, 0, sizeof *table);
 }
 
-static void add_text(struct sheet *sheet, const char *text)
+static void add_text(struct table *table, const char *text)
 {
     size_t length = strlen(text);
 
-    memcpy(sheet->area + sheet->used, text, length);
-    curlew_put_slot(sheet->slots, sheet->count++, CURLEW_STRING, (uint32_t)sheet->used, (uint32_t)length);
-    sheet->used += length;
+    memcpy(table->area + table->used, text, length);
+    curlew_put_slot(table->slots, table->count++, CURLEW_STRING, (uint32_t)table->used, (uint32_t)length);
+    table->used += length;
 }
 
-static void add_mark(struct sheet *sheet, unsigned mark)
+static void add_mark(struct table *table, unsigned mark)
 {
-    curlew_put_uint(sheet->area + sheet->used, mark);
-    curlew_put_slot(sheet->slots, sheet->count++, CURLEW_UNSIGNED, (uint32_t)sheet->used, 1);
-    sheet->used += CURLEW_ITEM_SIZE;
+    curlew_put_uint(table->area + table->used, mark);
+    curlew_put_slot(table->slots, table->count++, CURLEW_UNSIGNED, (uint32_t)table->used, 1);
+    table->used += CURLEW_ITEM_SIZE;
 }
 
-static void add_nothing(struct sheet *sheet)
+static void add_nothing(struct table *table)
 {
-    curlew_put_slot(sheet->slots, sheet->count++, CURLEW_UNSET, 0, 0);
+    curlew_put_slot(table->slots, table->count++, CURLEW_UNSET, 0, 0);
 }
 
-static void fill_old(struct sheet *sheet, const struct candidate *who)
+static void fill_old(struct table *table, const struct candidate *who)
 {
-    clear(sheet);
-    add_text(sheet, who->number);
-    add_text(sheet, who->name);
-    add_mark(sheet, who->written);
-    add_mark(sheet, who->oral);
+    clear(table);
+    add_text(table, who->number);
+    add_text(table, who->name);
+    add_mark(table, who->written);
+    add_mark(table, who->oral);
 }
 
-static void fill_new(struct sheet *sheet, const struct candidate *who)
+static void fill_new(struct table *table, const struct candidate *who)
 {
-    fill_old(sheet, who);
-    add_mark(sheet, who->steno);
-    add_text(sheet, who->strip);
+    fill_old(table, who);
+    add_mark(table, who->steno);
+    add_text(table, who->strip);
 }
 
 /* ---- the two calls ---- */
@@ -94,12 +94,12 @@ static void print_refusal(struct curlew_answer answer)
            answer.number, answer.first, curlew_refusal(answer.number));
 }
 
-/* Packs the sheet. Returns 1, or 0 after saying why not. */
-static int pack(const char *layout, const struct sheet *sheet, struct record *record)
+/* Packs the table. Returns 1, or 0 after saying why not. */
+static int pack(const char *layout, const struct table *table, struct record *record)
 {
     uint8_t reply[CURLEW_PACK_REPLY];
     uint32_t number = curlew_pack((const uint8_t *)layout, strlen(layout),
-                                  sheet->slots, sheet->count * CURLEW_SLOT_SIZE, sheet->area, sheet->used,
+                                  table->slots, table->count * CURLEW_SLOT_SIZE, table->area, table->used,
                                   record->bytes, sizeof record->bytes, reply, sizeof reply);
     struct curlew_answer answer = curlew_get_answer(reply);
 
@@ -111,22 +111,57 @@ static int pack(const char *layout, const struct sheet *sheet, struct record *re
     return 1;
 }
 
-/* Reads the record into a cleared sheet: what the record does not hold stays unset. */
-static int read_record(const char *layout, const struct record *record, struct sheet *sheet)
+/* Reads the record into a cleared table: what the record does not hold stays unset. */
+static int read_record(const char *layout, const struct record *record, struct table *table)
 {
     uint8_t reply[CURLEW_READ_REPLY];
     uint32_t number;
 
-    clear(sheet);
+    clear(table);
     number = curlew_read((const uint8_t *)layout, strlen(layout), record->bytes, record->length,
-                         sheet->slots, sizeof sheet->slots, sheet->area, sizeof sheet->area, 0,
+                         table->slots, sizeof table->slots, table->area, sizeof table->area, 0,
                          reply, sizeof reply);
     if (number != CURLEW_OK) {
         print_refusal(curlew_get_answer(reply));
         return 0;
     }
-    sheet->count = curlew_get_answer(reply).first;
-    sheet->used = curlew_get_answer(reply).second;
+    table->count = curlew_get_answer(reply).first;
+    table->used = curlew_get_answer(reply).second;
+    return 1;
+}
+
+/* ---- tables kept as sheets ---- */
+
+/* Writes the table as a sheet. Returns 1, or 0 after saying why not. */
+static int keep(const struct table *table, struct record *sheet)
+{
+    uint8_t reply[CURLEW_SHEET_REPLY];
+    uint32_t number = curlew_sheet_write(table->slots, table->count * CURLEW_SLOT_SIZE, table->area, table->used,
+                                         sheet->bytes, sizeof sheet->bytes, reply, sizeof reply);
+    struct curlew_answer answer = curlew_get_answer(reply);
+
+    if (number != CURLEW_OK) {
+        print_refusal(answer);
+        return 0;
+    }
+    sheet->length = answer.first;
+    return 1;
+}
+
+static int fetch(const struct record *sheet, struct table *table)
+{
+    uint8_t reply[CURLEW_SHEET_REPLY];
+    uint32_t number;
+
+    clear(table);
+    number = curlew_sheet_read(sheet->bytes, sheet->length, table->slots, sizeof table->slots,
+                               table->area, sizeof table->area, 0, reply, sizeof reply);
+    if (number != CURLEW_OK) {
+        print_refusal(curlew_get_answer(reply));
+        return 0;
+    }
+    table->count = curlew_get_answer(reply).first;
+    table->used = curlew_get_answer(reply).second;
     return 1;
 }
 
@@ -135,16 +170,16 @@ static int read_record(const char *layout, const struct record *record, struct s
 #define CELL 16
 
 /* The value of a slot as text. A slot that is not set has no number to show. */
-static void show(const struct sheet *sheet, size_t field, char *cell)
+static void show(const struct table *table, size_t field, char *cell)
 {
-    struct curlew_slot slot = curlew_get_slot(sheet->slots, field);
+    struct curlew_slot slot = curlew_get_slot(table->slots, field);
 
     if (slot.kind == CURLEW_UNSET)
         snprintf(cell, CELL, "not marked");
     else if (slot.kind == CURLEW_STRING)
-        snprintf(cell, CELL, "%.*s", (int)slot.length, (const char *)sheet->area + slot.start);
+        snprintf(cell, CELL, "%.*s", (int)slot.length, (const char *)table->area + slot.start);
     else
-        snprintf(cell, CELL, "%" PRIu64, curlew_get_uint(sheet->area + slot.start));
+        snprintf(cell, CELL, "%" PRIu64, curlew_get_uint(table->area + slot.start));
 }
 
 static void print_cell(const char *cell, int last)
@@ -152,22 +187,35 @@ static void print_cell(const char *cell, int last)
     printf(last ? "%s\n" : "%-14s", cell);
 }
 
-static void print_table(const char *layout, size_t fields, const struct record *records, size_t count)
+static void print_row(const struct table *table, size_t fields)
 {
-    struct sheet sheet;
     char cell[CELL];
-    size_t i, field;
+    size_t field;
 
-    printf("\nread by %s\n", layout);
+    for (field = 0; field < fields; field++) {
+        show(table, field, cell);
+        print_cell(cell, field + 1 == fields);
+    }
+}
+
+static void print_heads(size_t fields)
+{
+    size_t field;
+
     for (field = 0; field < fields; field++)
         print_cell(heads[field], field + 1 == fields);
+}
+
+static void print_table(const char *layout, size_t fields, const struct record *records, size_t count)
+{
+    struct table table;
+    size_t i;
+
+    printf("\nread by %s\n", layout);
+    print_heads(fields);
     for (i = 0; i < count; i++) {
-        if (!read_record(layout, &records[i], &sheet))
-            continue;
-        for (field = 0; field < fields; field++) {
-            show(&sheet, field, cell);
-            print_cell(cell, field + 1 == fields);
-        }
+        if (read_record(layout, &records[i], &table))
+            print_row(&table, fields);
     }
 }
 
@@ -182,17 +230,17 @@ static const struct candidate candidates[CANDIDATES] = {
 
 static int pack_all(struct record *records)
 {
-    struct sheet sheet;
+    struct table table;
     size_t i;
 
     for (i = 0; i < CANDIDATES; i++) {
         const char *layout = candidates[i].this_year ? new_layout : old_layout;
 
         if (candidates[i].this_year)
-            fill_new(&sheet, &candidates[i]);
+            fill_new(&table, &candidates[i]);
         else
-            fill_old(&sheet, &candidates[i]);
-        if (!pack(layout, &sheet, &records[i]))
+            fill_old(&table, &candidates[i]);
+        if (!pack(layout, &table, &records[i]))
             return 0;
         printf("%s packed by %-19s  %2u bytes\n", candidates[i].number, layout, (unsigned)records[i].length);
     }
@@ -206,21 +254,51 @@ static void cut(struct record *record, size_t length, const char *number)
     record->length = length;
 }
 
+/* A leg in the middle that nobody marked: a record has no place for it, a sheet keeps it. */
+static void show_sheets(void)
+{
+    struct table table;
+    struct record sheet;
+    size_t i;
+
+    printf("\nkept as sheets, with legs that are still to be marked\n");
+    print_heads(FIELDS);
+    for (i = 0; i < CANDIDATES; i++) {
+        clear(&table);
+        add_text(&table, candidates[i].number);
+        add_text(&table, candidates[i].name);
+        add_mark(&table, candidates[i].written);
+        if (i % 2 == 0)
+            add_nothing(&table);
+        else
+            add_mark(&table, candidates[i].oral);
+        if (candidates[i].this_year) {
+            add_mark(&table, candidates[i].steno);
+            add_text(&table, candidates[i].strip);
+        } else {
+            add_nothing(&table);
+            add_nothing(&table);
+        }
+        if (keep(&table, &sheet) && fetch(&sheet, &table))
+            print_row(&table, FIELDS);
+    }
+}
+
 static void show_refusals(void)
 {
     static const char wrong_layout[] = "a6 A12 Su Su Yu b10";
-    struct sheet sheet;
+    struct table table;
     struct record record;
 
     printf("\na leg that nobody marked cannot be packed\n");
-    fill_old(&sheet, &candidates[1]);
-    add_nothing(&sheet);
-    add_text(&sheet, "0000000000");
-    pack(new_layout, &sheet, &record);
+    fill_old(&table, &candidates[1]);
+    add_nothing(&table);
+    add_text(&table, "0000000000");
+    pack(new_layout, &table, &record);
 
     printf("\na layout with a slip in it: %s\n", wrong_layout);
-    fill_new(&sheet, &candidates[0]);
-    pack(wrong_layout, &sheet, &record);
+    fill_new(&table, &candidates[0]);
+    pack(wrong_layout, &table, &record);
 }
 
 int main(void)
@@ -231,7 +309,8 @@ int main(void)
         return 1;
     cut(&records[3], 23, candidates[3].number);
     print_table(old_layout, 4, records, CANDIDATES);
-    print_table(new_layout, 6, records, CANDIDATES);
+    print_table(new_layout, FIELDS, records, CANDIDATES);
+    show_sheets();
     show_refusals();
     return 0;
 }

@@ -1,9 +1,12 @@
 /*
  * curlew.h - packed mark records
  *
- * Two calls. curlew_pack turns values into the bytes of a record, curlew_read turns the bytes of a record
- * back into values. A short text, the layout, says what the record holds and in which order. The layout
- * language is that of Tcl's `binary format` and `binary scan`, within the types listed below.
+ * curlew_pack turns values into the bytes of a record, curlew_read turns the bytes of a record back into
+ * values. A short text, the layout, says what the record holds and in which order. The layout language is that
+ * of Tcl's `binary format` and `binary scan`, within the types listed below.
+ *
+ * curlew_sheet_write and curlew_sheet_read keep a whole table of values in a file, as a sheet, with the values
+ * that are not set.
  *
  * Link with libcurlew.a; no other library is needed. The header serves C99 and C++.
  *
@@ -87,13 +90,44 @@
  * left of it gives the values of the fields that are still whole.
  *
  *
+ * SHEETS: A TABLE KEPT IN A FILE
+ *
+ * A record holds one value after the other, so a leg that is not set can only be missing at its end. A sheet
+ * keeps every slot of a table, set or not:
+ *
+ *   byte 0      the version: 1
+ *   bytes 1-2   the length of all that is behind them, big-endian
+ *   then, for each slot in turn, an entry:
+ *     2 bytes   the length of the rest of the entry, big-endian
+ *     1 byte    the slot's kind
+ *     the value: no byte for CURLEW_UNSET, the bytes of a string, 8 bytes for each integer
+ *
+ * A table of three slots, not set, the string OK and the integer -2, is the sheet
+ *
+ *   01  00 13   00 01  00   00 03  01  4f 4b   00 09  02  ff ff ff ff ff ff ff fe
+ *
+ * and the three bytes 01 00 00 are a table of no slots. Starts are not kept: where a value lay in the area is
+ * of no matter. curlew_sheet_write writes the slots given to it; the bytes of the run behind the sheet stay as
+ * they were. curlew_sheet_read puts the values into the area from the mark on, as curlew_read does, and sets a
+ * slot for each entry; an entry that is not set clears its slot to CURLEW_UNSET, start 0, length 0. Slots
+ * beyond the entries stay as they were. Writing a table and reading it back shows the same values, and the
+ * slots of a sheet that was read are written as the same sheet, byte for byte.
+ *
+ * A sheet that was cut, or damaged in its lengths or kinds, is refused whole: 13 where its first byte is not
+ * the version, 12 at 0 where it is shorter than three bytes or the length in its header is not that of the
+ * rest, 12 at the first byte of the first entry that is wrong: too few bytes left for its length, a length of
+ * 0 or beyond the end, a kind above 3, a value behind CURLEW_UNSET, or integers that are no multiple of 8 bytes.
+ *
+ *
  * ANSWERS
  *
- * Both calls return a number and write three big-endian 32-bit numbers into the reply, the same one first:
+ * Every call returns a number and writes three big-endian 32-bit numbers into the reply, the same one first:
  *
- *   packed     CURLEW_OK, length of the result, 0
- *   read       CURLEW_OK, how many slots were set, place in the area after the last value
- *   refused    the number of the refusal, the place of the fault, 0
+ *   packed          CURLEW_OK, length of the result, 0
+ *   read            CURLEW_OK, how many slots were set, place in the area after the last value
+ *   sheet written   CURLEW_OK, length of the sheet, 0
+ *   sheet read      CURLEW_OK, how many entries there were, place in the area after the last value
+ *   refused         the number of the refusal, the place of the fault, 0
  *
  *   no.  constant            refused because                                        place
  *    1   CURLEW_BAD_SIZE     a run is over its size, the slots are no multiple      0
@@ -103,21 +137,27 @@
  *    3   CURLEW_BAD_COUNT    a count is over CURLEW_MAX_COUNT                       byte of the type character
  *    4   CURLEW_BAD_MOVE     `@` has no count, or packing met `x*`                  byte of the type character
  *    5   CURLEW_BAD_SLOTS    packing: not one slot for each field that takes one;   0
- *                            reading: too few slots
+ *                            reading a record or a sheet: too few slots
  *    6   CURLEW_NOT_SET      packing: the slot is not set                           the slot
- *    7   CURLEW_BAD_SLOT     packing: the slot's kind is above 3, or its value      the slot
- *                            does not lie inside the area
+ *    7   CURLEW_BAD_SLOT     packing, writing a sheet: the slot's kind is above 3,  the slot
+ *                            or its value does not lie inside the area
  *    8   CURLEW_WRONG_KIND   packing: the field wants integers and the slot has     the slot
  *                            a string, or the other way round
  *    9   CURLEW_BAD_LIST     packing: fewer integers than the count, or another     the slot
  *                            number than one where the field has no count
  *   10   CURLEW_BAD_DIGIT    packing: a digit that counts is not a digit            the slot
  *   11   CURLEW_NO_ROOM      the result does not fit the output run, or the         0
- *                            values do not fit the area from the mark on
+ *                            values do not fit the area from the mark on; a
+ *                            sheet's lengths do not fit their two bytes
+ *   12   CURLEW_BAD_SHEET    the sheet is too short or its header's length is       0
+ *                            wrong;
+ *                            the length or the kind of an entry is wrong            the entry's first byte
+ *   13   CURLEW_BAD_VERSION  the sheet's first byte is not 1                        0
  *
- * The checks are made in this order: 1; then 2, 3 and 4 for each field in turn; then 5; then 6 to 10 for each
- * slot in turn, the lower number first; then 11. No byte is written before the last of them: a refusal writes
- * the reply and nothing else. A reply of a wrong size makes the call return 1 and write nothing
+ * The checks are made in this order. Packing and reading a record: 1; then 2, 3 and 4 for each field in turn;
+ * then 5; then 6 to 10 for each slot in turn, the lower number first; then 11. Writing a sheet: 1; 7 for each
+ * slot in turn; 11. Reading a sheet: 1; 13; 12; 5; 11. No byte is written before the last of them: a refusal
+ * writes the reply and nothing else. A reply of a wrong size makes the call return 1 and write nothing
  * at all.
  *
  * After a packing that was accepted, the bytes of the output run behind the result stay as they were.
@@ -129,8 +169,9 @@
  *   slots                   at most CURLEW_MAX_SLOTS      64 slots, CURLEW_SLOT_SIZE bytes each
  *   record, output run      at most CURLEW_MAX_RECORD  4,096 bytes
  *   area                    at most CURLEW_MAX_AREA   65,536 bytes
+ *   sheet, run for one      at most CURLEW_MAX_SHEET  65,538 bytes
  *   count in a layout       at most CURLEW_MAX_COUNT   4,096
- *   reply                   exactly CURLEW_PACK_REPLY or CURLEW_READ_REPLY bytes
+ *   reply                   exactly CURLEW_PACK_REPLY, CURLEW_READ_REPLY or CURLEW_SHEET_REPLY bytes
  *
  * The limits are on the lengths that you give to a call. The output run must be no larger than a record may
  * be, even where the result is short. A run of length 0 may be a null pointer.
@@ -139,8 +180,8 @@
  * YOUR DUTY
  *
  * - Every pointer leads to as many bytes as the length beside it says.
- * - No run that a call writes (out and reply in packing; slots, area and reply in reading) overlaps any other
- *   run given to the same call. Runs that are only read may overlap one another.
+ * - No run that a call writes (each is said at the call's declaration) overlaps any other run given to the same
+ *   call. Runs that are only read may overlap one another.
  * - Nobody else writes any of these runs until the call returns.
  *
  * All that this header promises rests on these three.
@@ -148,7 +189,7 @@
  *
  * THREADS
  *
- * The library holds no state. Any number of threads may call both functions at once, as long as each call
+ * The library holds no state. Any number of threads may call its functions at once, as long as each call
  * keeps the duties above. Threads may share runs that nobody writes, such as layouts.
  *
  *
@@ -205,12 +246,14 @@
 #define CURLEW_ITEM_SIZE 8
 #define CURLEW_PACK_REPLY 12
 #define CURLEW_READ_REPLY 12
+#define CURLEW_SHEET_REPLY 12
 
 /* Limits. */
 #define CURLEW_MAX_LAYOUT 256
 #define CURLEW_MAX_SLOTS 64
 #define CURLEW_MAX_RECORD 4096
 #define CURLEW_MAX_AREA 65536
+#define CURLEW_MAX_SHEET 65538
 #define CURLEW_MAX_COUNT 4096
 
 /* Kinds of a slot. */
@@ -232,6 +275,8 @@
 #define CURLEW_BAD_LIST 9
 #define CURLEW_BAD_DIGIT 10
 #define CURLEW_NO_ROOM 11
+#define CURLEW_BAD_SHEET 12
+#define CURLEW_BAD_VERSION 13
 
 #ifdef __cplusplus
 extern "C" {
@@ -251,6 +296,19 @@ uint32_t curlew_read(const uint8_t *layout, size_t layout_len,
                      uint8_t *area, size_t area_len,
                      size_t mark,
                      uint8_t *reply, size_t reply_len);
+
+/* Writes the table of slots and area as a sheet. Writes sheet and reply. */
+uint32_t curlew_sheet_write(const uint8_t *slots, size_t slots_len,
+                            const uint8_t *area, size_t area_len,
+                            uint8_t *sheet, size_t sheet_len,
+                            uint8_t *reply, size_t reply_len);
+
+/* Reads a sheet into slots and, from the mark on, into area. Writes slots, area and reply. */
+uint32_t curlew_sheet_read(const uint8_t *sheet, size_t sheet_len,
+                           uint8_t *slots, size_t slots_len,
+                           uint8_t *area, size_t area_len,
+                           size_t mark,
+                           uint8_t *reply, size_t reply_len);
 
 #ifdef __cplusplus
 }
@@ -361,6 +419,8 @@ static inline const char *curlew_refusal(uint32_t number)
     case CURLEW_BAD_LIST: return "the slot holds fewer integers than the count, or not one where there is no count";
     case CURLEW_BAD_DIGIT: return "the slot's string has a character that is not a digit";
     case CURLEW_NO_ROOM: return "the result does not fit the run that is to hold it";
+    case CURLEW_BAD_SHEET: return "the sheet was cut, or one of its lengths or kinds is wrong";
+    case CURLEW_BAD_VERSION: return "the sheet does not begin with a version that is known";
     default: return "unknown number";
     }
 }

@@ -1,15 +1,22 @@
 //! A call with everything lent to it, and what is found after it.
 
-use crate::twin;
+use crate::{sheet, twin};
 use std::ops::{Deref, DerefMut};
 
 #[derive(Clone, Copy, PartialEq, Eq, Debug)]
 pub enum Which {
     Pack,
     Read,
+    SheetWrite,
+    SheetRead,
 }
 
-pub const CALLS: [Which; 2] = [Which::Pack, Which::Read];
+pub const CALLS: [Which; 4] = [
+    Which::Pack,
+    Which::Read,
+    Which::SheetWrite,
+    Which::SheetRead,
+];
 
 impl Which {
     /// The numbers that such a call can give.
@@ -17,6 +24,8 @@ impl Which {
         match self {
             Which::Pack => &[0, 1, 2, 3, 4, 5, 6, 7, 8, 9, 10, 11],
             Which::Read => &[0, 1, 2, 3, 4, 5, 11],
+            Which::SheetWrite => &[0, 1, 7, 11],
+            Which::SheetRead => &[0, 1, 5, 11, 12, 13],
         }
     }
 }
@@ -29,6 +38,7 @@ pub struct Runs {
     pub record: Vec<u8>,
     pub slots: Vec<u8>,
     pub area: Vec<u8>,
+    pub sheet: Vec<u8>,
     pub reply: Vec<u8>,
 }
 
@@ -39,10 +49,13 @@ impl Runs {
         let record = ("record", &mut self.record);
         let slots = ("slots", &mut self.slots);
         let area = ("area", &mut self.area);
+        let sheet = ("sheet", &mut self.sheet);
         let reply = ("reply", &mut self.reply);
         match which {
             Which::Pack => vec![layout, slots, area, record, reply],
             Which::Read => vec![layout, record, slots, area, reply],
+            Which::SheetWrite => vec![slots, area, sheet, reply],
+            Which::SheetRead => vec![sheet, slots, area, reply],
         }
     }
 }
@@ -154,6 +167,16 @@ pub fn by_twin(call: &Call) -> After {
         Which::Read => twin::read_call(
             &call.layout,
             &call.record,
+            &mut runs.slots,
+            &mut runs.area,
+            call.mark,
+            &mut runs.reply,
+        ),
+        Which::SheetWrite => {
+            sheet::write_call(&call.slots, &call.area, &mut runs.sheet, &mut runs.reply)
+        }
+        Which::SheetRead => sheet::read_call(
+            &call.sheet,
             &mut runs.slots,
             &mut runs.area,
             call.mark,

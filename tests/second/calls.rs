@@ -231,7 +231,7 @@ fn random_record(dice: &mut Dice, specs: &[Spec], scratch: &mut Scratch) -> Vec<
 }
 
 /// A mark and an area length around what the values need.
-pub fn random_room(dice: &mut Dice, need: usize) -> (usize, usize) {
+fn random_room(dice: &mut Dice, need: usize) -> (usize, usize) {
     let mark = match dice.below(8) {
         0 => 0,
         1 => dice.below(300),
@@ -288,6 +288,7 @@ fn reading(
         slots: random_slots(dice, slots),
         area: dice.bytes(area_len),
         reply: dice.bytes(REPLY_BYTES),
+        ..Runs::default()
     };
     let mut call = Call::new(Which::Read, runs);
     call.mark = mark;

@@ -31,7 +31,7 @@ fn cut_or_padded(bytes: &[u8], count: usize, pad: u8) -> Vec<u8> {
 
 fn integers(value: &Value) -> Vec<u64> {
     match value {
-        Value::Text(_) => Vec::new(),
+        Value::Unset | Value::Text(_) => Vec::new(),
         Value::Signed(items) => items.iter().map(|&n| n as u64).collect(),
         Value::Unsigned(items) => items.clone(),
     }
@@ -106,6 +106,7 @@ fn packing(dice: &mut Dice, layout: Vec<u8>, arguments: &[Value], room: usize) -
         slots,
         area,
         reply: dice.bytes(REPLY_BYTES),
+        ..Runs::default()
     };
     let mut call = Call::new(Which::Pack, runs);
     call.null = dice.once_in(2);
@@ -121,6 +122,7 @@ fn reading(dice: &mut Dice, layout: &[u8], record: &[u8], slots: usize, need: us
         slots: dice.bytes(slots * SLOT_BYTES),
         area: dice.bytes(mark + need + rest),
         reply: dice.bytes(REPLY_BYTES),
+        ..Runs::default()
     };
     let mut call = Call::new(Which::Read, runs);
     call.mark = mark;

@@ -1,6 +1,7 @@
 //! The twin behind C entry points, as a library of its own.
 
 mod limits;
+mod sheet;
 mod slots;
 mod twin;
 
@@ -66,6 +67,50 @@ pub unsafe extern "C" fn twin_read(
     twin::read_call(
         lent(layout, layout_len),
         lent(record, record_len),
+        lent_mut(slots, slots_len),
+        lent_mut(area, area_len),
+        mark,
+        lent_mut(reply, reply_len),
+    )
+}
+
+/// # Safety
+/// Each pointer leads to a run of its length; `sheet` and `reply` overlap no other run.
+#[no_mangle]
+pub unsafe extern "C" fn twin_sheet_write(
+    slots: *const u8,
+    slots_len: usize,
+    area: *const u8,
+    area_len: usize,
+    sheet: *mut u8,
+    sheet_len: usize,
+    reply: *mut u8,
+    reply_len: usize,
+) -> u32 {
+    sheet::write_call(
+        lent(slots, slots_len),
+        lent(area, area_len),
+        lent_mut(sheet, sheet_len),
+        lent_mut(reply, reply_len),
+    )
+}
+
+/// # Safety
+/// Each pointer leads to a run of its length; `slots`, `area` and `reply` overlap no other run.
+#[no_mangle]
+pub unsafe extern "C" fn twin_sheet_read(
+    sheet: *const u8,
+    sheet_len: usize,
+    slots: *mut u8,
+    slots_len: usize,
+    area: *mut u8,
+    area_len: usize,
+    mark: usize,
+    reply: *mut u8,
+    reply_len: usize,
+) -> u32 {
+    sheet::read_call(
+        lent(sheet, sheet_len),
         lent_mut(slots, slots_len),
         lent_mut(area, area_len),
         mark,

@@ -24,6 +24,7 @@ pub fn packing(layout: impl AsRef<[u8]>, values: &[Value]) -> Call {
         slots,
         area,
         reply: vec![OLD_REPLY; REPLY_BYTES],
+        ..Runs::default()
     };
     Call::new(Which::Pack, runs)
 }
@@ -35,6 +36,7 @@ pub fn reading(layout: impl AsRef<[u8]>, record: impl AsRef<[u8]>, slots: usize)
         slots: vec![OLD_SLOT; slots * SLOT_BYTES],
         area: vec![OLD_AREA; 200],
         reply: vec![OLD_REPLY; REPLY_BYTES],
+        ..Runs::default()
     };
     let mut call = Call::new(Which::Read, runs);
     call.mark = MARK;
@@ -63,7 +65,7 @@ fn accepts(t: &mut dyn Judge, call: Call, bytes: impl AsRef<[u8]>) {
     t.expect("packing", &call, &after);
 }
 
-fn refuses(t: &mut dyn Judge, call: Call, number: u32, place: u32) {
+pub fn refuses(t: &mut dyn Judge, call: Call, number: u32, place: u32) {
     let after = call.answered([number, place, 0]);
     t.expect("refusal", &call, &after);
 }

@@ -226,6 +226,20 @@ fn random_integer(dice: &mut Dice) -> u64 {
     }
 }
 
+/// Any value that is set; a long one takes some thousand bytes.
+pub fn random_value(dice: &mut Dice, long: bool) -> Value {
+    let len = match long {
+        true => dice.below(2000),
+        false => dice.below(12),
+    };
+    let items: Vec<u64> = (0..len / 2).map(|_| random_integer(dice)).collect();
+    match dice.below(3) {
+        0 => Value::Text(random_text(dice, 4 * len)),
+        1 => Value::Signed(items.iter().map(|&n| n as i64).collect()),
+        _ => Value::Unsigned(items),
+    }
+}
+
 /// An argument that the field accepts.
 pub fn random_argument(dice: &mut Dice, spec: &Spec) -> Value {
     if spec.width().is_some() {

@@ -29,6 +29,27 @@ extern "C" {
         reply: *mut u8,
         reply_len: usize,
     ) -> u32;
+    fn curlew_sheet_write(
+        slots: *const u8,
+        slots_len: usize,
+        area: *const u8,
+        area_len: usize,
+        sheet: *mut u8,
+        sheet_len: usize,
+        reply: *mut u8,
+        reply_len: usize,
+    ) -> u32;
+    fn curlew_sheet_read(
+        sheet: *const u8,
+        sheet_len: usize,
+        slots: *mut u8,
+        slots_len: usize,
+        area: *mut u8,
+        area_len: usize,
+        mark: usize,
+        reply: *mut u8,
+        reply_len: usize,
+    ) -> u32;
 }
 
 const GUARD: usize = 40;
@@ -98,6 +119,12 @@ pub fn by_library(call: &Call) -> (After, Vec<&'static str>) {
             Which::Read => curlew_read(
                 at[0], len[0], at[1], len[1], at[2], len[2], at[3], len[3], call.mark, at[4],
                 len[4],
+            ),
+            Which::SheetWrite => {
+                curlew_sheet_write(at[0], len[0], at[1], len[1], at[2], len[2], at[3], len[3])
+            }
+            Which::SheetRead => curlew_sheet_read(
+                at[0], len[0], at[1], len[1], at[2], len[2], call.mark, at[3], len[3],
             ),
         }
     };

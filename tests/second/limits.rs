@@ -5,6 +5,7 @@ pub const SLOTS_MAX: usize = 64;
 pub const RECORD_MAX: usize = 4096;
 pub const AREA_MAX: usize = 65536;
 pub const COUNT_MAX: usize = 4096;
+pub const SHEET_MAX: usize = 65538;
 
 /// How many numbers make a slot: kind, start and length.
 pub const SLOT_NUMBERS: usize = 3;

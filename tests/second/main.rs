@@ -10,12 +10,14 @@ mod fixed;
 mod layouts;
 mod library;
 mod limits;
+mod sheet;
+mod sheet_calls;
 mod slots;
 mod tally;
 mod twin;
 mod values;
 
-use calls::{round, Scratch};
+use calls::Scratch;
 use dice::Dice;
 use std::process::exit;
 use std::time::{Duration, Instant};
@@ -46,6 +48,7 @@ fn main() {
         ..Tally::default()
     };
     fixed::run(&mut tally);
+    sheet_calls::run(&mut tally);
     println!(
         "fixed calls: {} passed, {} failed",
         tally.passed, tally.failed
@@ -54,7 +57,8 @@ fn main() {
     let mut scratch = Scratch::new();
     let begin = Instant::now();
     while begin.elapsed() < Duration::from_secs(seconds) {
-        round(&mut dice, &mut scratch, &mut tally);
+        calls::round(&mut dice, &mut scratch, &mut tally);
+        sheet_calls::round(&mut dice, &mut tally);
     }
     tally.print();
     exit((tally.failed > 0) as i32);

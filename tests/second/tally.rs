@@ -4,8 +4,10 @@ use crate::call::{by_twin, numbers, After, Call, Judge, Which, CALLS};
 use crate::library::by_library;
 
 const SHOWN: usize = 5;
+/// How much of a run is shown.
+const SHOWN_BYTES: usize = 200;
 /// Numbers that come back are below this.
-const NUMBERS: usize = 12;
+const NUMBERS: usize = 14;
 
 #[derive(Default)]
 pub struct Tally {
@@ -21,7 +23,7 @@ pub struct Tally {
 pub fn hex(bytes: &[u8]) -> String {
     let mut parts = Vec::new();
     let mut at = 0;
-    while at < bytes.len() {
+    while at < bytes.len() && parts.len() < SHOWN_BYTES {
         let same = bytes[at..].iter().take_while(|&&b| b == bytes[at]).count();
         if same > 3 {
             parts.push(format!("{:02x}*{}", bytes[at], same));
@@ -30,6 +32,9 @@ pub fn hex(bytes: &[u8]) -> String {
             parts.push(format!("{:02x}", bytes[at]));
             at += 1;
         }
+    }
+    if at < bytes.len() {
+        parts.push("..".to_string());
     }
     format!("[{}] {}", bytes.len(), parts.join(" "))
 }
@@ -45,7 +50,8 @@ fn show_call(call: &Call) {
         println!("  {:8} {}", name, hex(run));
     }
     println!("  layout   {:?}", String::from_utf8_lossy(&call.layout));
-    println!("  slots    {:?}", numbers(&call.slots));
+    let shown = &call.slots[..call.slots.len().min(SHOWN_BYTES)];
+    println!("  slots    {:?}", numbers(shown));
 }
 
 fn show_difference(which: Which, expected: &After, got: &After) {

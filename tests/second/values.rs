@@ -1,9 +1,11 @@
 //! Values of slots, and tables made of them.
 
-use crate::call::words;
+use crate::call::{numbers, words};
+use crate::limits::{ITEM_BYTES, SLOT_NUMBERS};
 
 #[derive(Clone, PartialEq, Eq, Debug)]
 pub enum Value {
+    Unset,
     Text(Vec<u8>),
     Signed(Vec<i64>),
     Unsigned(Vec<u64>),
@@ -12,6 +14,7 @@ pub enum Value {
 impl Value {
     pub fn kind(&self) -> u32 {
         match self {
+            Value::Unset => 0,
             Value::Text(_) => 1,
             Value::Signed(_) => 2,
             Value::Unsigned(_) => 3,
@@ -20,6 +23,7 @@ impl Value {
 
     pub fn items(&self) -> usize {
         match self {
+            Value::Unset => 0,
             Value::Text(bytes) => bytes.len(),
             Value::Signed(items) => items.len(),
             Value::Unsigned(items) => items.len(),
@@ -28,6 +32,7 @@ impl Value {
 
     pub fn bytes(&self) -> Vec<u8> {
         match self {
+            Value::Unset => Vec::new(),
             Value::Text(bytes) => bytes.clone(),
             Value::Signed(items) => items.iter().flat_map(|n| n.to_be_bytes()).collect(),
             Value::Unsigned(items) => items.iter().flat_map(|n| n.to_be_bytes()).collect(),
@@ -53,11 +58,42 @@ pub fn slot(kind: u32, start: usize, length: usize) -> Vec<u8> {
 }
 
 /// Slots and area bytes of values that lie one after another from `start` on.
+/// A value that is not set has start 0.
 pub fn table(values: &[Value], start: usize) -> (Vec<u8>, Vec<u8>) {
     let (mut slots, mut area) = (Vec::new(), Vec::new());
     for value in values {
-        slots.extend(slot(value.kind(), start + area.len(), value.items()));
+        let place = match value {
+            Value::Unset => 0,
+            _ => start + area.len(),
+        };
+        slots.extend(slot(value.kind(), place, value.items()));
         area.extend(value.bytes());
     }
     (slots, area)
+}
+
+/// The values that the slots show; each is not set or lies inside the area.
+pub fn shown(slots: &[u8], area: &[u8]) -> Vec<Value> {
+    let item = |bytes: &[u8]| {
+        let mut eight = [0; ITEM_BYTES];
+        eight.copy_from_slice(bytes);
+        u64::from_be_bytes(eight)
+    };
+    let value = |slot: &[u32]| {
+        let (length, rest) = (
+            slot[2] as usize,
+            &area[slot[1].min(area.len() as u32) as usize..],
+        );
+        let items = rest.chunks_exact(ITEM_BYTES).take(length).map(item);
+        match slot[0] {
+            0 => Value::Unset,
+            1 => text(&rest[..length]),
+            2 => Value::Signed(items.map(|n| n as i64).collect()),
+            _ => Value::Unsigned(items.collect()),
+        }
+    };
+    numbers(slots)
+        .chunks_exact(SLOT_NUMBERS)
+        .map(value)
+        .collect()
 }

@@ -1,6 +1,7 @@
 // The calls that a C host links to, each under its C name: the crates host_* hold what they do.
 ghost use mathlib.Core.Path.{_≡_};
 ghost use Rattle.host_record.specs.Calls.{curlewPack, curlewRead};
+ghost use Rattle.host_sheet.specs.Calls.{curlewSheetWrite, curlewSheetRead};
 
 // Packs the arguments into `out` by the layout (Tcl's `binary format`).
 #[no_mangle]
@@ -29,4 +30,31 @@ pub extern "C" fn curlew_read(
     ensures { λ r. ⌜ record { returned = r; slots = now (slots .exit); area = now (area .exit); reply = now (reply .exit) } ≡ curlewRead (now (layout .entry)) (now (bytes .entry)) (now (slots .entry)) (now (area .entry)) mark (now (reply .entry)) ⌝ }
 {
     host_record::read(layout, bytes, slots, area, mark, reply)
+}
+
+// Writes a table of slots as a sheet at the front of the buffer.
+#[no_mangle]
+pub extern "C" fn curlew_sheet_write(
+    slots: &[u8],
+    area: &[u8],
+    sheet: &mut [u8],
+    reply: &mut [u8],
+) -> u32
+    ensures { λ r. ⌜ record { returned = r; output = now (sheet .exit); reply = now (reply .exit) } ≡ curlewSheetWrite (now (slots .entry)) (now (area .entry)) (now (sheet .entry)) (now (reply .entry)) ⌝ }
+{
+    host_sheet::write(slots, area, sheet, reply)
+}
+
+// Reads a sheet, and sets slots and area.
+#[no_mangle]
+pub extern "C" fn curlew_sheet_read(
+    sheet: &[u8],
+    slots: &mut [u8],
+    area: &mut [u8],
+    mark: usize,
+    reply: &mut [u8],
+) -> u32
+    ensures { λ r. ⌜ record { returned = r; slots = now (slots .exit); area = now (area .exit); reply = now (reply .exit) } ≡ curlewSheetRead (now (sheet .entry)) (now (slots .entry)) (now (area .entry)) mark (now (reply .entry)) ⌝ }
+{
+    host_sheet::read(sheet, slots, area, mark, reply)
 }

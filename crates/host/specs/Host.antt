@@ -8,6 +8,8 @@ use Rattle.layout.specs.Refusals.{if_then_else_}
 use Rattle.record.specs.declared.Answer.{Answer}
 use Rattle.record.specs.Bytes.{pieces, join, digits, number, ordered}
 use Rattle.record.specs.Table.{slotWidth, maxSlots}
+use Rattle.record.specs.Packing.{Packed}
+use Rattle.record.specs.Reading.{Read}
 
 -- ---- numbers as bytes
 
@@ -60,3 +62,34 @@ guarded size reply slots unwritten refused served =
 -- a run of so many slot bytes is taken apart: the slots are whole, and no more than a call may be lent
 abbrev pub slotsFit : ℕ → Bool
 slotsFit size = leb size (slotSize * maxSlots) && eqb (size % slotSize) 0
+
+-- ---- what a call leaves
+
+-- A call that fills a buffer leaves: the number that it returns, every byte of the buffer, and every byte of the reply.
+pub record PackCall : Type 0 where
+  pub returned : ℕ
+  pub output : List ℕ
+  pub reply : List ℕ
+
+-- what the call on numbers leaves, as a C host sees it
+unfoldable pub packCall : Packed → PackCall
+unfolding replyOf
+packCall p = record { returned = p .answer .number; output = p .output; reply = replyOf (p .answer) }
+
+-- A call that sets slots leaves: the number that it returns, and every byte of the slots, of the area and of the reply.
+pub record ReadCall : Type 0 where
+  pub returned : ℕ
+  pub slots : List ℕ
+  pub area : List ℕ
+  pub reply : List ℕ
+
+-- what the call on numbers leaves, as a C host sees it: a refusal writes the reply alone
+unfoldable pub readCall : List ℕ → Read → ReadCall
+unfolding bytesOf replyOf
+readCall slots r =
+    record {
+      returned = r .answer .number;
+      slots = if eqb (r .answer .number) 0 then bytesOf (r .slots) else slots;
+      area = r .area;
+      reply = replyOf (r .answer);
+    }

@@ -1,10 +1,9 @@
 -- What each way out of a call leaves is what the definition gives.
-use Prim.Native.Nat.{ℕ, _*_, _%_, _<_}
+use Prim.Native.Nat.{ℕ, _*_, _<_}
 use native.Mathlib.Omega.{arith}
 use mathlib.Core.Path.{_≡_, sym, ap, _∙_}
 use mathlib.Core.Bool.{true, false}
 use mathlib.Core.List.{List}
-use borrow.Author.Tests.{eq-eqb, ne-eqb}
 use lib.Dec.{eqb}
 use lib.ListN.{length, take}
 use Rattle.layout.specs.declared.Refusal.the-variants.{BadSize}
@@ -18,10 +17,11 @@ use Rattle.record.specs.Packing.{refusal, packs, pack}
 use Rattle.record.specs.Reading.{reads, read}
 use Rattle.record.proofs.Sizes.{too-many}
 use Rattle.record.proofs.Readings.{over, read-over}
-use Rattle.host.specs.Host.{numberSize, replySize, numbersIn, bytesOf, replyOf, slotsFit}
-use Rattle.host.proofs.NumberLaws.{length-numbersIn, bytes-stored}
+use Rattle.host.specs.Host.{numberSize, replySize, numbersIn, bytesOf, replyOf, packCall, readCall, slotsFit}
+use Rattle.host.proofs.NumberLaws.{length-numbersIn}
 use Rattle.host.proofs.Guards.{Fit, guarded-unwritten, guarded-refused, guarded-served}
-use Rattle.host_record.specs.Calls.{packCall, curlewPack, readCall, curlewRead}
+use Rattle.host.proofs.Calls as host
+use Rattle.host_record.specs.Calls.{curlewPack, curlewRead}
 
 -- more slots than a call may be lent are refused with 1
 module _ (layout ns bs area : List ℕ) (many : slotWidth * maxSlots < length ns) where
@@ -42,8 +42,7 @@ module _ (layout slots area out : List ℕ) where
   -- the call on numbers, and the reply
   pub pack-replied : {ns out′ reply′ : List ℕ} {a : Answer} {r : ℕ} → ns ≡ numbersIn slots → record { answer = a; output = out′ } ≡ pack layout ns area out → (r ≡ a .number) × (reply′ ≡ replyOf a)
       → record { returned = r; output = out′; reply = reply′ } ≡ packCall (pack layout (numbersIn slots) area out)
-  unfolding packCall
-  pack-replied e p q = rw (← e, ← p, q .0, q .1)
+  pack-replied e p q = host.pack-replied q (p ∙ ap (λ (n : List ℕ). pack layout n area out) e)
 
   module _ (reply : List ℕ) where
     pub pack-unwritten : eqb (length reply) replySize ≡ false → record { returned = numberOf BadSize; output = out; reply = reply } ≡ curlewPack layout slots area out reply
@@ -73,18 +72,14 @@ module _ (layout bytes slots area : List ℕ) (mark : ℕ) where
         let same : length ns ≡ length (numbersIn slots) = rw length-numbersIn (omega arith) in
         read-over layout bytes area mark ns (numbersIn slots) same ∙ ap (over (numbersIn slots)) (sym p)
 
-    -- the call on numbers, and the reply: a refusal leaves the slots
+    -- a refusal leaves the slots
     pub read-left : (a .number ≡ 0 → ⊥) → record { returned = r; slots = slots; area = area′; reply = reply′ } ≡ readCall slots (read layout bytes (numbersIn slots) area mark)
-    unfolding readCall
-    read-left h = rw (lent, ne-eqb (a .number) 0 h, q .0, q .1)
+    read-left h = host.read-left q slots ns′ lent h
 
     -- and an accepted reading the bytes of those that it did not set
     pub read-set : {slots′ : List ℕ} → a .number ≡ 0 → All (λ b. b < 256) slots → slots′ ≡ storeAt slots 0 (bytesOf (take (a .first * slotWidth) ns′))
         → record { returned = r; slots = slots′; area = area′; reply = reply′ } ≡ readCall slots (read layout bytes (numbersIn slots) area mark)
-    unfolding readCall
-    read-set h below s =
-        let whole : length slots % numberSize ≡ 0 = omega arith in
-        rw (lent, eq-eqb (a .number) 0 h, bytes-stored slots (take (a .first * slotWidth) ns′) whole below, s, q .0, q .1)
+    read-set h below s = host.read-set q slots ns′ lent h (omega arith) below s
 
   module _ (reply : List ℕ) where
     pub read-unwritten : eqb (length reply) replySize ≡ false → record { returned = numberOf BadSize; slots = slots; area = area; reply = reply } ≡ curlewRead layout bytes slots area mark reply

@@ -14,8 +14,8 @@ use Rattle.record.specs.Bytes.{part, join, digits, number, numberAt}
 use Rattle.record.specs.Table.{slotWidth}
 use Rattle.record.specs.Reading.{Read, read}
 use Rattle.record.proofs.Bytes.{All, all-below, number-digits}
-use Rattle.host.specs.Host.{numberSize, slotSize, replySize, numberBytes, bigEndian, bytesOf, numbersIn, replyOf}
-use Rattle.host_record.specs.Calls.{ReadCall, readCall, curlewRead}
+use Rattle.host.specs.Host.{numberSize, slotSize, replySize, numberBytes, bigEndian, bytesOf, numbersIn, replyOf, ReadCall, readCall}
+use Rattle.host_record.specs.Calls.{curlewRead}
 use Rattle.host_record.specs.Claims.{Stay, UnsetStay}
 use Rattle.host.proofs.NumberLaws.{length-numberBytes, bytes-drop, bytes-back}
 use Rattle.record.proofs.Readings.{read-unset, read-few}

@@ -1,25 +1,13 @@
 -- Packing and reading for a C host (document 01, Slot tables). THE EFFECT OF A CALL is `curlewPack` and `curlewRead`.
 use Prim.Native.Nat.{ℕ}
 use mathlib.Core.List.{List}
-use lib.Dec.{eqb}
 use Rattle.layout.specs.declared.Refusal.the-variants.{BadSize}
-use Rattle.layout.specs.Refusals.{if_then_else_, numberOf}
-use Rattle.record.specs.Packing.{refusal, Packed, pack}
-use Rattle.record.specs.Reading.{Read, read}
-use Rattle.host.specs.Host.{replySize, numbersIn, bytesOf, replyOf, guarded}
+use Rattle.layout.specs.Refusals.{numberOf}
+use Rattle.record.specs.Packing.{refusal, pack}
+use Rattle.record.specs.Reading.{read}
+use Rattle.host.specs.Host.{replySize, numbersIn, PackCall, packCall, ReadCall, readCall, guarded}
 
 -- ---- packing
-
--- all that a call leaves: the number that it returns, every byte of the output buffer, and every byte of the reply
-pub record PackCall : Type 0 where
-  pub returned : ℕ
-  pub output : List ℕ
-  pub reply : List ℕ
-
--- what the call on numbers leaves, as a C host sees it
-unfoldable pub packCall : Packed → PackCall
-unfolding replyOf
-packCall p = record { returned = p .answer .number; output = p .output; reply = replyOf (p .answer) }
 
 unfoldable pub curlewPack : List ℕ → List ℕ → List ℕ → List ℕ → List ℕ → PackCall
 unfolding packCall numbersIn pack
@@ -30,24 +18,6 @@ curlewPack layout slots area output reply =
     (packCall (pack layout (numbersIn slots) area output))
 
 -- ---- reading
-
--- all that a call leaves: the number that it returns, and every byte of the slots, of the area and of the reply
-pub record ReadCall : Type 0 where
-  pub returned : ℕ
-  pub slots : List ℕ
-  pub area : List ℕ
-  pub reply : List ℕ
-
--- what the call on numbers leaves, as a C host sees it: a refusal writes the reply alone
-unfoldable pub readCall : List ℕ → Read → ReadCall
-unfolding bytesOf replyOf
-readCall slots r =
-    record {
-      returned = r .answer .number;
-      slots = if eqb (r .answer .number) 0 then bytesOf (r .slots) else slots;
-      area = r .area;
-      reply = replyOf (r .answer);
-    }
 
 unfoldable pub curlewRead : List ℕ → List ℕ → List ℕ → List ℕ → ℕ → List ℕ → ReadCall
 unfolding readCall numbersIn read

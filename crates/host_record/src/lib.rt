@@ -5,8 +5,8 @@ ghost use lib.ListN.{length};
 ghost use Rattle.record.specs.Table.{slotWidth};
 ghost use Rattle.record.specs.Packing.{pack};
 ghost use Rattle.record.specs.Reading.{read};
-ghost use Rattle.host.specs.Host.{numberSize, replySize, numbersIn};
-ghost use Rattle.host_record.specs.Calls.{packCall, curlewPack, readCall, curlewRead};
+ghost use Rattle.host.specs.Host.{numberSize, replySize, numbersIn, packCall, readCall};
+ghost use Rattle.host_record.specs.Calls.{curlewPack, curlewRead};
 use layout::Refusal;
 use record::Answer;
 

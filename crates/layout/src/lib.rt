@@ -70,6 +70,8 @@ pub enum Refusal {
     WrongAmount,
     BadDigit,
     NoRoom,
+    BadSheet,
+    BadVersion,
 }
 
 pub enum Count {

@@ -84,6 +84,8 @@ fn line_of(why: Refusal) -> u8
         Refusal::WrongAmount => 8,
         Refusal::BadDigit => 9,
         Refusal::NoRoom => 10,
+        Refusal::BadSheet => 11,
+        Refusal::BadVersion => 12,
     }
 }
 

@@ -1,4 +1,4 @@
--- The calls over a lent run of slot records: THE EFFECT OF A CALL is `pack` of the slots' numbers, and `readSlots`.
+-- Packing and reading over a slice of slot records (01, Slot tables): THE EFFECT OF A CALL is `pack` of the slots' numbers, and `readSlots`.
 use Prim.Native.Nat.{ℕ, suc, _+_, _*_}
 use mathlib.Core.List.{List, [], _∷_, _++_}
 use lib.ListN.{getD, set, take, drop}
@@ -13,7 +13,7 @@ use Rattle.slots.specs.declared.Slot.{Slot}
 
 -- ---- slots and numbers
 
--- "A slot is three 32-bit numbers: kind, start, length"
+-- the numbers of a slot, in the order of 01, Slot tables
 unfoldable pub numbersOf : List Slot → List ℕ
 numbersOf [] = []
 numbersOf (s ∷ ss) = s .kind ∷ s .start ∷ s .length ∷ numbersOf ss

@@ -1,0 +1,2 @@
+-- Laws of sheets for a C host.
+mod Calls

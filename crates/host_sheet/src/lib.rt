@@ -1,0 +1,70 @@
+// Sheets for a C host.
+ghost use mathlib.Core.Path.{_≡_};
+ghost use Prim.Native.Nat.{_*_, _%_};
+ghost use lib.ListN.{length};
+ghost use Rattle.record.specs.Table.{slotWidth};
+ghost use Rattle.host.specs.Host.{numberSize, replySize, numbersIn, packCall, readCall};
+ghost use Rattle.sheet.specs.Sheet.{write, read};
+ghost use Rattle.host_sheet.specs.Calls.{curlewSheetWrite, curlewSheetRead};
+use layout::Refusal;
+use record::Answer;
+
+// Writes a sheet, with room lent for the slots' numbers.
+fn write_by(slots: &[u8], area: &[u8], sheet: &mut [u8], reply: &mut [u8], room: &mut [u32]) -> u32
+    requires { ⌜ (length (now reply) ≡ replySize) × (length (now slots) ≡ length (now room) * numberSize) × (length (now room) % slotWidth ≡ 0) ⌝ }
+    ensures { λ r. ⌜ record { returned = r; output = now (sheet .exit); reply = now (reply .exit) } ≡ packCall (write (numbersIn (now (slots .entry))) (now (area .entry)) (now (sheet .entry))) ⌝ }
+{
+    host::numbers::decode(slots, room);
+    let a = sheet::write(room, area, sheet);
+    host::reply_with(reply, a)
+}
+
+// Reads a sheet, with room lent for the slots' numbers: what stands there does not count. Only the slots that an accepted reading set are written back.
+fn read_by(
+    sheet: &[u8],
+    slots: &mut [u8],
+    area: &mut [u8],
+    mark: usize,
+    reply: &mut [u8],
+    room: &mut [u32],
+) -> u32
+    requires { ⌜ (length (now reply) ≡ replySize) × (length (now slots) ≡ length (now room) * numberSize) ⌝ }
+    ensures { λ r. ⌜ record { returned = r; slots = now (slots .exit); area = now (area .exit); reply = now (reply .exit) } ≡ readCall (now (slots .entry)) (read (now (sheet .entry)) (numbersIn (now (slots .entry))) (now (area .entry)) mark) ⌝ }
+{
+    let a = sheet::read(sheet, room, area, mark);
+    if a.number != 0 {
+        return host::reply_with(reply, a);
+    }
+    host::numbers::encode(slots, room, a.first as usize);
+    host::reply_with(reply, a)
+}
+
+// Writes a table of slots as a sheet at the front of the buffer.
+pub fn write(slots: &[u8], area: &[u8], sheet: &mut [u8], reply: &mut [u8]) -> u32
+    ensures { λ r. ⌜ record { returned = r; output = now (sheet .exit); reply = now (reply .exit) } ≡ curlewSheetWrite (now (slots .entry)) (now (area .entry)) (now (sheet .entry)) (now (reply .entry)) ⌝ }
+{
+    if !host::reply_fits(reply.len()) {
+        return 1;
+    }
+    if !host::slots_fit(slots.len()) {
+        return host::reply_with(reply, Answer::refused(Refusal::BadSize, 0));
+    }
+    let n = slots.len() / host::numbers::NUMBER_SIZE;
+    let mut room: [u32; host::MAX_NUMBERS] = [0; host::MAX_NUMBERS];
+    write_by(slots, area, sheet, reply, &mut room[..n])
+}
+
+// Reads a sheet, and sets slots and area.
+pub fn read(sheet: &[u8], slots: &mut [u8], area: &mut [u8], mark: usize, reply: &mut [u8]) -> u32
+    ensures { λ r. ⌜ record { returned = r; slots = now (slots .exit); area = now (area .exit); reply = now (reply .exit) } ≡ curlewSheetRead (now (sheet .entry)) (now (slots .entry)) (now (area .entry)) mark (now (reply .entry)) ⌝ }
+{
+    if !host::reply_fits(reply.len()) {
+        return 1;
+    }
+    if !host::slots_fit(slots.len()) {
+        return host::reply_with(reply, Answer::refused(Refusal::BadSize, 0));
+    }
+    let n = slots.len() / host::numbers::NUMBER_SIZE;
+    let mut room: [u32; host::MAX_NUMBERS] = [0; host::MAX_NUMBERS];
+    read_by(sheet, slots, area, mark, reply, &mut room[..n])
+}

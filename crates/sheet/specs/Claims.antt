@@ -1,0 +1,87 @@
+-- What a sheet keeps (02, M-100): two claims on the calls, for all tables, sheets, areas, marks and buffers, and both calls one after the
+-- other. The proofs are in proofs/Claims.antt, and proofs/Instance.antt meets the premises.
+use Prim.Native.Nat.{ℕ, _+_, _*_, _≤_, _<_}
+use mathlib.Core.Path.{_≡_}
+use mathlib.Core.List.{List, [], _++_, map}
+use lib.ListN.{length, take, drop, getD}
+use lib.Dec.{T, eqb}
+use Rattle.layout.specs.Refusals.{if_then_else_}
+use Rattle.record.specs.declared.Answer.{Answer}
+use Rattle.record.specs.declared.slots.Slot.{Slot}
+use Rattle.record.specs.Table.{unset, slotsOf, slotWidth, Value, shown}
+use Rattle.record.specs.Geometry.{tableFits}
+use Rattle.record.specs.Packing.{accepted, Packed}
+use Rattle.record.specs.Reading.{Read}
+use Rattle.sheet.specs.Entries.{valueBytes}
+use Rattle.sheet.specs.Sheet.{maxSheet, entriesOf, write, putInto, read}
+
+-- what a slot shows; one that is not set shows no more than that
+unfoldable pub seen : List ℕ → Slot → Value
+unfolding shown
+seen area s = if eqb (s .kind) unset then record { kind = unset; items = [] } else shown area s
+
+-- the sheet that a call of the writer left at the front of its buffer
+abbrev pub sheetOf : Packed → List ℕ
+sheetOf w = take (w .answer .first) (w .output)
+
+-- ---- table to sheet and back
+
+-- The writer accepts a table, and a reading of its sheet into another table has slots and room.
+pub record Stored (slots area buffer table values : List ℕ) (mark : ℕ) : Type 0 where
+  pub writing : write slots area buffer .answer .number ≡ 0
+  pub sizes : T (tableFits (length table) (length values))
+  pub enough-slots : length (slotsOf slots) ≤ length (slotsOf table)
+  pub room : mark + length (valueBytes (entriesOf area (slotsOf slots))) ≤ length values
+
+-- What a reading leaves then: it is accepted and puts in the entries of the first table, as many as that had slots, and each slot shows
+-- what it showed there, "not set" too.
+pub record KeepsValues (slots area table values : List ℕ) (mark : ℕ) (r : Read) : Type 0 where
+  pub effect : r ≡ putInto table values mark (entriesOf area (slotsOf slots))
+  pub count : r .answer .first ≡ length (slotsOf slots)
+  pub shows : map (seen (r .area)) (take (length (slotsOf slots)) (slotsOf (r .slots))) ≡ map (seen area) (slotsOf slots)
+
+abbrev pub TableKept : Type 0
+TableKept =
+    (slots area buffer table values : List ℕ) (mark : ℕ) → Stored slots area buffer table values mark
+    → KeepsValues slots area table values mark (read (sheetOf (write slots area buffer)) table values mark)
+
+-- ---- sheet to table and back
+
+-- The reader accepts a sheet, and a buffer has room for it.
+pub record Loaded (sheet slots area : List ℕ) (mark : ℕ) (buffer : List ℕ) : Type 0 where
+  pub bytes : (i : ℕ) → getD sheet i 0 < 256
+  pub reading : read sheet slots area mark .answer .number ≡ 0
+  pub size : length buffer ≤ maxSheet
+  pub room : length sheet ≤ length buffer
+
+-- the slots that a reading set, written
+abbrev pub rewritten : Read → List ℕ → Packed
+rewritten r buffer = write (take (slotWidth * r .answer .first) (r .slots)) (r .area) buffer
+
+-- The sheet stands in the buffer again, byte for byte.
+abbrev pub SheetKept : Type 0
+SheetKept =
+    (sheet slots area : List ℕ) (mark : ℕ) (buffer : List ℕ) → Loaded sheet slots area mark buffer
+    → rewritten (read sheet slots area mark) buffer ≡ record { answer = accepted (length sheet) 0; output = sheet ++ drop (length sheet) buffer }
+
+-- ---- both calls one after the other
+
+-- all that they leave: the last answer, the writer's buffer, and the reader's table and area
+pub record Kept : Type 0 where
+  pub answer : Answer
+  pub buffer : List ℕ
+  pub slots : List ℕ
+  pub area : List ℕ
+
+abbrev pub thenRead : Packed → Read → Kept
+thenRead w r = record { answer = r .answer; buffer = w .output; slots = r .slots; area = r .area }
+
+-- what the reader leaves of that
+abbrev pub readPart : Kept → Read
+readPart k = record { answer = k .answer; slots = k .slots; area = k .area }
+
+-- where the writer refuses nothing is read
+unfoldable pub kept : List ℕ → List ℕ → List ℕ → List ℕ → List ℕ → ℕ → Kept
+kept slots area buffer table values mark =
+    let w = write slots area buffer in
+    thenRead w (if eqb (w .answer .number) 0 then read (sheetOf w) table values mark else record { answer = w .answer; slots = table; area = values })

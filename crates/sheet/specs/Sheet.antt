@@ -1,0 +1,150 @@
+-- Storing a table as a sheet and reading it back (02, M-100): THE EFFECTS OF THE CALLS are `write` and `read`.
+use Prim.Native.Nat.{ℕ, suc, _+_, _*_, _/_, _^_}
+use mathlib.Core.Bool.{Bool, true, _&&_, _||_}
+use mathlib.Core.List.{List, [], _∷_, _++_, map}
+use lib.ListN.{length, drop}
+use lib.Dec.{eqb, leb, ltb}
+use Rattle.layout.specs.declared.Refusal.the-variants.{BadSize, WrongSlots, BadSlot, NoRoom, BadSheet, BadVersion}
+use Rattle.layout.specs.Refusals.{if_then_else_, Result, ok, refused, _>>=_, demand}
+use Rattle.record.specs.Bytes.{part, storeAt, numberBytes, numberAt}
+use Rattle.record.specs.declared.slots.Slot.{Slot}
+use Rattle.record.specs.Table.{unset, slotsOf, slotWidth, itemSize}
+use Rattle.record.specs.Slots.{isInside}
+use Rattle.record.specs.Geometry.{tableFits}
+use Rattle.record.specs.Packing.{accepted, refusal, Packed, packEffect}
+use Rattle.record.specs.Reading.{Read}
+use Rattle.sheet.specs.Entries.{Entry, bodyBytes, valueBytes, entriesIn}
+
+-- ---- the format
+
+-- the version, and how many bytes its lengths have
+abbrev pub version : ℕ
+version = 1
+
+abbrev pub lengthWidth : ℕ
+lengthWidth = 2
+
+-- the bytes of the header: the version and a length
+abbrev pub headerSize : ℕ → ℕ
+headerSize w = suc w
+
+-- entries as a sheet: the version, the length of all that follows, the entries
+unfoldable pub sheetBytes : ℕ → ℕ → List Entry → List ℕ
+unfolding numberBytes bodyBytes
+sheetBytes v w es = v ∷ (numberBytes w (length (bodyBytes w es)) ++ bodyBytes w es)
+
+-- so much can stand in a length
+abbrev pub inLength : ℕ → ℕ → Bool
+inLength w n = ltb n (256 ^ w)
+
+-- ---- sizes (number 1)
+
+-- the longest sheet, and the longest buffer for one
+abbrev pub maxSheet : ℕ
+maxSheet = 65538
+
+-- slots, area, and sheet or buffer, by their lengths
+abbrev pub lengthsFit : ℕ → ℕ → ℕ → Bool
+lengthsFit slots area sheet = tableFits slots area && leb sheet maxSheet
+
+-- ---- writing
+
+-- the bytes of a slot's value: none where it is not set
+abbrev pub valueSize : Slot → ℕ
+valueSize s = if eqb (s .kind) unset then 0 else s .len * itemSize (s .kind)
+
+-- a slot as an entry
+unfoldable pub entryOf : List ℕ → Slot → Entry
+entryOf area s = record { kind = s .kind; value = part area (s .start) (valueSize s) }
+
+-- a table as entries
+unfoldable pub entriesOf : List ℕ → List Slot → List Entry
+unfolding entryOf
+entriesOf area ts = map (entryOf area) ts
+
+-- not number 7: the slot is not set, or of a known kind with its value inside an area of so many bytes
+abbrev pub slotFits : ℕ → Slot → Bool
+slotFits area s = eqb (s .kind) unset || isInside s area
+
+-- slot by slot from number i on
+unfoldable pub slotsFit : List ℕ → ℕ → List Slot → Result (Unit {0})
+slotsFit area i [] = ok tt
+slotsFit area i (t ∷ ts) = demand (slotFits (length area) t) BadSlot i >>= (λ _. slotsFit area (suc i) ts)
+
+-- the sheet of a table, or the first refusal of 1, 7 and 11
+unfoldable pub writes : List ℕ → List ℕ → List ℕ → Result (List ℕ)
+unfolding slotsOf slotsFit entriesOf sheetBytes bodyBytes
+writes slots area buffer = do
+  _ ← demand (lengthsFit (length slots) (length area) (length buffer)) BadSize 0
+  _ ← slotsFit area 0 (slotsOf slots)
+  let es = entriesOf area (slotsOf slots)
+  let bs = sheetBytes version lengthWidth es
+  _ ← demand (inLength lengthWidth (length (bodyBytes lengthWidth es)) && leb (length bs) (length buffer)) NoRoom 0
+  ok bs
+
+-- It leaves what packing does: the answer 0, the length of the sheet, 0, and the buffer with the sheet at its front, the bytes after it
+-- as lent. A refusal changes nothing.
+unfoldable pub write : List ℕ → List ℕ → List ℕ → Packed
+unfolding writes
+write slots area buffer = packEffect buffer (writes slots area buffer)
+
+-- ---- reading
+
+-- not number 13: there is no first byte, or it is the version
+unfoldable pub versionFits : List ℕ → Bool
+versionFits [] = true
+versionFits (b ∷ bs) = eqb b version
+
+-- the header is whole, and its length is that of what follows
+unfoldable pub headerFits : ℕ → List ℕ → Bool
+unfolding numberAt
+headerFits w sheet = leb (headerSize w) (length sheet) && eqb (headerSize w + numberAt w sheet 1) (length sheet)
+
+-- the whole entries after a sheet's header
+abbrev pub entriesAt : ℕ → List ℕ → List Entry
+entriesAt w sheet = entriesIn w (drop (headerSize w) sheet)
+
+-- where they end: at the end of the sheet, or at the first entry that is wrong
+unfoldable pub entriesEnd : ℕ → List Entry → ℕ
+unfolding bodyBytes
+entriesEnd w es = headerSize w + length (bodyBytes w es)
+
+-- the entries of a sheet, or the first refusal of 1, 13, 12, 5 and 11
+unfoldable pub reads : List ℕ → List ℕ → List ℕ → ℕ → Result (List Entry)
+unfolding versionFits headerFits entriesIn entriesEnd slotsOf valueBytes
+reads sheet slots area mark = do
+  _ ← demand (lengthsFit (length slots) (length area) (length sheet) && leb mark (length area)) BadSize 0
+  _ ← demand (versionFits sheet) BadVersion 0
+  _ ← demand (headerFits lengthWidth sheet) BadSheet 0
+  let es = entriesAt lengthWidth sheet
+  _ ← demand (eqb (entriesEnd lengthWidth es) (length sheet)) BadSheet (entriesEnd lengthWidth es)
+  _ ← demand (leb (length es) (length (slotsOf slots))) WrongSlots 0
+  _ ← demand (leb (mark + length (valueBytes es)) (length area)) NoRoom 0
+  ok es
+
+-- the numbers of a slot whose value is put at the place `start`: an entry that is not set has start and length 0
+abbrev pub entryNumbers : ℕ → Entry → List ℕ
+entryNumbers start e = e .kind ∷ (if eqb (e .kind) unset then 0 else start) ∷ (length (e .value) / itemSize (e .kind)) ∷ []
+
+unfoldable pub slotNumbers : ℕ → List Entry → List ℕ
+slotNumbers start [] = []
+slotNumbers start (e ∷ es) = entryNumbers start e ++ slotNumbers (start + length (e .value)) es
+
+-- entries put into a table and an area, from the start mark on and without gaps; what they do not cover stays as lent
+unfoldable pub putInto : List ℕ → List ℕ → ℕ → List Entry → Read
+unfolding slotNumbers valueBytes
+putInto slots area mark es =
+    record {
+      answer = accepted (length es) (mark + length (valueBytes es));
+      slots = slotNumbers mark es ++ drop (slotWidth * length es) slots;
+      area = storeAt area mark (valueBytes es);
+    }
+
+-- a refusal changes nothing
+abbrev pub readEffect : List ℕ → List ℕ → ℕ → Result (List Entry) → Read
+readEffect slots area mark (ok es) = putInto slots area mark es
+readEffect slots area mark (refused why place) = record { answer = refusal why place; slots = slots; area = area }
+
+unfoldable pub read : List ℕ → List ℕ → List ℕ → ℕ → Read
+unfolding reads putInto
+read sheet slots area mark = readEffect slots area mark (reads sheet slots area mark)

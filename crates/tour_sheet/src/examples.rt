@@ -1,0 +1,96 @@
+// Lists of examples, one a line: `w` and a table to write, or `r` and a sheet to read. No sheet among them has the byte 0a.
+use super::reading;
+use super::writing;
+use tour_text::lines;
+
+fn example(kind: u8, rest: &[u8]) {
+    match kind {
+        b'w' => writing::example(rest),
+        _ => reading::example(rest),
+    }
+}
+
+fn line(text: &[u8]) {
+    if text.len() < 2 {
+        return;
+    }
+    example(text[0], &text[2..]);
+}
+
+fn run(list: &[u8]) {
+    let mut at = 0;
+    while at < list.len() {
+        let end = lines::find(list, at, b'\n');
+        line(&list[at..end]);
+        at = end + 1;
+    }
+}
+
+// The request's own table; values that are empty, zero and long, and slots that are not set among them.
+pub fn written() {
+    run(
+        br#"
+w - "OK" {-2}
+w - - -
+w "" {} -
+w {0} - {0}
+w {1 258} - "a"
+"#,
+    );
+}
+
+// The request's own sheet, the table of no slots, one that is not set, empty values, zero, an unsigned integer, and two integers.
+pub fn read() {
+    run(
+        b"
+r \x01\x00\x13\x00\x01\x00\x00\x03\x01OK\x00\x09\x02\xff\xff\xff\xff\xff\xff\xff\xfe
+r \x01\x00\x00
+r \x01\x00\x03\x00\x01\x00
+r \x01\x00\x09\x00\x01\x01\x00\x01\x02\x00\x01\x03
+r \x01\x00\x0b\x00\x09\x02\x00\x00\x00\x00\x00\x00\x00\x00
+r \x01\x00\x0b\x00\x09\x03\xff\xff\xff\xff\xff\xff\xff\xff
+r \x01\x00\x13\x00\x11\x02\x00\x00\x00\x00\x00\x00\x00\x01\x00\x00\x00\x00\x00\x00\x01\x02
+",
+    );
+}
+
+// Number 13, also where the sheet is too short. Number 12 at the header: too short, too small, too large, the low byte first, counting itself.
+pub fn headers() {
+    run(
+        b"
+r \x02\x00\x00
+r \x00\x00\x00
+r \x02
+r \xff\x00\x01
+r \x01
+r \x01\x00
+r \x01\x00\x02\x00\x01\x00
+r \x01\x00\x04\x00\x01\x00
+r \x01\x03\x00\x00\x01\x00
+r \x01\x00\x06\x00\x01\x00
+",
+    );
+}
+
+// Number 12 at the first entry whose length is wrong, by itself or for its kind, or whose kind is; and number 5, which comes after it.
+pub fn entries() {
+    run(
+        b"
+r \x01\x00\x01\x00
+r \x01\x00\x04\x00\x01\x00\x00
+r \x01\x00\x02\x00\x00
+r \x01\x00\x02\x00\x01
+r \x01\x00\x03\x00\x02\x01
+r \x01\x00\x08\x00\x02\x01A\x00\x03\x01B
+r \x01\x00\x05\x00\x00\x00\x01\x00
+r \x01\x00\x04\x00\x02\x00\x00
+r \x01\x00\x04\x00\x02\x02\x07
+r \x01\x00\x07\x00\x01\x00\x00\x02\x03\x07
+r \x01\x00\x03\x00\x01\x04
+r \x01\x00\x06\x00\x01\x00\x00\x01\xff
+r \x01\x00\x06\x00\x01\x04\x00\x01\x04
+r \x01\x00\x0c\x00\x01\x00\x00\x01\x00\x00\x01\x00\x00\x01\x00
+r \x01\x00\x0d\x00\x01\x00\x00\x01\x00\x00\x01\x00\x00\x01\x00\x00
+",
+    );
+}

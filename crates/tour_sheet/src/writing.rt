@@ -1,0 +1,167 @@
+// Tables as sheets.
+use record::MAX_AREA;
+use record::MAX_NUMBERS;
+use record::SLOT_WIDTH;
+use sheet::MAX_SHEET;
+use tour_text::notation;
+use tour_text::print;
+use tour_text::print::Style;
+use tour_text::values;
+
+// Writes a table, and prints the line; `told` names what is lent.
+fn show(told: &[u8], slots: &[u32], area: &[u8], sheet: &mut [u8]) {
+    let a = sheet::write(slots, area, sheet);
+    print::text(b"write");
+    print::lent(told);
+    print::answer(a.number, a.first, a.second);
+    print::result(a.number, a.first as usize, sheet);
+    print::text(b"\n");
+}
+
+// Writes a table and reads the sheet into three slots.
+fn keep(told: &[u8], slots: &[u32], area: &[u8], table: &mut [u32]) {
+    let mut sheet = [0u8; 64];
+    let mut kept = [0u8; 64];
+    let a = sheet::keep(slots, area, &mut sheet, table, &mut kept, 4);
+    print::text(b"keep");
+    print::lent(told);
+    print::answer(a.number, a.first, a.second);
+    values::result(a.number, table, &kept);
+    print::text(b"\n");
+}
+
+fn both(told: &[u8], slots: &[u32], area: &[u8]) {
+    show(told, slots, area, &mut [0; 64]);
+    keep(told, slots, area, &mut [9; 3 * SLOT_WIDTH]);
+}
+
+// The table that a text names.
+pub fn example(told: &[u8]) {
+    let mut slots = [0u32; MAX_NUMBERS];
+    let mut area = [0u8; 64];
+    let used = notation::parse(told, &mut slots, &mut area);
+    both(
+        told,
+        notation::slots(&slots, used),
+        notation::area(&area, used),
+    );
+}
+
+// A table over an area of two bytes, into a buffer of 64 bytes.
+fn placed(told: &[u8], slots: &[u32]) {
+    show(told, slots, b"xy", &mut [0; 64]);
+}
+
+// Tables that no text names: no slots, an unsigned integer, a slot that is not set and says more, an empty value at the area's end.
+pub fn slots() {
+    placed(b"no slots", &[0; 0]);
+    show(
+        b"slot 3 0 1 over eight bytes ff",
+        &[3, 0, 1],
+        &[255; 8],
+        &mut [0; 64],
+    );
+    placed(b"slot 0 4294967295 7", &[0, 4294967295, 7]);
+    placed(b"slot 1 2 0 over two bytes", &[1, 2, 0]);
+}
+
+// Number 7.
+fn bad_slots() {
+    placed(b"slot 1 3 0 over two bytes", &[1, 3, 0]);
+    placed(b"slot 1 1 2 over two bytes", &[1, 1, 2]);
+    placed(b"slot 2 0 1 over two bytes", &[2, 0, 1]);
+    placed(b"slots 0 0 0, 4 0 0, 5 0 0", &[0, 0, 0, 4, 0, 0, 5, 0, 0]);
+}
+
+// Number 11, which comes after 7.
+fn rooms() {
+    show(
+        b"slot 1 0 2, buffer of 8 bytes",
+        &[1, 0, 2],
+        b"OK",
+        &mut [0; 8],
+    );
+    show(
+        b"slot 1 0 2, buffer of 7 bytes",
+        &[1, 0, 2],
+        b"OK",
+        &mut [0; 7],
+    );
+    show(b"no slots, buffer of 2 bytes", &[0; 0], b"", &mut [0; 2]);
+    show(
+        b"slot 1 0 3, buffer of 2 bytes",
+        &[1, 0, 3],
+        b"OK",
+        &mut [0; 2],
+    );
+}
+
+pub fn refusals() {
+    bad_slots();
+    rooms();
+}
+
+// Writes slots over an area as long as any, into a buffer as long as any.
+fn long(told: &[u8], slots: &[u32]) {
+    show(told, slots, &[b'z'; MAX_AREA], &mut [0; MAX_SHEET]);
+}
+
+// The longest that a sheet can be, and one byte more: number 11.
+fn lengths() {
+    long(b"slot 1 0 65532", &[1, 0, 65532]);
+    long(b"slot 1 0 65533", &[1, 0, 65533]);
+    long(b"slots 1 0 32768, 1 0 32768", &[1, 0, 32768, 1, 0, 32768]);
+}
+
+// Number 1: slots, area and buffer at their limits and above.
+pub fn sizes() {
+    lengths();
+    show(
+        b"as many slots as can be",
+        &[0; MAX_NUMBERS],
+        b"",
+        &mut [0; 256],
+    );
+    show(
+        b"a slot more",
+        &[0; MAX_NUMBERS + SLOT_WIDTH],
+        b"",
+        &mut [0; 256],
+    );
+    placed(b"a number more than a slot", &[0; SLOT_WIDTH + 1]);
+    show(
+        b"area over its size",
+        &[0; 0],
+        &[0; MAX_AREA + 1],
+        &mut [0; 8],
+    );
+    show(
+        b"buffer over its size",
+        &[0; 0],
+        b"",
+        &mut [0; MAX_SHEET + 1],
+    );
+}
+
+// Writes into eight bytes aa, and prints all that they then hold.
+fn whole(told: &[u8], slots: &[u32]) {
+    let mut sheet = [0xaau8; 8];
+    let a = sheet::write(slots, b"OKOK", &mut sheet);
+    print::text(b"write");
+    print::lent(told);
+    print::lent(b"over OKOK into eight bytes aa");
+    print::answer(a.number, a.first, a.second);
+    print::text(b"; buffer");
+    print::bytes(&sheet, Style::Hex);
+    print::text(b"\n");
+}
+
+// Bytes past the sheet stay as lent, and all of the buffer of a refused call does.
+pub fn kept() {
+    whole(b"no slots", &[0; 0]);
+    whole(b"slot 0 0 0", &[0, 0, 0]);
+    whole(b"slot 1 0 2", &[1, 0, 2]);
+    whole(b"slot 1 0 3", &[1, 0, 3]);
+    whole(b"slots 1 0 2, 1 4 1", &[1, 0, 2, 1, 4, 1]);
+    whole(b"a number more than a slot", &[0; SLOT_WIDTH + 1]);
+}

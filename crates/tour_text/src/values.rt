@@ -1,0 +1,144 @@
+// The values that slots show: strings in quotes, integers in braces, `not set` for a slot that is not set.
+use super::print;
+use super::print::Style;
+use record::SLOT_WIDTH;
+use record::numbers::INTEGER_SIZE;
+
+// Of a table longer than this, only a few slots at either end are shown.
+const LONG: usize = 8 * SLOT_WIDTH;
+
+const FEW: usize = 2 * SLOT_WIDTH;
+
+fn part(run: &[u8], start: usize, n: usize) -> &[u8] {
+    if run.len() < start {
+        return run;
+    }
+    if run.len() - start < n {
+        return run;
+    }
+    let end = start + n;
+    &run[start..end]
+}
+
+fn integer(n: u64, signed: bool) {
+    if signed {
+        if 9223372036854775807 < n {
+            print::text(b"-");
+            print::number(18446744073709551615 - n + 1);
+            return;
+        }
+    }
+    print::number(n);
+}
+
+// What stands before an item: nothing before the first, else a space, after a comma or not.
+fn between(i: usize, comma: bool) {
+    if i == 0 {
+        return;
+    }
+    if comma {
+        print::text(b",");
+    }
+    print::text(b" ");
+}
+
+fn integers(run: &[u8], signed: bool) {
+    let n = run.len() / INTEGER_SIZE;
+    let mut i = 0;
+    while i < n {
+        between(i, false);
+        integer(
+            record::numbers::number_at(run, i * INTEGER_SIZE, INTEGER_SIZE),
+            signed,
+        );
+        i += 1;
+    }
+}
+
+// Of a long run the first two and the last two.
+fn few_integers(run: &[u8], signed: bool) {
+    if run.len() <= 128 {
+        integers(run, signed);
+        return;
+    }
+    let last = run.len() - 16;
+    integers(&run[0..16], signed);
+    print::text(b" .. ");
+    integers(&run[last..], signed);
+}
+
+fn list(run: &[u8], signed: bool) {
+    print::text(b"{");
+    few_integers(run, signed);
+    print::text(b"}");
+}
+
+fn string(run: &[u8]) {
+    print::text(b"\"");
+    print::shortened(run, Style::Escaped);
+    print::text(b"\"");
+}
+
+fn value(kind: u32, start: u32, length: u32, area: &[u8]) {
+    match kind {
+        0 => print::text(b"not set"),
+        1 => string(part(area, start as usize, length as usize)),
+        2 => list(
+            part(area, start as usize, length as usize * INTEGER_SIZE),
+            true,
+        ),
+        _ => list(
+            part(area, start as usize, length as usize * INTEGER_SIZE),
+            false,
+        ),
+    }
+}
+
+// The value of the slot whose numbers start at k, if there is one.
+fn slot(slots: &[u32], k: usize, area: &[u8]) {
+    if slots.len() < SLOT_WIDTH {
+        return;
+    }
+    if slots.len() - SLOT_WIDTH < k {
+        return;
+    }
+    value(slots[k], slots[k + 1], slots[k + 2], area);
+}
+
+fn all(slots: &[u32], area: &[u8]) {
+    let mut k = 0;
+    while k < slots.len() {
+        between(k, true);
+        slot(slots, k, area);
+        k += SLOT_WIDTH;
+    }
+}
+
+// The values of a table; of a long one the first two and the last two.
+pub fn table(slots: &[u32], area: &[u8]) {
+    if slots.len() <= LONG {
+        all(slots, area);
+        return;
+    }
+    let last = slots.len() - FEW;
+    all(&slots[0..FEW], area);
+    print::text(b", .. ");
+    all(&slots[last..], area);
+}
+
+// The values that an accepted call left.
+pub fn result(number: u32, slots: &[u32], area: &[u8]) {
+    if number != 0 {
+        return;
+    }
+    print::text(b": ");
+    table(slots, area);
+}
+
+// Every number and every byte of a table.
+pub fn whole(slots: &[u32], area: &[u8]) {
+    print::text(b"; slots");
+    print::numbers(slots);
+    print::text(b"; area");
+    print::bytes(area, Style::Hex);
+}

@@ -1,0 +1,159 @@
+/*
+ * What the host tests share: checks that are counted, tables of values, and the runs of a call, each lent between
+ * closed pages (guard.h) and compared with what it should hold after the call.
+ */
+#ifndef HARNESS_H
+#define HARNESS_H
+
+#ifndef _DEFAULT_SOURCE
+#define _DEFAULT_SOURCE
+#endif
+#include "curlew.h"
+#include "guard.h"
+
+#include <stdarg.h>
+
+/* A test program uses what it needs of this. */
+#ifdef __GNUC__
+#define MAYBE __attribute__((unused))
+#else
+#define MAYBE
+#endif
+
+static unsigned long checks, failures;
+
+static MAYBE void check(int good, const char *name, const char *what)
+{
+    checks++;
+    if (good)
+        return;
+    failures++;
+    printf("failed: %s: %s\n", name, what);
+}
+
+/* ---- tables of values ---- */
+
+struct values {
+    uint8_t slots[(CURLEW_MAX_SLOTS + 1) * CURLEW_SLOT_SIZE];
+    size_t count;
+    uint8_t area[CURLEW_MAX_AREA + 1];
+    size_t used;
+};
+
+static MAYBE void begin(struct values *v, size_t used)
+{
+    memset(v, 0, sizeof *v);
+    v->used = used;
+}
+
+static MAYBE void add_bytes(struct values *v, const void *bytes, size_t len)
+{
+    memcpy(v->area + v->used, bytes, len);
+    curlew_put_slot(v->slots, v->count++, CURLEW_STRING, (uint32_t)v->used, (uint32_t)len);
+    v->used += len;
+}
+
+static MAYBE void add_text(struct values *v, const char *text)
+{
+    add_bytes(v, text, strlen(text));
+}
+
+/* Adds a list of `count` integers, given as long long. */
+static MAYBE void add_list(struct values *v, uint32_t kind, int count, ...)
+{
+    va_list list;
+    int i;
+
+    curlew_put_slot(v->slots, v->count++, kind, (uint32_t)v->used, (uint32_t)count);
+    va_start(list, count);
+    for (i = 0; i < count; i++) {
+        curlew_put_int(v->area + v->used, va_arg(list, long long));
+        v->used += CURLEW_ITEM_SIZE;
+    }
+    va_end(list);
+}
+
+static MAYBE void add_same(struct values *v, uint32_t kind, size_t count, int64_t value)
+{
+    size_t i;
+
+    curlew_put_slot(v->slots, v->count++, kind, (uint32_t)v->used, (uint32_t)count);
+    for (i = 0; i < count; i++) {
+        curlew_put_int(v->area + v->used, value);
+        v->used += CURLEW_ITEM_SIZE;
+    }
+}
+
+/* Adds a slot that is not set, with a start and a length that mean nothing. */
+static MAYBE void add_unset(struct values *v, uint32_t start, uint32_t length)
+{
+    curlew_put_slot(v->slots, v->count++, CURLEW_UNSET, start, length);
+}
+
+/* Prints how many checks there were, and tells whether all held. */
+static int summary(void)
+{
+    printf("%lu checks, %lu failed\n", checks, failures);
+    return failures == 0 ? 0 : 1;
+}
+
+/* ---- the runs of a call ---- */
+
+/* A run that is lent with these bytes (without bytes, the pattern of guard.h). Where the call should write it, `after` lies
+ * from byte `at` on when it returns. */
+struct run {
+    const char *name;
+    struct guard guard;
+    const void *bytes;
+    size_t len;
+    int writable;
+    const void *after;
+    size_t at, after_len;
+};
+
+static MAYBE void lend_runs(struct run *const *runs, size_t count, enum place place)
+{
+    size_t i;
+
+    for (i = 0; i < count; i++) {
+        guard_lend(&runs[i]->guard, (const uint8_t *)runs[i]->bytes, runs[i]->len, place);
+        if (!runs[i]->writable)
+            guard_protect(&runs[i]->guard, PROT_READ);
+    }
+}
+
+static MAYBE void check_runs(struct run *const *runs, size_t count, const char *name)
+{
+    size_t i;
+
+    for (i = 0; i < count; i++) {
+        if (runs[i]->after_len > 0)
+            memcpy(guard_expected(&runs[i]->guard) + runs[i]->at, runs[i]->after, runs[i]->after_len);
+        check(guard_holds(&runs[i]->guard), name, runs[i]->name);
+    }
+}
+
+static MAYBE void open_run(struct run *run, const char *name, int writable)
+{
+    run->name = name;
+    run->writable = writable;
+    guard_open(&run->guard);
+}
+
+/* What a run holds before the call, with nothing expected to change. */
+static MAYBE void set_run(struct run *run, const void *bytes, size_t len)
+{
+    run->bytes = bytes;
+    run->len = len;
+    run->after_len = 0;
+}
+
+/* What the call should leave in a run, from byte `at` on. */
+static MAYBE void expect_run(struct run *run, size_t at, const void *bytes, size_t len)
+{
+    run->after = bytes;
+    run->at = at;
+    run->after_len = len;
+}
+
+#endif

@@ -1,0 +1,161 @@
+//! Tables stored as sheets: a version byte, the length of the rest, then an entry for each slot.
+//!
+//! An entry is the length of what follows in it, the kind, and the value's bytes.
+
+use crate::limits::{AREA_MAX, ITEM_BYTES, KIND_MAX, SHEET_MAX, SLOT_BYTES};
+use crate::slots::{
+    accepted, bad_slot_run, item_bytes, put_slot, refused, replied, slot_at, value_of, Answer, Slot,
+};
+
+const VERSION: u8 = 1;
+/// The bytes of a length.
+const LENGTH: usize = 2;
+const LENGTH_MAX: usize = (1 << (8 * LENGTH)) - 1;
+const HEADER: usize = 1 + LENGTH;
+
+fn length_of(bytes: &[u8]) -> usize {
+    bytes.iter().fold(0, |sum, &byte| sum << 8 | byte as usize)
+}
+
+fn put_length(to: &mut [u8], length: usize) {
+    to.copy_from_slice(&length.to_be_bytes()[8 - to.len()..]);
+}
+
+// Writing
+
+/// The kind and the value of a slot as its entry holds them; none if the slot is bad.
+fn stored(slot: Slot, area: &[u8]) -> Option<(u8, &[u8])> {
+    if slot.kind == 0 {
+        return Some((0, &[]));
+    }
+    value_of(slot, area).map(|value| (slot.kind as u8, value))
+}
+
+fn written(slots: &[u8], area: &[u8], sheet: &mut [u8]) -> Result<Answer, Answer> {
+    if bad_slot_run(slots) || area.len() > AREA_MAX || sheet.len() > SHEET_MAX {
+        return Err(refused(1, 0));
+    }
+    let count = slots.len() / SLOT_BYTES;
+    let mut end = HEADER;
+    for index in 0..count {
+        let (_, value) = stored(slot_at(slots, index), area).ok_or_else(|| refused(7, index))?;
+        end += LENGTH + 1 + value.len();
+    }
+    if end > sheet.len() || end - HEADER > LENGTH_MAX {
+        return Err(refused(11, 0));
+    }
+    sheet[0] = VERSION;
+    put_length(&mut sheet[1..HEADER], end - HEADER);
+    let mut rest = &mut sheet[HEADER..];
+    for index in 0..count {
+        let (kind, value) = stored(slot_at(slots, index), area).unwrap_or((0, &[]));
+        let (entry, next) = rest.split_at_mut(LENGTH + 1 + value.len());
+        put_length(&mut entry[..LENGTH], 1 + value.len());
+        entry[LENGTH] = kind;
+        entry[LENGTH + 1..].copy_from_slice(value);
+        rest = next;
+    }
+    Ok(accepted(end, 0))
+}
+
+// Reading
+
+/// The kind, the value and what follows the entry at the front; none if it is not well formed.
+fn entry(bytes: &[u8]) -> Option<(u32, &[u8], &[u8])> {
+    let (length, rest) = (bytes.get(..LENGTH)?, &bytes[LENGTH..]);
+    let body = rest.get(..length_of(length))?;
+    let (&kind, value) = body.split_first()?;
+    let kind = kind as u32;
+    let good = match kind {
+        0 => value.is_empty(),
+        1 => true,
+        _ => kind <= KIND_MAX && value.len() % ITEM_BYTES == 0,
+    };
+    if good {
+        Some((kind, value, &rest[body.len()..]))
+    } else {
+        None
+    }
+}
+
+/// How many entries the sheet has, and the bytes of their values.
+fn measure(sheet: &[u8]) -> Result<(usize, usize), Answer> {
+    if sheet.first().map_or(false, |&version| version != VERSION) {
+        return Err(refused(13, 0));
+    }
+    if sheet.len() < HEADER || length_of(&sheet[1..HEADER]) != sheet.len() - HEADER {
+        return Err(refused(12, 0));
+    }
+    let (mut count, mut bytes) = (0, 0);
+    let mut rest = &sheet[HEADER..];
+    while !rest.is_empty() {
+        let place = sheet.len() - rest.len();
+        let (_, value, next) = entry(rest).ok_or_else(|| refused(12, place))?;
+        count += 1;
+        bytes += value.len();
+        rest = next;
+    }
+    Ok((count, bytes))
+}
+
+/// Sets the slots of the entries; there are as many slots, and room for the values.
+fn load(entries: &[u8], slots: &mut [u8], area: &mut [u8], mark: usize) {
+    let (mut rest, mut place) = (entries, mark);
+    for slot in slots.chunks_exact_mut(SLOT_BYTES) {
+        let (kind, value, next) = match entry(rest) {
+            Some(entry) => entry,
+            None => break,
+        };
+        if kind == 0 {
+            put_slot(slot, 0, 0, 0);
+        } else {
+            put_slot(slot, kind, place, value.len() / item_bytes(kind));
+        }
+        area[place..place + value.len()].copy_from_slice(value);
+        place += value.len();
+        rest = next;
+    }
+}
+
+fn read_into(
+    sheet: &[u8],
+    slots: &mut [u8],
+    area: &mut [u8],
+    mark: usize,
+) -> Result<Answer, Answer> {
+    if sheet.len() > SHEET_MAX || bad_slot_run(slots) || area.len() > AREA_MAX || mark > area.len()
+    {
+        return Err(refused(1, 0));
+    }
+    let (count, bytes) = measure(sheet)?;
+    if count * SLOT_BYTES > slots.len() {
+        return Err(refused(5, 0));
+    }
+    if bytes > area.len() - mark {
+        return Err(refused(11, 0));
+    }
+    load(&sheet[HEADER..], slots, area, mark);
+    Ok(accepted(count, mark + bytes))
+}
+
+// With a reply run
+
+/// Writes the table as a sheet.
+pub fn write_call(slots: &[u8], area: &[u8], sheet: &mut [u8], reply: &mut [u8]) -> u32 {
+    replied(reply, || {
+        written(slots, area, sheet).unwrap_or_else(|refusal| refusal)
+    })
+}
+
+/// Reads the sheet into the table, values going into the area from the mark on.
+pub fn read_call(
+    sheet: &[u8],
+    slots: &mut [u8],
+    area: &mut [u8],
+    mark: usize,
+    reply: &mut [u8],
+) -> u32 {
+    replied(reply, || {
+        read_into(sheet, slots, area, mark).unwrap_or_else(|refusal| refusal)
+    })
+}

@@ -1,0 +1,468 @@
+//! Sheets: the worked example, the edges, random tables, and sheets that are damaged or cut.
+
+use crate::call::{by_twin, numbers, Call, Judge, Runs, Which};
+use crate::calls::{damage_reply, damage_slot, damage_slot_run, random_slots, scattered};
+use crate::dice::Dice;
+use crate::fixed::{refuses, was_read, with_slot};
+use crate::layouts::random_value;
+use crate::limits::{AREA_MAX, KIND_MAX, REPLY_BYTES, SHEET_MAX, SLOTS_MAX, SLOT_BYTES};
+use crate::values::{ints, shown, slot, table, text, uints, Value};
+
+const OLD: u8 = 0xab;
+const MARK: usize = 3;
+
+fn writing(values: &[Value], room: usize) -> Call {
+    let (slots, area) = table(values, 0);
+    let runs = Runs {
+        slots,
+        area,
+        sheet: vec![OLD; room],
+        reply: vec![OLD; REPLY_BYTES],
+        ..Runs::default()
+    };
+    Call::new(Which::SheetWrite, runs)
+}
+
+fn reading(sheet: &[u8], slots: usize, room: usize) -> Call {
+    let runs = Runs {
+        sheet: sheet.to_vec(),
+        slots: vec![OLD; slots * SLOT_BYTES],
+        area: vec![OLD; (MARK + room).min(AREA_MAX)],
+        reply: vec![OLD; REPLY_BYTES],
+        ..Runs::default()
+    };
+    let mut call = Call::new(Which::SheetRead, runs);
+    call.mark = MARK;
+    call
+}
+
+/// The bytes that the values take in an area.
+fn size(values: &[Value]) -> usize {
+    values.iter().map(|v| v.bytes().len()).sum()
+}
+
+/// The values are written as this sheet, and the sheet is read as these values.
+fn both_ways(t: &mut dyn Judge, values: &[Value], sheet: &[u8]) {
+    for surplus in [0, 2] {
+        let call = writing(values, (sheet.len() + surplus).min(SHEET_MAX));
+        let mut after = call.answered([0, sheet.len() as u32, 0]);
+        after.sheet[..sheet.len()].copy_from_slice(sheet);
+        t.expect("writing a sheet", &call, &after);
+        let slots = (values.len() + surplus).min(SLOTS_MAX);
+        let call = reading(sheet, slots, size(values) + surplus);
+        t.expect("reading a sheet", &call, &was_read(&call, values));
+    }
+    refuses(t, writing(values, sheet.len() - 1), 11, 0);
+    if !values.is_empty() {
+        let call = reading(sheet, values.len() - 1, size(values));
+        refuses(t, call, 5, 0);
+    }
+    if size(values) > 0 {
+        let call = reading(sheet, values.len(), size(values) - 1);
+        refuses(t, call, 11, 0);
+    }
+}
+
+fn examples(t: &mut dyn Judge) {
+    both_ways(t, &[], &[1, 0, 0]);
+    both_ways(t, &[Value::Unset], &[1, 0, 3, 0, 1, 0]);
+    both_ways(t, &[text("")], &[1, 0, 3, 0, 1, 1]);
+    both_ways(t, &[ints(&[])], &[1, 0, 3, 0, 1, 2]);
+    both_ways(t, &[uints(&[])], &[1, 0, 3, 0, 1, 3]);
+    let sheet = b"\x01\0\x13\0\x01\0\0\x03\x01OK\0\x09\x02\xff\xff\xff\xff\xff\xff\xff\xfe";
+    both_ways(t, &[Value::Unset, text("OK"), ints(&[-2])], sheet);
+    let sheet = b"\x01\0\x16\0\x11\x03\0\0\0\0\0\0\0\x01\xff\0\0\0\0\0\0\0\0\x01\0";
+    both_ways(t, &[uints(&[1, 255 << 56]), Value::Unset], sheet);
+}
+
+fn reading_refused(t: &mut dyn Judge, sheet: &[u8], number: u32, place: u32) {
+    refuses(t, reading(sheet, SLOTS_MAX, 100), number, place);
+}
+
+fn damaged_headers(t: &mut dyn Judge) {
+    reading_refused(t, &[], 12, 0);
+    reading_refused(t, &[1], 12, 0);
+    reading_refused(t, &[1, 0], 12, 0);
+    for version in [0, 2, 3, 255] {
+        reading_refused(t, &[version], 13, 0);
+        reading_refused(t, &[version, 0, 0], 13, 0);
+        reading_refused(t, &[version, 9, 9, 9, 9], 13, 0);
+    }
+    reading_refused(t, &[1, 0, 1], 12, 0);
+    reading_refused(t, &[1, 1, 0], 12, 0);
+    reading_refused(t, &[1, 0, 0, 0], 12, 0);
+    reading_refused(t, &[1, 0, 2, 0, 1, 0], 12, 0);
+    reading_refused(t, &[1, 3, 0, 0, 1, 0], 12, 0);
+    reading_refused(t, &[1, 0, 6, 0, 1, 0], 12, 0);
+}
+
+fn damaged_entries(t: &mut dyn Judge) {
+    reading_refused(t, &[1, 0, 1, 0], 12, 3);
+    reading_refused(t, &[1, 0, 2, 0, 0], 12, 3);
+    reading_refused(t, &[1, 0, 2, 0, 1], 12, 3);
+    reading_refused(t, &[1, 0, 3, 0, 2, 1], 12, 3);
+    reading_refused(t, &[1, 0, 3, 1, 0, 0], 12, 3);
+    reading_refused(t, &[1, 0, 4, 0, 2, 0, 0], 12, 3);
+    reading_refused(t, &[1, 0, 4, 0, 1, 0, 0], 12, 6);
+    reading_refused(t, &[1, 0, 5, 0, 1, 0, 0, 0], 12, 6);
+    for kind in KIND_MAX as u8 + 1..=255 {
+        reading_refused(t, &[1, 0, 6, 0, 1, 0, 0, 1, kind], 12, 6);
+    }
+    for kind in 2..=KIND_MAX as u8 {
+        for length in 1..=17 {
+            let entry = [
+                &[1, 0, 3 + length, 0, 1 + length, kind],
+                &vec![7; length as usize][..],
+            ];
+            let sheet = entry.concat();
+            let items = (length / 8) as u32;
+            let call = reading(&sheet, 1, 17);
+            if length % 8 != 0 {
+                refuses(t, call, 12, 3);
+                continue;
+            }
+            let mut after = call.answered([0, 1, MARK as u32 + length as u32]);
+            after.slots = slot(kind as u32, MARK, items as usize);
+            after.area[MARK..MARK + length as usize].fill(7);
+            t.expect("lists of a sheet", &call, &after);
+        }
+    }
+}
+
+/// Of two reasons the earlier one counts.
+fn order(t: &mut dyn Judge) {
+    let sheet = [1, 0, 11, 0, 3, 1, b'O', b'K', 0, 1, 4, 0, 1, 0];
+    reading_refused(t, &sheet, 12, 8);
+    refuses(t, reading(&sheet, 0, 0), 12, 8);
+    let sheet = [1, 0, 8, 0, 3, 1, b'O', b'K', 0, 1, 0];
+    refuses(t, reading(&sheet, 1, 0), 5, 0);
+    refuses(t, reading(&sheet, 2, 1), 11, 0);
+    let mut call = reading(&[9], 2, 1);
+    refuses(t, call.clone(), 13, 0);
+    call.mark = call.area.len() + 1;
+    refuses(t, call.clone(), 1, 0);
+    call.mark = usize::MAX;
+    refuses(t, call.clone(), 1, 0);
+    call.mark = 0;
+    call.slots.push(0);
+    refuses(t, call, 1, 0);
+    let call = writing(&[text("OK"), text("no")], 0);
+    refuses(t, call.clone(), 11, 0);
+    refuses(t, with_slot(call.clone(), 1, [KIND_MAX + 1, 0, 0]), 7, 1);
+    refuses(t, with_slot(call.clone(), 1, [1, 5, 0]), 7, 1);
+    refuses(t, with_slot(call.clone(), 0, [2, 0, 1]), 7, 0);
+    refuses(t, with_slot(call.clone(), 0, [3, u32::MAX, u32::MAX]), 7, 0);
+    refuses(t, with_slot(call.clone(), 0, [3, 0, 0x2000_0000]), 7, 0);
+    refuses(t, with_slot(call.clone(), 0, [0, 9, u32::MAX]), 11, 0);
+    let mut call = with_slot(call, 0, [9, 0, 0]);
+    call.slots.push(0);
+    refuses(t, call, 1, 0);
+}
+
+/// The largest tables and sheets, and those just too large.
+fn sizes(t: &mut dyn Judge) {
+    let all = vec![Value::Unset; SLOTS_MAX];
+    let sheet = [
+        &[1, 0, 3 * SLOTS_MAX as u8][..],
+        &[0, 1, 0].repeat(SLOTS_MAX),
+    ]
+    .concat();
+    both_ways(t, &all, &sheet);
+    let over = [&[1, 0, 3 + sheet[2]][..], &[0, 1, 0].repeat(SLOTS_MAX + 1)].concat();
+    refuses(t, reading(&over, SLOTS_MAX, 0), 5, 0);
+    refuses(t, reading(&sheet, SLOTS_MAX + 1, 0), 1, 0);
+    let over = [&all[..], &all[..1]].concat();
+    refuses(t, writing(&over, 1000), 1, 0);
+    refuses(t, writing(&[], SHEET_MAX + 1), 1, 0);
+    refuses(t, reading(&vec![1; SHEET_MAX + 1], 1, 0), 1, 0);
+    refuses(t, reading(&vec![2; SHEET_MAX + 1], 1, 0), 1, 0);
+    refuses(t, reading(&vec![2; SHEET_MAX], 1, 0), 13, 0);
+    let mut call = writing(&[], 3);
+    call.area = vec![OLD; AREA_MAX + 1];
+    refuses(t, call, 1, 0);
+    longest(t);
+}
+
+fn longest(t: &mut dyn Judge) {
+    let long: Vec<u8> = (0..65533).map(|n| (n % 251) as u8).collect();
+    let value = &long[..65532];
+    let sheet = [&[1, 255, 255, 255, 253, 1][..], value].concat();
+    both_ways(t, &[text(value)], &sheet);
+    refuses(t, writing(&[text(&long)], SHEET_MAX), 11, 0);
+    let two = [text(&value[..32765]), text(&value[..32764])];
+    let mut call = writing(&two, SHEET_MAX);
+    let start = [&[1, 255, 255, 127, 254, 1][..], &value[..32765]].concat();
+    let sheet = [&start, &[127, 253, 1][..], &value[..32764]].concat();
+    both_ways(t, &two, &sheet);
+    call.area.push(0);
+    refuses(t, with_slot(call, 1, [1, 32765, 32765]), 11, 0);
+}
+
+fn replies(t: &mut dyn Judge) {
+    for length in [0, 4, REPLY_BYTES - 1, REPLY_BYTES + 1] {
+        for mut call in [writing(&[text("OK")], 9), reading(&[1, 0, 0], 1, 1)] {
+            call.reply = vec![OLD; length];
+            t.expect("reply of another size", &call, &call.untouched(1));
+            call.null = true;
+            t.expect("reply of another size", &call, &call.untouched(1));
+        }
+    }
+}
+
+pub fn run(t: &mut dyn Judge) {
+    examples(t);
+    damaged_headers(t);
+    damaged_entries(t);
+    order(t);
+    sizes(t);
+    replies(t);
+}
+
+// Random calls
+
+/// A table of which some slots are not set; these hold anything in start and length.
+fn random_table(dice: &mut Dice) -> (Vec<u8>, Vec<u8>) {
+    let count = match dice.below(10) {
+        0 => 0,
+        1 => dice.between(0, SLOTS_MAX),
+        _ => dice.between(1, 8),
+    };
+    let long = dice.once_in(15);
+    let values: Vec<Value> = (0..count).map(|_| random_value(dice, long)).collect();
+    let (mut slots, area) = scattered(dice, &values);
+    for place in slots.chunks_exact_mut(SLOT_BYTES) {
+        if dice.once_in(4) {
+            let (start, length) = (dice.next() as u32, dice.next() as u32);
+            place.copy_from_slice(&slot(0, start as usize, length as usize));
+        }
+    }
+    (slots, area)
+}
+
+/// Lets some slots show a string from anywhere in the area, so that the sheet may get too long.
+fn share_area(dice: &mut Dice, slots: &mut [u8], area_len: usize) {
+    for place in slots.chunks_exact_mut(SLOT_BYTES) {
+        if dice.once_in(2) {
+            let start = dice.between(0, area_len);
+            place.copy_from_slice(&slot(1, start, dice.between(0, area_len - start)));
+        }
+    }
+}
+
+/// Two strings whose sheet is about as long as one may be.
+fn full_table(dice: &mut Dice) -> (Vec<u8>, Vec<u8>) {
+    let first = dice.below(AREA_MAX / 2);
+    let second = SHEET_MAX - 11 + dice.below(5) - first;
+    let slots = [slot(1, 0, first), slot(1, 1, second)];
+    (slots.concat(), dice.bytes(AREA_MAX))
+}
+
+fn random_writing(dice: &mut Dice) -> Call {
+    let (mut slots, mut area) = match dice.once_in(40) {
+        true => full_table(dice),
+        false => random_table(dice),
+    };
+    if dice.once_in(30) {
+        area.resize(dice.pick(&[AREA_MAX, AREA_MAX, AREA_MAX + 1, 20000]), 5);
+    }
+    if dice.once_in(4) {
+        share_area(dice, &mut slots, area.len());
+    }
+    let runs = Runs {
+        slots,
+        area,
+        sheet: vec![OLD; SHEET_MAX],
+        reply: dice.bytes(REPLY_BYTES),
+        ..Runs::default()
+    };
+    let mut call = Call::new(Which::SheetWrite, runs);
+    call.null = dice.once_in(2);
+    let need = sheet_length(&call);
+    let room = match dice.below(10) {
+        0 => need.saturating_sub(1),
+        1 => dice.below(need + 1),
+        2 => need + dice.below(30),
+        3 => dice.pick(&[SHEET_MAX, SHEET_MAX + 1]),
+        _ => need,
+    };
+    call.sheet = dice.bytes(room);
+    let area_len = call.area.len();
+    match dice.below(20) {
+        0..=3 => damage_slot(dice, &mut call.slots, area_len),
+        4 => damage_slot_run(dice, &mut call.slots),
+        5 => damage_reply(dice, &mut call.reply),
+        _ => {}
+    }
+    call
+}
+
+/// The length of the sheet that the twin writes; some length if it refuses.
+fn sheet_length(call: &Call) -> usize {
+    let after = by_twin(call);
+    if after.returned == 0 {
+        numbers(&after.reply)[1] as usize
+    } else {
+        40
+    }
+}
+
+/// A reading with as many slots and as much room as are needed, or nearly so.
+fn random_reading(dice: &mut Dice, sheet: &[u8], entries: usize, bytes: usize) -> Call {
+    let slots = match dice.below(12) {
+        0 => entries.saturating_sub(1),
+        1 => SLOTS_MAX,
+        2 => entries + 1,
+        _ => entries,
+    };
+    let mark = dice.pick(&[0, 0, 1, 9, 100]);
+    let room = match dice.below(12) {
+        0 => bytes.saturating_sub(1),
+        1 => bytes + dice.below(50),
+        _ => bytes,
+    };
+    let runs = Runs {
+        sheet: sheet.to_vec(),
+        slots: random_slots(dice, slots.min(SLOTS_MAX)),
+        area: dice.bytes(mark + room),
+        reply: dice.bytes(REPLY_BYTES),
+        ..Runs::default()
+    };
+    let mut call = Call::new(Which::SheetRead, runs);
+    call.null = dice.once_in(2);
+    call.mark = match dice.below(60) {
+        0 => mark + room + 1,
+        1 => mark + room,
+        _ => mark,
+    };
+    match dice.below(60) {
+        0 => damage_slot_run(dice, &mut call.slots),
+        1 => damage_reply(dice, &mut call.reply),
+        2 => call.sheet.resize(SHEET_MAX + dice.below(2), 1),
+        3 => call.area.resize(AREA_MAX + dice.below(2), 1),
+        _ => {}
+    }
+    call
+}
+
+/// A sheet whose header tells its length.
+fn with_header(mut sheet: Vec<u8>) -> Vec<u8> {
+    if sheet.len() >= 3 {
+        let length = (sheet.len() - 3) as u16;
+        sheet[1..3].copy_from_slice(&length.to_be_bytes());
+    }
+    sheet
+}
+
+/// A sheet with one byte changed, added or taken out.
+fn damaged(dice: &mut Dice, sheet: &[u8], at: usize) -> Vec<u8> {
+    let mut sheet = sheet.to_vec();
+    let byte = match dice.below(3) {
+        0 => dice.byte(),
+        1 => sheet[at] ^ (1 << dice.below(8)),
+        _ => dice.pick(&[0, 1, 2, 3, 4, 8, 9, 16, 17, 255]),
+    };
+    match dice.below(8) {
+        0 => sheet.insert(at, byte),
+        1 => {
+            sheet.remove(at);
+        }
+        _ => sheet[at] = byte,
+    }
+    if dice.once_in(2) {
+        with_header(sheet)
+    } else {
+        sheet
+    }
+}
+
+/// Bytes that look like a sheet at least at their beginning.
+fn random_sheet(dice: &mut Dice) -> Vec<u8> {
+    let mut sheet = vec![1, 0, 0];
+    for _ in 0..dice.below(6) {
+        let length = dice.pick(&[0, 1, 1, 2, 8, 9, 9, 17, 17, 18]);
+        sheet.extend([0, length as u8, dice.pick(&[0, 1, 1, 2, 2, 3, 3, 4])]);
+        let value = dice.between(length.max(1) - 1, length);
+        sheet.extend(dice.bytes(value));
+    }
+    with_header(sheet)
+}
+
+/// Reads a sheet that was just written, whole, damaged at every byte and cut at every byte.
+fn every_byte(dice: &mut Dice, judge: &mut dyn Judge, sheet: &[u8], slots: usize, bytes: usize) {
+    let step = 1 + sheet.len() / 50;
+    for at in (0..sheet.len()).step_by(step) {
+        let wrong = damaged(dice, sheet, at);
+        let call = random_reading(dice, &wrong, slots + 1, bytes + 16);
+        judge.compare("damaged sheet", &call);
+        let call = random_reading(dice, &sheet[..at], slots, bytes);
+        judge.compare("cut sheet", &call);
+        let call = random_reading(dice, &with_header(sheet[..at].to_vec()), slots, bytes);
+        judge.compare("cut sheet with its length in the header", &call);
+    }
+}
+
+/// Writes a table, reads it back, and writes that again.
+fn round_trip(dice: &mut Dice, judge: &mut dyn Judge) {
+    let call = random_writing(dice);
+    let written = judge.compare("writing a sheet", &call);
+    if written.returned != 0 || call.reply.len() != REPLY_BYTES {
+        return;
+    }
+    let length = numbers(&written.reply)[1] as usize;
+    let sheet = &written.sheet[..length];
+    let values = shown(&call.slots, &call.area);
+    let bytes = size(&values);
+    let reading = random_reading(dice, sheet, values.len(), bytes);
+    let read = judge.compare("reading a sheet", &reading);
+    if length < 2000 {
+        every_byte(dice, judge, sheet, values.len(), bytes);
+    }
+    if read.returned != 0 || reading.reply.len() != REPLY_BYTES {
+        return;
+    }
+    let count = values.len() * SLOT_BYTES;
+    let same = shown(&read.slots[..count], &read.area) == values;
+    judge.claim(
+        "a table read from its sheet shows its values",
+        &reading,
+        same,
+    );
+    let mut again = call.clone();
+    again.slots = read.slots[..count].to_vec();
+    again.area = read.area.clone();
+    let rewritten = judge.compare("writing a sheet again", &again);
+    let same = rewritten.returned == 0 && rewritten.sheet[..length] == *sheet;
+    judge.claim("a sheet is written again byte for byte", &again, same);
+}
+
+/// An accepted sheet that was made up comes back byte for byte.
+fn made_up(dice: &mut Dice, judge: &mut dyn Judge) {
+    let sheet = random_sheet(dice);
+    let call = random_reading(dice, &sheet, 6, 150);
+    let read = judge.compare("made-up sheet", &call);
+    if read.returned != 0 || call.reply.len() != REPLY_BYTES {
+        return;
+    }
+    let entries = numbers(&read.reply)[1] as usize;
+    let sheet = &call.sheet;
+    let runs = Runs {
+        slots: read.slots[..entries * SLOT_BYTES].to_vec(),
+        area: read.area.clone(),
+        sheet: dice.bytes(sheet.len() + 2),
+        reply: dice.bytes(REPLY_BYTES),
+        ..Runs::default()
+    };
+    let again = Call::new(Which::SheetWrite, runs);
+    let written = judge.compare("writing a made-up sheet", &again);
+    let same = written.returned == 0 && written.sheet[..sheet.len()] == sheet[..];
+    judge.claim("a made-up sheet comes back", &again, same);
+}
+
+pub fn round(dice: &mut Dice, judge: &mut dyn Judge) {
+    for _ in 0..10 {
+        round_trip(dice, judge);
+    }
+    for _ in 0..20 {
+        made_up(dice, judge);
+    }
+}
