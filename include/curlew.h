@@ -58,7 +58,8 @@
  *
  * Integers: a small letter is little-endian, a capital big-endian. Packing keeps the low-order bits of each
  * integer and takes both integer kinds. Reading gives CURLEW_SIGNED or, with the flag `u`, CURLEW_UNSIGNED.
- * The flag may follow c s S i I w W only, and packing ignores it.
+ * Packing ignores the flag, and after every other type reading ignores it too: `au20` is `a20`, `xu2` is `x2`.
+ * One flag may stand in a field; a second is an unknown type.
  *
  * Digits: a field fills whole bytes, count/8 (b B) or count/2 (h H) rounded up. Digits that are missing are
  * stored as 0, spare bits are 0 and are skipped in reading, and digits past the count are not looked at.

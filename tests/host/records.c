@@ -401,18 +401,36 @@ static void test_mark(void)
     finish_read(&c);
 }
 
+/* The flag after types that have no use for it. */
+static void test_flags(void)
+{
+    begin(&given, 0);
+    add_text(&given, "abc");
+    add_text(&given, "1011");
+    add_text(&given, "f");
+    packs("au2 xu2 Xu bu4 Hu @u9", "ab\0\015\xf0\0\0\0\0", 9);
+    begin(&wanted, 0);
+    add_text(&wanted, "ab");
+    add_text(&wanted, "1011");
+    add_text(&wanted, "f");
+    reads("au2 xu2 Xu bu4 Hu @u9", "ab\0\015\xf0\0\0\0\0", 9);
+    begin(&wanted, 0);
+    add_text(&wanted, "ab");
+    reads("Au2 xu* au", "ab\0\015", 4);
+}
+
 static void test_layout_refusals(void)
 {
     static const struct {
         const char *layout;
         uint32_t pack_number, pack_place, read_number, read_place;
     } table[] = {
-        {"t", 2, 0, 2, 0}, {"c 3", 2, 2, 2, 2}, {"c*5", 2, 2, 2, 2}, {"c5*", 2, 2, 2, 2}, {"au", 2, 1, 2, 1},
-        {"xu2", 2, 1, 2, 1}, {"cuu", 2, 2, 2, 2}, {"c\t", 2, 1, 2, 1}, {"a f", 2, 2, 2, 2}, {"5", 2, 0, 2, 0},
+        {"t", 2, 0, 2, 0}, {"c 3", 2, 2, 2, 2}, {"c*5", 2, 2, 2, 2}, {"c5*", 2, 2, 2, 2}, {"auu", 2, 2, 2, 2},
+        {"xuu2", 2, 2, 2, 2}, {"cuu", 2, 2, 2, 2}, {"c\t", 2, 1, 2, 1}, {"a f", 2, 2, 2, 2}, {"5", 2, 0, 2, 0},
         {"*", 2, 0, 2, 0}, {"u", 2, 0, 2, 0}, {"a\xe4", 2, 1, 2, 1},
         {"c4097", 3, 0, 3, 0}, {" a99999999999999999999", 3, 1, 3, 1}, {"x 4097x4097", 2, 2, 2, 2},
         {"x04097", 3, 0, 3, 0}, {"c4294967297", 3, 0, 3, 0}, {"c18446744073709551617", 3, 0, 3, 0},
-        {"@", 4, 0, 4, 0}, {"a @u5", 4, 2, 4, 2}, {"@ 5", 4, 0, 4, 0}, {"x2x*u", 4, 2, 2, 4},
+        {"@", 4, 0, 4, 0}, {"a @u", 4, 2, 4, 2}, {"@uu", 4, 0, 4, 0}, {"@ 5", 4, 0, 4, 0}, {"x2x*u", 4, 2, 2, 4},
         {"c4097t", 3, 0, 3, 0}, {"@t", 4, 0, 4, 0}, {"tc4097", 2, 0, 2, 0},
     };
     size_t i;
@@ -423,6 +441,7 @@ static void test_layout_refusals(void)
         read_refused(table[i].layout, table[i].read_number, table[i].read_place);
     }
     pack_refused("x*", CURLEW_BAD_MOVE, 0);
+    pack_refused(" xu*", CURLEW_BAD_MOVE, 1);
 }
 
 static void test_slot_counts(void)
@@ -816,6 +835,7 @@ int main(void)
     test_read_widths();
     test_moves();
     test_mark();
+    test_flags();
     test_layout_refusals();
     test_slot_counts();
     test_arguments();

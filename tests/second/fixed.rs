@@ -268,11 +268,6 @@ fn layout_texts(t: &mut dyn Judge) {
     pack_refused(t, "c-1", &[ints(&[1])], 2, 1);
     pack_refused(t, "c+1", &[ints(&[1])], 2, 1);
     pack_refused(t, "c\0", &[ints(&[1])], 2, 1);
-    for letter in ["a", "A", "b", "B", "h", "H", "x", "X"] {
-        let layout = format!("{}u", letter);
-        pack_refused(t, &layout, &[text("1")], 2, 1);
-        read_refused(t, &layout, 1, 2, 1);
-    }
     for letter in "tnmfdrRqQ".chars() {
         pack_refused(t, &letter.to_string(), &[], 2, 0);
         read_refused(t, &letter.to_string(), 1, 2, 0);
@@ -282,8 +277,54 @@ fn layout_texts(t: &mut dyn Judge) {
         reads(t, &format!("{}u0", letter), "ab", &[uints(&[])], 0);
         reads(t, &format!("{}0", letter), "ab", &[ints(&[])], 0);
     }
+    flags(t);
     every_single_byte(t);
     leading_zeros(t);
+}
+
+/// The flag may follow every type and counts for integers alone; a second one is an unknown type.
+fn flags(t: &mut dyn Judge) {
+    packs(
+        t,
+        "au20",
+        &[text("leg")],
+        "leg\0\0\0\0\0\0\0\0\0\0\0\0\0\0\0\0\0",
+    );
+    packs(t, "au3xu2Au3", &[text("legs"), text("m")], "leg\0\0m  ");
+    reads(t, "au3xu2Au3", "leg\0\0m  ", &[text("leg"), text("m")], 0);
+    packs(t, "bu3Bu*", &[text("101"), text("101")], [0x05, 0xa0]);
+    reads(
+        t,
+        "bu3Bu*",
+        [0x05, 0xa0],
+        &[text("101"), text("10100000")],
+        0,
+    );
+    packs(t, "hu3Hu*", &[text("12F"), text("1f")], [0x21, 0x0f, 0x1f]);
+    reads(t, "huHu*", [0x21, 0x1f], &[text("1"), text("1f")], 0);
+    packs(t, "au3Xu2@u1@u*xu", &[text("abc")], "abc\0");
+    reads(
+        t,
+        "@u2auXu*auxu*au0",
+        "abc",
+        &[text("c"), text("a"), text("")],
+        0,
+    );
+    for letter in [
+        "a", "A", "b", "B", "h", "H", "c", "s", "S", "i", "I", "w", "W", "x", "X",
+    ] {
+        pack_refused(t, &format!("{letter}uu"), &[text("1")], 2, 2);
+        read_refused(t, &format!("{letter}uu3"), 1, 2, 2);
+        read_refused(t, &format!("{letter}1u"), 1, 2, 2);
+        read_refused(t, &format!(" {letter}u u"), 1, 2, 4);
+    }
+    for layout in ["@u", "@uu", "@u u", "@u*u"] {
+        let (number, place) = if layout == "@u*u" { (2, 3) } else { (4, 0) };
+        pack_refused(t, layout, &[], number, place);
+        read_refused(t, layout, 0, number, place);
+    }
+    pack_refused(t, "xu*", &[], 4, 0);
+    reads(t, "xu*Xau", "abc", &[text("c")], 0);
 }
 
 /// Each byte alone as a layout: sixteen types, the space, and unknown types.
@@ -328,14 +369,14 @@ fn leading_zeros(t: &mut dyn Judge) {
 fn moves(t: &mut dyn Judge) {
     pack_refused(t, "@", &[], 4, 0);
     read_refused(t, "@", 0, 4, 0);
-    pack_refused(t, "@u5", &[], 4, 0);
-    read_refused(t, "@u5", 0, 4, 0);
+    packs(t, "@u5", &[], [0; 5]);
+    reads(t, "@u5", "abc", &[], 0);
     pack_refused(t, "@ 5", &[], 4, 0);
     pack_refused(t, "@5u", &[], 2, 2);
     pack_refused(t, "x*", &[], 4, 0);
     pack_refused(t, "x*u", &[], 4, 0);
     read_refused(t, "x*u", 0, 2, 2);
-    pack_refused(t, "xu", &[], 2, 1);
+    packs(t, "xu", &[], [0]);
     reads(t, "x*", "abc", &[], 0);
     reads(t, "x*a0", "abc", &[text("")], 0);
     reads(t, "x*a", "abc", &[], 1);

@@ -97,15 +97,10 @@ pub fn random_spec(dice: &mut Dice, packing: bool) -> Spec {
     } else {
         dice.pick(TAKERS)
     };
-    let count = random_count(dice, letter, packing);
-    let spec = Spec {
-        letter,
-        flag: false,
-        count,
-    };
     Spec {
-        flag: spec.width().is_some() && dice.once_in(3),
-        ..spec
+        letter,
+        flag: dice.once_in(3),
+        count: random_count(dice, letter, packing),
     }
 }
 

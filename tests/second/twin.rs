@@ -155,11 +155,10 @@ fn parse(text: &[u8], packing: bool, fields: &mut Fields) -> Result<(usize, usiz
         let place = at;
         let mut kind = kind_of(text[at]).ok_or_else(|| refused(2, place))?;
         at += 1;
+        let flagged = text.get(at) == Some(&b'u');
+        at += flagged as usize;
         if let Kind::Integer { unsigned, .. } = &mut kind {
-            if text.get(at) == Some(&b'u') {
-                *unsigned = true;
-                at += 1;
-            }
+            *unsigned = flagged;
         }
         let (count, next) = count_at(text, at);
         let count = count.ok_or_else(|| refused(3, place))?;

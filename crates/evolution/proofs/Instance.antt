@@ -67,3 +67,35 @@ due-six = refl
 due-old : due pair false 6 ≡ record { kind = 1; items = 97 ∷ 98 ∷ 0 ∷ [] } ∷ []
 unfolding pair setBy filled slotsOf
 due-old = refl
+
+-- a flag after a text and after `x`: `au20` and then `au20 xu2S`, with the arguments "Mary" and {-2}
+flags : Layouts
+unfolding fieldsOf plain argumentsFit slotsOf endOf slotCount
+flags = record {
+  old = bytes "au20";
+  new = bytes "au20 xu2S";
+  fields = record { code = Data (Text 0); unsigned = true; count = Times 20 } ∷ [];
+  added = record { code = Move Skip; unsigned = true; count = Times 2 } ∷ record { code = Data (Integers 2 true); unsigned = false; count = Absent } ∷ [];
+  slots = 1 ∷ 0 ∷ 4 ∷ 2 ∷ 4 ∷ 1 ∷ [];
+  area = bytes "Mary" ++ (255 ∷ 255 ∷ 255 ∷ 255 ∷ 255 ∷ 255 ∷ 255 ∷ 254 ∷ []);
+  oldOutput = replicate 20 0;
+  newOutput = replicate 24 7;
+  old-fields = refl;
+  new-fields = refl;
+  is-plain = tt;
+  slot-for-each = refl;
+  served = refl;
+  new-sizes = tt;
+  old-sizes = tt;
+  new-room = omega arith;
+  old-room = omega arith;
+}
+
+-- cut after `xu2` the new layout shows the text, and not cut the integer too; neither is unsigned
+due-text : due flags true 22 ≡ record { kind = 1; items = bytes "Mary" ++ replicate 16 0 } ∷ []
+unfolding flags setBy filled slotsOf
+due-text = refl
+
+due-both : due flags true 24 ≡ record { kind = 1; items = bytes "Mary" ++ replicate 16 0 } ∷ record { kind = 2; items = (2 ^ 64 - 2) ∷ [] } ∷ []
+unfolding flags setBy filled slotsOf
+due-both = refl

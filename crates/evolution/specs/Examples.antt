@@ -136,4 +136,9 @@ more =
     ∷ packAnswers (replicate 65 97) 65 (str "M") 65 (1 ∷ 0 ∷ 0 ∷ [])
     ∷ packAnswers (bytes "x4096x") 0 (str "") 4096 (11 ∷ 0 ∷ 0 ∷ [])
     ∷ readAnswers (bytes "x*c") (1 ∷ 2 ∷ []) 1 8 3 (0 ∷ 0 ∷ 3 ∷ [])
+    -- a flag after a type that is no integer's changes nothing; a second one names no type
+    ∷ packing "au3xu2" (str "Mar" ∷ []) (bytes "Mar" ++ (0 ∷ 0 ∷ []))
+    ∷ reading (bytes "Mar") "au3" 1 (str "Mar" ∷ [])
+    ∷ packAnswers (bytes "auu") 1 (str "M") 1 (2 ∷ 2 ∷ 0 ∷ [])
+    ∷ packAnswers (bytes "c @u") 1 (ints (1 ∷ [])) 1 (4 ∷ 2 ∷ 0 ∷ [])
     ∷ []

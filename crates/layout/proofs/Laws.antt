@@ -113,8 +113,8 @@ later-typed : (at : ℕ) (cs : List ℕ) (t : Typed) → FitType t
     (stepFrom (elim t [ Known k ↦ fieldAfter false at k cs | Unknown ↦ refused UnknownType at ]))
 unfolding fieldAfter
 later-typed at cs (Known k) h =
-    let rest = drop (toNat (flagged k cs)) cs in
-    later-end at (inLimit (countOf rest)) k (countOf rest) (flagged k cs) (toNat (flagged k cs) + countLength rest) h
+    let rest = drop (toNat (flagged cs)) cs in
+    later-end at (inLimit (countOf rest)) k (countOf rest) (flagged cs) (toNat (flagged cs) + countLength rest) h
 later-typed at cs Unknown h = tt
 
 later-space : (t : Bool) (a b : Step) → Later a b → Later (if t then space else a) (if t then space else b)

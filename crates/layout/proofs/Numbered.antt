@@ -17,7 +17,7 @@ use Rattle.layout.specs.declared.Count.{Count}
 use Rattle.layout.specs.declared.Typed.{Typed}
 use Rattle.layout.specs.declared.Typed.the-variants.{Known, Unknown}
 use Rattle.layout.specs.Refusals.{if_then_else_}
-use Rattle.layout.specs.Layout.{takesFlag, takesSlot, hasMeaning}
+use Rattle.layout.specs.Layout.{takesSlot, hasMeaning}
 use Rattle.layout.specs.Words.{lastText, lastBinary, lastDigits, lastData, skipNumber, backNumber, gotoNumber, lastType, widthNumbered, typeNumbered, known, shapeOf, shapeNumbered, FitCode}
 use Rattle.layout.proofs.Steps.{type-fits, known-fits}
 
@@ -106,27 +106,7 @@ slot-numbered d = elim (decLe d lastData) [
   | no h ↦ (let k : lastData < d = lt-of-not-le h in rw (lt-leb d lastData k, move-code d k))
 ]
 
--- ---- the flag and the count
-
-pub flag-not : (d : ℕ) → d ≤ lastDigits → false ≡ takesFlag (known (typeNumbered d))
-unfolding typeNumbered
-flag-not d h = rw (le-leb d lastDigits h) (texts (leb d lastText) _ _ _)
-  where
-    texts : (text : Bool) (pad : ℕ) (hex high : Bool) → false ≡ takesFlag (known (if text then Known (Data (Text pad)) else Known (Data (Digits hex high))))
-    texts true pad hex high = refl
-    texts false pad hex high = refl
-
-pub flag-numbered : (d : ℕ) → lastDigits < d → leb d lastData ≡ takesFlag (known (typeNumbered d))
-flag-numbered d l = elim (decLe d lastData) [
-  | yes h ↦ rw (le-leb d lastData h, integers-code d l h)
-  | no h ↦ (let k : lastData < d = lt-of-not-le h in rw (lt-leb d lastData k, move-type d k) (moves (eqb d skipNumber) (eqb d backNumber) (eqb d gotoNumber)))
-]
-  where
-    moves : (skip back goto : Bool) → false ≡ takesFlag (known (moving skip back goto))
-    moves true back goto = refl
-    moves false true goto = refl
-    moves false false true = refl
-    moves false false false = refl
+-- ---- the count
 
 module _ (packing : Bool) (d : ℕ) (n : Count) where
   pub meaning-data : d ≤ lastData → true ≡ hasMeaning packing (known (typeNumbered d)) n

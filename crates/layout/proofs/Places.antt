@@ -31,8 +31,8 @@ two-checks at true true a = tt
 typed-at : (packing : Bool) (at : ℕ) (cs : List ℕ) (t : Typed) → RefusedAt {A = Field × ℕ} at (elim t [ Known k ↦ fieldAfter packing at k cs | Unknown ↦ refused UnknownType at ])
 unfolding fieldAfter
 typed-at packing at cs (Known k) =
-    let rest = drop (toNat (flagged k cs)) cs in
-    two-checks at (inLimit (countOf rest)) (hasMeaning packing k (countOf rest)) (record { code = k; unsigned = flagged k cs; count = countOf rest }, toNat (flagged k cs) + countLength rest)
+    let rest = drop (toNat (flagged cs)) cs in
+    two-checks at (inLimit (countOf rest)) (hasMeaning packing k (countOf rest)) (record { code = k; unsigned = flagged cs; count = countOf rest }, toNat (flagged cs) + countLength rest)
 typed-at packing at cs Unknown = refl
 
 from-at : (at : ℕ) (o : Result (Field × ℕ)) → RefusedAt at o → BadAt at (stepFrom o)

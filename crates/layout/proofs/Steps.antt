@@ -5,7 +5,7 @@ use native.Mathlib.Nat.{add-zero, suc-ne-zero}
 use native.Mathlib.Numerals.{add-one}
 use native.Mathlib.Omega.{arith}
 use mathlib.Core.Path.{_≡_, refl, sym, ap, _∙_}
-use mathlib.Core.Bool.{Bool, true, false, _&&_, not, and-false}
+use mathlib.Core.Bool.{Bool, true, false, not, and-false}
 use mathlib.Core.List.{List, [], _∷_}
 use borrow.Author.Tests.{eq-eqb, ne-eqb, le-leb, lt-leb}
 use lib.Dec.{eqb, leb, ltb}
@@ -21,7 +21,7 @@ use Rattle.layout.specs.declared.Typed.{Typed}
 use Rattle.layout.specs.declared.Typed.the-variants.{Known, Unknown}
 use Rattle.layout.specs.declared.Refusal.the-variants.{UnknownType, CountTooLarge, CountMisused}
 use Rattle.layout.specs.Refusals.{if_then_else_, refused}
-use Rattle.layout.specs.Layout.{maxCount, isDecimal, digitRun, decimal, typeOf, takesFlag, flagged, countOf, countLength, inLimit, hasMeaning, toNat, takesSlot, field, bad, fieldAfter, fieldAt, stepOf}
+use Rattle.layout.specs.Layout.{maxCount, isDecimal, digitRun, decimal, typeOf, flagged, countOf, countLength, inLimit, hasMeaning, toNat, takesSlot, field, bad, fieldAfter, fieldAt, stepOf}
 use Rattle.layout.proofs.Laws.{FitType, fit-either, decimal-held}
 use Rattle.layout.specs.declared.Found.the-variants.{Item, Bad}
 use Rattle.layout.specs.Words.{lastText, lastDigits, lastData, skipNumber, backNumber, gotoNumber, lastType, typeNumbered, countFrom, known, HasType, fieldOf, wordOf, overCount, heldNumber, NumberAt, CountAt, TailAt, FitCode, FitCount, FieldOf, FoundAs}
@@ -81,25 +81,21 @@ module _ (s : List ℕ) (at : ℕ) where
 
 -- ---- the flag at a place
 
-module _ (s : List ℕ) (at : ℕ) (k : Code) where
-  pub flag-end : length s ≤ at → false ≡ flagged k (drop at s)
+module _ (s : List ℕ) (at : ℕ) where
+  pub flag-end : length s ≤ at → false ≡ flagged (drop at s)
   unfolding flagged
   flag-end h = rw (drop-of-length-le s h)
 
-  pub flag-other : at < length s → (getD s at 0 ≡ 117 → ⊥) → false ≡ flagged k (drop at s)
+  pub flag-other : at < length s → (getD s at 0 ≡ 117 → ⊥) → false ≡ flagged (drop at s)
   unfolding flagged
-  flag-other h e = rw (drop-cons s at 0 h, ne-eqb (getD s at 0) 117 e, and-false)
+  flag-other h e = rw (drop-cons s at 0 h, ne-eqb (getD s at 0) 117 e)
 
-  pub flag-here : at < length s → getD s at 0 ≡ 117 → takesFlag k ≡ flagged k (drop at s)
+  pub flag-here : at < length s → getD s at 0 ≡ 117 → true ≡ flagged (drop at s)
   unfolding flagged
-  flag-here h e = rw (drop-cons s at 0 h, eq-eqb (getD s at 0) 117 e) (and-true′ (takesFlag k))
-    where
-      and-true′ : (t : Bool) → t ≡ t && true
-      and-true′ true = refl
-      and-true′ false = refl
+  flag-here h e = rw (drop-cons s at 0 h, eq-eqb (getD s at 0) 117 e)
 
-pub tail-plain : (s : List ℕ) (at : ℕ) (k : Code) (v e : ℕ) → false ≡ flagged k (drop at s) → CountAt s at v e → TailAt s at k 0 v e
-tail-plain s at k v e flag count = (ap toNat flag, rw add-zero count)
+pub tail-plain : (s : List ℕ) (at v e : ℕ) → false ≡ flagged (drop at s) → CountAt s at v e → TailAt s at 0 v e
+tail-plain s at v e flag count = (ap toNat flag, rw add-zero count)
 
 -- ---- the number of a count
 
@@ -197,7 +193,7 @@ module _ (packing : Bool) (p c : ℕ) (cs : List ℕ) (no-space : c ≡ 32 → �
   unfolding stepOf
   step-unknown e = rw (ne-eqb c 32 no-space, at-unknown e)
 
-  module _ (k : Code) (e : typeOf c ≡ Known k) (u : Bool) (flag : u ≡ flagged k cs) (v : ℕ) (held : v ≡ heldNumber (countOf (drop (toNat u) cs))) where
+  module _ (k : Code) (e : typeOf c ≡ Known k) (u : Bool) (flag : u ≡ flagged cs) (v : ℕ) (held : v ≡ heldNumber (countOf (drop (toNat u) cs))) where
     pub step-large : lastCount < v → stepOf packing p c cs ≡ bad CountTooLarge p
     unfolding stepOf fieldAfter
     step-large h =
@@ -243,10 +239,10 @@ count-within (c ∷ cs) = step (eqb c 42) (run-within (c ∷ cs))
     step true h = omega arith
     step false h = h
 
-pub flag-within : (k : Code) (cs : List ℕ) → toNat (flagged k cs) ≤ length cs
+pub flag-within : (cs : List ℕ) → toNat (flagged cs) ≤ length cs
 unfolding flagged
-flag-within k [] = omega arith
-flag-within k (c ∷ cs) = omega (arith, bit-le (takesFlag k && eqb c 117))
+flag-within [] = omega arith
+flag-within (c ∷ cs) = omega (arith, bit-le (eqb c 117))
 
 -- ---- what `read_field` has seen when the count is read: the type's number d, the flag b as a number, the count's number v, and the place e after it
 
@@ -256,14 +252,14 @@ pub record Seen (text : List ℕ) (p d b v e : ℕ) : Type 0 where
   pub no-space : getD text p 0 ≡ 32 → ⊥
   pub type : typeOf (getD text p 0) ≡ typeNumbered d
   pub named : HasType d
-  pub tail : TailAt text (p + 1) (known (typeNumbered d)) b v e
+  pub tail : TailAt text (p + 1) b v e
 
 module _ (packing : Bool) (text : List ℕ) (p d b v e : ℕ) (s : Seen text p d b v e) where
   abbrev k : Code
   k = known (typeNumbered d)
 
   abbrev u : Bool
-  u = flagged k (drop (suc p) text)
+  u = flagged (drop (suc p) text)
 
   numbered : typeNumbered d ≡ Known k
   numbered = s .named (s .low)
@@ -300,7 +296,7 @@ module _ (packing : Bool) (text : List ℕ) (p d b v e : ℕ) (s : Seen text p d
 
   inside : e ≤ length text
   inside =
-      let f : toNat u ≤ length text - suc p = rw (← length-drop) (flag-within k (drop (suc p) text)) in
+      let f : toNat u ≤ length text - suc p = rw (← length-drop) (flag-within (drop (suc p) text)) in
       let l : countLength (drop (p + 1 + b) text) ≤ length text - (p + 1 + b) = rw (← length-drop) (count-within (drop (p + 1 + b) text)) in
       omega (arith, s .tail .1 .1, bit, s .start)
 

@@ -51,13 +51,6 @@ typeOf c =
     else if eqb c 64 then Known (Move Goto)  -- @
     else Unknown
 
--- the types of integers take the flag (01, Layout text)
-abbrev pub takesFlag : Code → Bool
-takesFlag (Data (Text pad)) = false
-takesFlag (Data (Digits hex high)) = false
-takesFlag (Data (Integers w big)) = true
-takesFlag (Move m) = false
-
 -- what moves the cursor has no slot, and everything else has one (01, Layout text)
 abbrev pub takesSlot : Code → Bool
 takesSlot (Data s) = true
@@ -70,10 +63,10 @@ toNat false = 0
 
 -- ---- a field's flag and count, at the front of the bytes that follow its type character
 
--- the flag `u` (byte 117) stands in front, after a type that takes it
-unfoldable pub flagged : Code → List ℕ → Bool
-flagged k [] = false
-flagged k (c ∷ cs) = takesFlag k && eqb c 117
+-- the flag `u` (byte 117) stands in front; any type may have it, and only integers that are read go by it (02, M-101)
+unfoldable pub flagged : List ℕ → Bool
+flagged [] = false
+flagged (c ∷ cs) = eqb c 117
 
 abbrev pub isDecimal : ℕ → Bool
 isDecimal c = leb 48 c && leb c 57
@@ -132,7 +125,7 @@ stepFrom (refused why place) = bad why place
 unfoldable pub fieldAfter : Bool → ℕ → Code → List ℕ → Result (Field × ℕ)
 unfolding flagged countOf countLength
 fieldAfter packing at k cs = do
-  let u = flagged k cs
+  let u = flagged cs
   let rest = drop (toNat u) cs
   let n = countOf rest
   _ ← demand (inLimit n) CountTooLarge at

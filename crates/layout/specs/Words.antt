@@ -190,6 +190,6 @@ NumberAt text at v e = (v ≡ min overCount (decimal 0 (drop at text))) × (e �
 abbrev pub CountAt : List ℕ → ℕ → ℕ → ℕ → Type 0
 CountAt text at v e = (v ≡ heldNumber (countOf (drop at text))) × (e ≡ at + countLength (drop at text))
 
--- the flag and the count at a place, after a type k: the flag as a number, the number of the count, held, and the place after both
-abbrev pub TailAt : List ℕ → ℕ → Code → ℕ → ℕ → ℕ → Type 0
-TailAt text at k u v e = (u ≡ toNat (flagged k (drop at text))) × CountAt text (at + u) v e
+-- the flag and the count at a place: the flag as a number, the number of the count, held, and the place after both
+abbrev pub TailAt : List ℕ → ℕ → ℕ → ℕ → ℕ → Type 0
+TailAt text at u v e = (u ≡ toNat (flagged (drop at text))) × CountAt text (at + u) v e

@@ -3,7 +3,7 @@
 ghost use mathlib.Core.Path.{_≡_};
 ghost use Prim.Native.Nat.{_+_, _-_, _*_, _^_, _≤_, _<_, min};
 ghost use lib.ListN.{length, getD};
-ghost use Rattle.layout.specs.Layout.{maxLayout, typeOf, takesFlag, hasMeaning, toNat, fieldsOf};
+ghost use Rattle.layout.specs.Layout.{maxLayout, typeOf, hasMeaning, toNat, fieldsOf};
 ghost use Rattle.layout.specs.Words.{lastDigits, lastData, overCount, HasType, typeNumbered, widthNumbered, countFrom, known, FieldOf, SlotsIn, SpacesEnd, NumberAt, CountAt, TailAt, FoundAs, Parses};
 
 // The limits of a layout and of a count (01, Slot tables, sizes). A field has a byte at least, so that so many words hold the fields of a layout.
@@ -271,19 +271,9 @@ fn count_at(text: &[u8], at: usize) -> Numeral
     }
 }
 
-// Whether the type of a number takes the flag.
-fn takes_flag(d: u32) -> bool
-    ensures { λ r. ⌜ r ≡ takesFlag (known (typeNumbered d)) ⌝ }
-{
-    if d <= LAST_DIGITS {
-        return false;
-    }
-    d <= LAST_DATA
-}
-
-// The flag and the count that stand at `at`, after the type character of type d.
-fn tail_at(text: &[u8], at: usize, d: u32) -> Tail
-    ensures { λ r. ⌜ TailAt (now (text .entry)) at (known (typeNumbered d)) (r .flag) (r .value) (r .next) ⌝ }
+// The flag and the count that stand at `at`, after a type character.
+fn tail_at(text: &[u8], at: usize) -> Tail
+    ensures { λ r. ⌜ TailAt (now (text .entry)) at (r .flag) (r .value) (r .next) ⌝ }
 {
     if text.len() <= at {
         return Tail {
@@ -295,13 +285,6 @@ fn tail_at(text: &[u8], at: usize, d: u32) -> Tail
     let c = text[at];
     if b'9' < c {
         if c != b'u' {
-            return Tail {
-                flag: 0,
-                value: 0,
-                next: at,
-            };
-        }
-        if !takes_flag(d) {
             return Tail {
                 flag: 0,
                 value: 0,
@@ -357,7 +340,7 @@ fn read_field(text: &[u8], packing: bool, p: usize) -> Found
     if LAST_TYPE < d {
         return Found::Bad(Refusal::UnknownType, p);
     }
-    let t = tail_at(text, p + 1, d);
+    let t = tail_at(text, p + 1);
     let v = t.value;
     if LAST_COUNT < v {
         return Found::Bad(Refusal::CountTooLarge, p);

@@ -116,6 +116,7 @@ p aX9a|"a" "b"
 p @3|
 p a2X@*a|"ab" "c"
 p x2X2@1|
+p au3xu2|"Mar"
 "#,
         record,
     );
@@ -126,12 +127,12 @@ pub fn packed_refusals(record: &mut [u8; 4096]) {
     run(
         br#"
 p c 3|{1}
-p cau|{1} "x"
+p cauu|{1} "x"
 p a4096|"x"
 p c a4097|{1} "x"
 p a@|"x"
 p x*|
-p @u5|
+p @u|
 p a|
 p a|"x" "y"
 p aa|"x" -
