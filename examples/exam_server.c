@@ -284,6 +284,41 @@ static void show_sheets(void)
     }
 }
 
+/* Two markers' copies of one candidate's record: the second gave another oral mark, and lost the strip. */
+static void show_differences(void)
+{
+    static const char *const verdicts[] = {"same", "first copy only", "second copy only", "in neither", "different"};
+    struct candidate other = candidates[0];
+    struct table one, two;
+    struct record first, second;
+    uint8_t report[FIELDS * CURLEW_FINDING_SIZE], reply[CURLEW_COMPARE_REPLY];
+    size_t field;
+
+    printf("\nwhat differs between two markers' copies of %s\n", other.number);
+    fill_new(&one, &candidates[0]);
+    other.oral = 52;
+    fill_new(&two, &other);
+    if (!pack(new_layout, &one, &first) || !pack(new_layout, &two, &second))
+        return;
+    second.length = 24;
+    if (curlew_compare((const uint8_t *)new_layout, strlen(new_layout), first.bytes, first.length,
+                       second.bytes, second.length, one.slots, sizeof one.slots, one.area, sizeof one.area,
+                       two.slots, sizeof two.slots, two.area, sizeof two.area,
+                       report, sizeof report, reply, sizeof reply) != CURLEW_OK) {
+        print_refusal(curlew_get_answer(reply));
+        return;
+    }
+    for (field = 0; field < curlew_get_answer(reply).first; field++) {
+        struct curlew_finding finding = curlew_get_finding(report, field);
+
+        if (finding.verdict == CURLEW_DIFFERENT)
+            printf("%-14sdifferent, from byte %" PRIu32 " of the value on, in %" PRIu32 " bits\n",
+                   heads[field], finding.place, finding.bits);
+        else
+            printf("%-14s%s\n", heads[field], verdicts[finding.verdict]);
+    }
+}
+
 static void show_refusals(void)
 {
     static const char wrong_layout[] = "a6 A12 Su Su Yu b10";
@@ -311,6 +346,7 @@ int main(void)
     print_table(old_layout, 4, records, CANDIDATES);
     print_table(new_layout, FIELDS, records, CANDIDATES);
     show_sheets();
+    show_differences();
     show_refusals();
     return 0;
 }

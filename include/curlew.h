@@ -6,7 +6,7 @@
  * of Tcl's `binary format` and `binary scan`, within the types listed below.
  *
  * curlew_sheet_write and curlew_sheet_read keep a whole table of values in a file, as a sheet, with the values
- * that are not set.
+ * that are not set. curlew_compare reads two copies of one record and says what differs.
  *
  * Link with libcurlew.a; no other library is needed. The header serves C99 and C++.
  *
@@ -120,6 +120,25 @@
  * 0 or beyond the end, a kind above 3, a value behind CURLEW_UNSET, or integers that are no multiple of 8 bytes.
  *
  *
+ * COMPARING TWO COPIES OF A RECORD
+ *
+ * curlew_compare reads two records by one layout, each from mark 0 into a table and an area of its own, just as
+ * two calls of curlew_read would leave them, and writes a finding for each field that takes a slot into the
+ * report. A finding is CURLEW_FINDING_SIZE (12) bytes, three big-endian 32-bit numbers: the verdict, a place and
+ * a number of bits.
+ *
+ *   CURLEW_SAME          0    both copies have the field, with the same value
+ *   CURLEW_ONLY_FIRST    1    the second copy is too short for it
+ *   CURLEW_ONLY_SECOND   2    the first copy is too short for it
+ *   CURLEW_NEITHER       3    both copies are too short for it
+ *   CURLEW_DIFFERENT     4    both have it, with different values
+ *
+ * Place and bits are 0 unless the values differ. The place is then the first byte of the value, as it lies in
+ * the area, at which the two part (the shorter length where one is the beginning of the other), and the bits
+ * are those that differ over the length that both have. An integer is eight bytes there. The report may have any
+ * length that holds the findings; its other bytes stay as they were.
+ *
+ *
  * ANSWERS
  *
  * Every call returns a number and writes three big-endian 32-bit numbers into the reply, the same one first:
@@ -128,6 +147,7 @@
  *   read            CURLEW_OK, how many slots were set, place in the area after the last value
  *   sheet written   CURLEW_OK, length of the sheet, 0
  *   sheet read      CURLEW_OK, how many entries there were, place in the area after the last value
+ *   compared        CURLEW_OK, how many findings there are, 0
  *   refused         the number of the refusal, the place of the fault, 0
  *
  *   no.  constant            refused because                                        place
@@ -149,7 +169,8 @@
  *   10   CURLEW_BAD_DIGIT    packing: a digit that counts is not a digit            the slot
  *   11   CURLEW_NO_ROOM      the result does not fit the output run, or the         0
  *                            values do not fit the area from the mark on; a
- *                            sheet's lengths do not fit their two bytes
+ *                            sheet's lengths do not fit their two bytes; the
+ *                            report does not hold the findings
  *   12   CURLEW_BAD_SHEET    the sheet is too short or its header's length is       0
  *                            wrong;
  *                            the length or the kind of an entry is wrong            the entry's first byte
@@ -157,8 +178,9 @@
  *
  * The checks are made in this order. Packing and reading a record: 1; then 2, 3 and 4 for each field in turn;
  * then 5; then 6 to 10 for each slot in turn, the lower number first; then 11. Writing a sheet: 1; 7 for each
- * slot in turn; 11. Reading a sheet: 1; 13; 12; 5; 11. No byte is written before the last of them: a refusal
- * writes the reply and nothing else. A reply of a wrong size makes the call return 1 and write nothing
+ * slot in turn; 11. Reading a sheet: 1; 13; 12; 5; 11. Comparing: all of reading the first copy, then all of
+ * reading the second, then 11 for the report. No byte is written before the last of them: a refusal writes the
+ * reply and nothing else. A reply of a wrong size makes the call return 1 and write nothing
  * at all.
  *
  * After a packing that was accepted, the bytes of the output run behind the result stay as they were.
@@ -172,7 +194,8 @@
  *   area                    at most CURLEW_MAX_AREA   65,536 bytes
  *   sheet, run for one      at most CURLEW_MAX_SHEET  65,538 bytes
  *   count in a layout       at most CURLEW_MAX_COUNT   4,096
- *   reply                   exactly CURLEW_PACK_REPLY, CURLEW_READ_REPLY or CURLEW_SHEET_REPLY bytes
+ *   reply                   exactly CURLEW_PACK_REPLY, CURLEW_READ_REPLY, CURLEW_SHEET_REPLY or
+ *                           CURLEW_COMPARE_REPLY bytes
  *
  * The limits are on the lengths that you give to a call. The output run must be no larger than a record may
  * be, even where the result is short. A run of length 0 may be a null pointer.
@@ -248,6 +271,8 @@
 #define CURLEW_PACK_REPLY 12
 #define CURLEW_READ_REPLY 12
 #define CURLEW_SHEET_REPLY 12
+#define CURLEW_COMPARE_REPLY 12
+#define CURLEW_FINDING_SIZE 12
 
 /* Limits. */
 #define CURLEW_MAX_LAYOUT 256
@@ -262,6 +287,13 @@
 #define CURLEW_STRING 1
 #define CURLEW_SIGNED 2
 #define CURLEW_UNSIGNED 3
+
+/* Verdicts of comparing. */
+#define CURLEW_SAME 0
+#define CURLEW_ONLY_FIRST 1
+#define CURLEW_ONLY_SECOND 2
+#define CURLEW_NEITHER 3
+#define CURLEW_DIFFERENT 4
 
 /* Numbers that come back. */
 #define CURLEW_OK 0
@@ -311,6 +343,17 @@ uint32_t curlew_sheet_read(const uint8_t *sheet, size_t sheet_len,
                            size_t mark,
                            uint8_t *reply, size_t reply_len);
 
+/* Compares two copies of a record by the layout. Writes both tables, both areas, report and reply. */
+uint32_t curlew_compare(const uint8_t *layout, size_t layout_len,
+                        const uint8_t *first, size_t first_len,
+                        const uint8_t *second, size_t second_len,
+                        uint8_t *first_slots, size_t first_slots_len,
+                        uint8_t *first_area, size_t first_area_len,
+                        uint8_t *second_slots, size_t second_slots_len,
+                        uint8_t *second_area, size_t second_area_len,
+                        uint8_t *report, size_t report_len,
+                        uint8_t *reply, size_t reply_len);
+
 #ifdef __cplusplus
 }
 #endif
@@ -320,6 +363,13 @@ struct curlew_slot {
     uint32_t kind;
     uint32_t start;
     uint32_t length;
+};
+
+/* A finding's three numbers: the verdict, and where and in how many bits two values differ. */
+struct curlew_finding {
+    uint32_t verdict;
+    uint32_t place;
+    uint32_t bits;
 };
 
 /* An answer's three numbers: the number itself, then the two whose meaning depends on it. */
@@ -391,6 +441,18 @@ static inline struct curlew_slot curlew_get_slot(const uint8_t *slots, size_t in
     slot.start = curlew_get_number(from + 4);
     slot.length = curlew_get_number(from + 8);
     return slot;
+}
+
+/* Finding `index` of a report. */
+static inline struct curlew_finding curlew_get_finding(const uint8_t *report, size_t index)
+{
+    const uint8_t *from = report + index * CURLEW_FINDING_SIZE;
+    struct curlew_finding finding;
+
+    finding.verdict = curlew_get_number(from);
+    finding.place = curlew_get_number(from + 4);
+    finding.bits = curlew_get_number(from + 8);
+    return finding;
 }
 
 /* The three numbers of a reply. */

@@ -1,5 +1,6 @@
 //! A call with everything lent to it, and what is found after it.
 
+use crate::compare::{self, Side};
 use crate::{sheet, twin};
 use std::ops::{Deref, DerefMut};
 
@@ -9,13 +10,15 @@ pub enum Which {
     Read,
     SheetWrite,
     SheetRead,
+    Compare,
 }
 
-pub const CALLS: [Which; 4] = [
+pub const CALLS: [Which; 5] = [
     Which::Pack,
     Which::Read,
     Which::SheetWrite,
     Which::SheetRead,
+    Which::Compare,
 ];
 
 impl Which {
@@ -23,7 +26,7 @@ impl Which {
     pub fn numbers(self) -> &'static [u32] {
         match self {
             Which::Pack => &[0, 1, 2, 3, 4, 5, 6, 7, 8, 9, 10, 11],
-            Which::Read => &[0, 1, 2, 3, 4, 5, 11],
+            Which::Read | Which::Compare => &[0, 1, 2, 3, 4, 5, 11],
             Which::SheetWrite => &[0, 1, 7, 11],
             Which::SheetRead => &[0, 1, 5, 11, 12, 13],
         }
@@ -31,7 +34,7 @@ impl Which {
 }
 
 /// The runs that a call may be lent; those that are not lent to it stay empty.
-/// In packing `record` is the output buffer.
+/// In packing `record` is the output buffer. In comparing `record`, `slots` and `area` are the first's.
 #[derive(Clone, PartialEq, Eq, Default)]
 pub struct Runs {
     pub layout: Vec<u8>,
@@ -39,6 +42,10 @@ pub struct Runs {
     pub slots: Vec<u8>,
     pub area: Vec<u8>,
     pub sheet: Vec<u8>,
+    pub second_record: Vec<u8>,
+    pub second_slots: Vec<u8>,
+    pub second_area: Vec<u8>,
+    pub report: Vec<u8>,
     pub reply: Vec<u8>,
 }
 
@@ -56,6 +63,17 @@ impl Runs {
             Which::Read => vec![layout, record, slots, area, reply],
             Which::SheetWrite => vec![slots, area, sheet, reply],
             Which::SheetRead => vec![sheet, slots, area, reply],
+            Which::Compare => vec![
+                layout,
+                record,
+                ("second record", &mut self.second_record),
+                slots,
+                area,
+                ("second slots", &mut self.second_slots),
+                ("second area", &mut self.second_area),
+                ("report", &mut self.report),
+                reply,
+            ],
         }
     }
 }
@@ -180,6 +198,21 @@ pub fn by_twin(call: &Call) -> After {
             &mut runs.slots,
             &mut runs.area,
             call.mark,
+            &mut runs.reply,
+        ),
+        Which::Compare => compare::compare_call(
+            &call.layout,
+            &mut Side {
+                record: &call.record,
+                slots: &mut runs.slots,
+                area: &mut runs.area,
+            },
+            &mut Side {
+                record: &call.second_record,
+                slots: &mut runs.second_slots,
+                area: &mut runs.second_area,
+            },
+            &mut runs.report,
             &mut runs.reply,
         ),
     };

@@ -94,7 +94,7 @@ fn one_in(dice: &mut Dice, len: usize) -> Option<usize> {
     }
 }
 
-fn damage_text(dice: &mut Dice, text: &mut Vec<u8>) {
+pub fn damage_text(dice: &mut Dice, text: &mut Vec<u8>) {
     let byte = dice.pick(b"aAbBhHcsSiIwWxX@u*0123456789999  tqf\0\xff");
     let at = dice.between(0, text.len());
     match (dice.below(3), at < text.len()) {
@@ -206,7 +206,7 @@ fn random_pack(dice: &mut Dice, scratch: &mut Scratch) -> Call {
 }
 
 /// A record that some layout packed, or just bytes.
-fn random_record(dice: &mut Dice, specs: &[Spec], scratch: &mut Scratch) -> Vec<u8> {
+pub fn random_record(dice: &mut Dice, specs: &[Spec], scratch: &mut Scratch) -> Vec<u8> {
     let mut specs: Vec<Spec> = specs.to_vec();
     specs.retain(|s| s.letter != b'x' || s.or_all(COUNT_MAX + 1) <= COUNT_MAX);
     let layout = spelled(dice, &mut specs);
@@ -267,7 +267,7 @@ pub fn random_slots(dice: &mut Dice, count: usize) -> Vec<u8> {
 }
 
 /// A reading of the record with room for its values, or nearly so.
-fn reading(
+pub fn reading(
     dice: &mut Dice,
     scratch: &mut Scratch,
     layout: &[u8],

@@ -1,5 +1,6 @@
 //! The twin behind C entry points, as a library of its own.
 
+mod compare;
 mod limits;
 mod sheet;
 mod slots;
@@ -114,6 +115,49 @@ pub unsafe extern "C" fn twin_sheet_read(
         lent_mut(slots, slots_len),
         lent_mut(area, area_len),
         mark,
+        lent_mut(reply, reply_len),
+    )
+}
+
+/// # Safety
+/// Each pointer leads to a run of its length; the tables, the areas, `report` and `reply` overlap
+/// no other run.
+#[no_mangle]
+pub unsafe extern "C" fn twin_compare(
+    layout: *const u8,
+    layout_len: usize,
+    first: *const u8,
+    first_len: usize,
+    second: *const u8,
+    second_len: usize,
+    first_slots: *mut u8,
+    first_slots_len: usize,
+    first_area: *mut u8,
+    first_area_len: usize,
+    second_slots: *mut u8,
+    second_slots_len: usize,
+    second_area: *mut u8,
+    second_area_len: usize,
+    report: *mut u8,
+    report_len: usize,
+    reply: *mut u8,
+    reply_len: usize,
+) -> u32 {
+    let mut first = compare::Side {
+        record: lent(first, first_len),
+        slots: lent_mut(first_slots, first_slots_len),
+        area: lent_mut(first_area, first_area_len),
+    };
+    let mut second = compare::Side {
+        record: lent(second, second_len),
+        slots: lent_mut(second_slots, second_slots_len),
+        area: lent_mut(second_area, second_area_len),
+    };
+    compare::compare_call(
+        lent(layout, layout_len),
+        &mut first,
+        &mut second,
+        lent_mut(report, report_len),
         lent_mut(reply, reply_len),
     )
 }

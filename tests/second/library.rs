@@ -50,6 +50,26 @@ extern "C" {
         reply: *mut u8,
         reply_len: usize,
     ) -> u32;
+    fn curlew_compare(
+        layout: *const u8,
+        layout_len: usize,
+        first: *const u8,
+        first_len: usize,
+        second: *const u8,
+        second_len: usize,
+        first_slots: *mut u8,
+        first_slots_len: usize,
+        first_area: *mut u8,
+        first_area_len: usize,
+        second_slots: *mut u8,
+        second_slots_len: usize,
+        second_area: *mut u8,
+        second_area_len: usize,
+        report: *mut u8,
+        report_len: usize,
+        reply: *mut u8,
+        reply_len: usize,
+    ) -> u32;
 }
 
 const GUARD: usize = 40;
@@ -125,6 +145,10 @@ pub fn by_library(call: &Call) -> (After, Vec<&'static str>) {
             }
             Which::SheetRead => curlew_sheet_read(
                 at[0], len[0], at[1], len[1], at[2], len[2], call.mark, at[3], len[3],
+            ),
+            Which::Compare => curlew_compare(
+                at[0], len[0], at[1], len[1], at[2], len[2], at[3], len[3], at[4], len[4], at[5],
+                len[5], at[6], len[6], at[7], len[7], at[8], len[8],
             ),
         }
     };

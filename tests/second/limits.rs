@@ -18,3 +18,5 @@ pub const ITEM_BYTES: usize = 8;
 pub const KIND_MAX: u32 = 3;
 
 pub const REPLY_BYTES: usize = 12;
+/// The bytes that a comparison reports on each value field.
+pub const REPORT_BYTES: usize = 12;

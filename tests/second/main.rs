@@ -4,6 +4,8 @@
 
 mod call;
 mod calls;
+mod compare;
+mod compare_calls;
 mod dice;
 mod evolution;
 mod fixed;
@@ -49,6 +51,7 @@ fn main() {
     };
     fixed::run(&mut tally);
     sheet_calls::run(&mut tally);
+    compare_calls::run(&mut tally);
     println!(
         "fixed calls: {} passed, {} failed",
         tally.passed, tally.failed
@@ -59,6 +62,7 @@ fn main() {
     while begin.elapsed() < Duration::from_secs(seconds) {
         calls::round(&mut dice, &mut scratch, &mut tally);
         sheet_calls::round(&mut dice, &mut tally);
+        compare_calls::round(&mut dice, &mut scratch, &mut tally);
     }
     tally.print();
     exit((tally.failed > 0) as i32);

@@ -38,14 +38,14 @@ enum Count {
 }
 
 #[derive(Clone, Copy)]
-struct Field {
+pub struct Field {
     kind: Kind,
     count: Count,
 }
 
-type Fields = [Field; LAYOUT_MAX];
+pub type Fields = [Field; LAYOUT_MAX];
 
-const NO_FIELDS: Fields = [Field {
+pub const NO_FIELDS: Fields = [Field {
     kind: Kind::Skip,
     count: Count::Absent,
 }; LAYOUT_MAX];
@@ -549,7 +549,13 @@ fn load_field(kind: Kind, from: &[u8], to: &mut [u8]) -> u32 {
 }
 
 /// Sets the slots and the area as far as the record reaches; there is room for the values.
-fn load_fields(fields: &[Field], record: &[u8], slots: &mut [u8], area: &mut [u8], mark: usize) {
+pub fn load_fields(
+    fields: &[Field],
+    record: &[u8],
+    slots: &mut [u8],
+    area: &mut [u8],
+    mark: usize,
+) {
     let (mut at, mut place) = (0, mark);
     let mut slots = slots.chunks_exact_mut(SLOT_BYTES);
     for field in fields {
@@ -573,13 +579,24 @@ fn load_fields(fields: &[Field], record: &[u8], slots: &mut [u8], area: &mut [u8
     }
 }
 
-fn read_into(
+/// A reading that is accepted: how many fields it has, how many of them take a slot,
+/// how many slots it sets, and the bytes of their values.
+pub struct Decided {
+    pub len: usize,
+    pub takers: usize,
+    pub set: usize,
+    pub bytes: usize,
+}
+
+/// Decides on a reading and writes nothing but `fields`.
+pub fn decided(
     layout: &[u8],
     record: &[u8],
-    slots: &mut [u8],
-    area: &mut [u8],
+    slots: &[u8],
+    area: &[u8],
     mark: usize,
-) -> Result<Answer, Answer> {
+    fields: &mut Fields,
+) -> Result<Decided, Answer> {
     if layout.len() > LAYOUT_MAX
         || bad_slot_run(slots)
         || record.len() > RECORD_MAX
@@ -588,8 +605,7 @@ fn read_into(
     {
         return Err(refused(1, 0));
     }
-    let mut fields = NO_FIELDS;
-    let (len, takers) = parse(layout, false, &mut fields)?;
+    let (len, takers) = parse(layout, false, fields)?;
     if takers * SLOT_BYTES > slots.len() {
         return Err(refused(5, 0));
     }
@@ -597,8 +613,25 @@ fn read_into(
     if bytes > area.len() - mark {
         return Err(refused(11, 0));
     }
-    load_fields(&fields[..len], record, slots, area, mark);
-    Ok(accepted(set, mark + bytes))
+    Ok(Decided {
+        len,
+        takers,
+        set,
+        bytes,
+    })
+}
+
+fn read_into(
+    layout: &[u8],
+    record: &[u8],
+    slots: &mut [u8],
+    area: &mut [u8],
+    mark: usize,
+) -> Result<Answer, Answer> {
+    let mut fields = NO_FIELDS;
+    let decided = decided(layout, record, slots, area, mark, &mut fields)?;
+    load_fields(&fields[..decided.len], record, slots, area, mark);
+    Ok(accepted(decided.set, mark + decided.bytes))
 }
 
 /// Reads the record by the layout into the table, values going into the area from the mark on.

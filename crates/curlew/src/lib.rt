@@ -2,6 +2,7 @@
 ghost use mathlib.Core.Path.{_≡_};
 ghost use Rattle.host_record.specs.Calls.{curlewPack, curlewRead};
 ghost use Rattle.host_sheet.specs.Calls.{curlewSheetWrite, curlewSheetRead};
+ghost use Rattle.host_compare.specs.Calls.{curlewCompare};
 
 // Packs the arguments into `out` by the layout (Tcl's `binary format`).
 #[no_mangle]
@@ -57,4 +58,32 @@ pub extern "C" fn curlew_sheet_read(
     ensures { λ r. ⌜ record { returned = r; slots = now (slots .exit); area = now (area .exit); reply = now (reply .exit) } ≡ curlewSheetRead (now (sheet .entry)) (now (slots .entry)) (now (area .entry)) mark (now (reply .entry)) ⌝ }
 {
     host_sheet::read(sheet, slots, area, mark, reply)
+}
+
+// Reads two copies of a record by their layout, each into its own table and area, and says for each value field what differs.
+#[no_mangle]
+pub extern "C" fn curlew_compare(
+    layout: &[u8],
+    first: &[u8],
+    second: &[u8],
+    first_slots: &mut [u8],
+    first_area: &mut [u8],
+    second_slots: &mut [u8],
+    second_area: &mut [u8],
+    report: &mut [u8],
+    reply: &mut [u8],
+) -> u32
+    ensures { λ r. ⌜ record { returned = r; firstSlots = now («first_slots» .exit); firstArea = now («first_area» .exit); secondSlots = now («second_slots» .exit); secondArea = now («second_area» .exit); report = now (report .exit); reply = now (reply .exit) } ≡ curlewCompare (now (layout .entry)) (now (first .entry)) (now (second .entry)) (now («first_slots» .entry)) (now («first_area» .entry)) (now («second_slots» .entry)) (now («second_area» .entry)) (now (report .entry)) (now (reply .entry)) ⌝ }
+{
+    host_compare::compare(
+        layout,
+        first,
+        second,
+        first_slots,
+        first_area,
+        second_slots,
+        second_area,
+        report,
+        reply,
+    )
 }

@@ -40,7 +40,7 @@ pub room-whole : {size : ℕ} (room : List ℕ) → Fit size → size / numberSi
 room-whole {size} room f h = rw (length-take-le (size / numberSize) room h) (omega (arith, f .whole))
 
 -- whole slots that are not served are too many
-too-many : (size : ℕ) → slotsFit size ≡ false → eqb (size % slotSize) 0 ≡ true → slotWidth * maxSlots < size / numberSize
+pub too-many : (size : ℕ) → slotsFit size ≡ false → eqb (size % slotSize) 0 ≡ true → slotWidth * maxSlots < size / numberSize
 too-many size bad whole =
     split size (slotSize * maxSlots)
     (λ few. let no-way : true ≡ false = rw (le-leb size (slotSize * maxSlots) few, whole) at bad in

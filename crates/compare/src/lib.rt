@@ -1,0 +1,52 @@
+// Two copies of one record compared by their layout: for each value field whether both show the same value, and if not where and how far they differ.
+// Both readings are checked before anything is written.
+ghost use mathlib.Core.Path.{_≡_};
+ghost use Rattle.compare.specs.Comparing.{compare};
+use layout::Refusal;
+use record::Answer;
+
+mod report;
+mod value;
+
+// The numbers of a row of the report.
+pub const REPORT_WIDTH: usize = 3;
+
+// Reads both copies, each into its own table and area, and writes three numbers for each value field into the report. A refusal changes nothing.
+pub fn compare(
+    layout: &[u8],
+    first: &[u8],
+    second: &[u8],
+    first_slots: &mut [u32],
+    first_area: &mut [u8],
+    second_slots: &mut [u32],
+    second_area: &mut [u8],
+    report: &mut [u32],
+) -> Answer
+    ensures { λ r. ⌜ record { answer = r; firstSlots = now («first_slots» .exit); firstArea = now («first_area» .exit); secondSlots = now («second_slots» .exit); secondArea = now («second_area» .exit); report = now (report .exit) } ≡ compare (now (layout .entry)) (now (first .entry)) (now (second .entry)) (now («first_slots» .entry)) (now («first_area» .entry)) (now («second_slots» .entry)) (now («second_area» .entry)) (now (report .entry)) ⌝ }
+{
+    let a = reader::check(layout, first, first_slots, first_area, 0);
+    if a.number != 0 {
+        return a;
+    }
+    let b = reader::check(layout, second, second_slots, second_area, 0);
+    if b.number != 0 {
+        return b;
+    }
+    let fields = b.first as usize;
+    if report.len() / REPORT_WIDTH < fields {
+        return Answer::refused(Refusal::NoRoom, 0);
+    }
+    let p = reader::read(layout, first, first_slots, first_area, 0);
+    let q = reader::read(layout, second, second_slots, second_area, 0);
+    report::write(
+        report,
+        fields,
+        first_slots,
+        first_area,
+        p.first as usize,
+        second_slots,
+        second_area,
+        q.first as usize,
+    );
+    b
+}

@@ -1,0 +1,2 @@
+-- Laws of comparing for a C host.
+mod Calls

@@ -1,0 +1,168 @@
+-- Each way out is one law of the definition; what was tested on the way is its premise.
+use native.Mathlib.Omega.{arith}
+use mathlib.Core.Path.{_≡_, sym, _∙_}
+use mathlib.Core.Bool.{true}
+use borrow.Author.Tests.{not-true, not-false, eqb-true}
+use lib.Dec.{eqb}
+use lib.ListN.{length}
+use lib.Seq.{length-take-le}
+use Rattle.host.specs.Host.{replySize}
+use Rattle.host.proofs.Guards.{Fit, fit, room-for, room-whole}
+use Rattle.host_compare.proofs.Calls.{unwritten, first-cut, second-cut, served}
+use borrow.Author.Needs.{needs}
+use Rattle.host_compare.proofs.compare.Statement.{statement}
+use Rattle.host_compare.proofs.compare.Tie as tie
+
+reply-fits-requires : tie.Need-reply-fits-requires
+reply-fits-requires c κs = search needs
+
+returns : tie.Need-returns
+returns c = unwritten _ _ _ _ _ _ _ _ _ (sym (c .before .reply-fits .ensures) ∙ not-true _ (c .if1 .taken))
+
+sized : (c : tie.Else1) → eqb (length (c .before .before .before .before .before .before .before .before .before .before .before .args .reply .now)) replySize ≡ true
+sized c = sym (c .before .reply-fits .ensures) ∙ not-false _ (c .if1 .left)
+
+slots-fit-requires : tie.Need-slots-fit-requires
+slots-fit-requires c κs = search needs
+
+refused-requires : tie.Need-refused-requires
+refused-requires c κs = search needs
+
+reply-with-requires : tie.Need-reply-with-requires
+reply-with-requires c κs = eqb-true _ _ (sized (c .before .before .before .before))
+
+same-length : tie.Need-same-length
+same-length c = search needs
+
+returns-2 : tie.Need-returns-2
+returns-2 c =
+    let replied = c .before .before in
+    let refused = replied .before in
+    let tested = refused .before .before in
+    first-cut _ _ _ _ _ _ _ _ _ (sized (tested .before .before)) (sym (tested .before .slots-fit .ensures) ∙ not-true _ (tested .if2 .taken)) (refused .refused .ensures) (replied .reply-with .ensures)
+
+first-fits : (c : tie.Else2) → Fit (length (c .before .before .before .before .before .before .before .before .before .before .before .before .before .args .first-slots .now))
+first-fits c = fit _ (sym (c .before .slots-fit .ensures) ∙ not-false _ (c .if2 .left))
+
+slots-fit-requires-2 : tie.Need-slots-fit-requires-2
+slots-fit-requires-2 c κs = search needs
+
+array-share-prefix-first-room : tie.Need-array-share-prefix-first-room
+array-share-prefix-first-room c = let f = first-fits (c .before .before) in omega (arith, f .few)
+
+slice-aggregate-refuse-second : tie.Need-slice-aggregate-refuse-second
+slice-aggregate-refuse-second c = sym (length-take-le _ _ (array-share-prefix-first-room (c .before)))
+
+refuse-second-requires : tie.Need-refuse-second-requires
+refuse-second-requires c κs = eqb-true _ _ (sized (c .before .before .before .before .before .before .before))
+
+same-length-2 : tie.Need-same-length-2
+same-length-2 c = search needs
+
+same-length-3 : tie.Need-same-length-3
+same-length-3 c = search needs
+
+returns-3 : tie.Need-returns-3
+returns-3 c =
+    let called = c .before .before in
+    let tested = called .before .before .before .before in
+    let served = tested .before .before in
+    second-cut _ _ _ _ _ _ _ _ _ (sized (served .before .before)) (first-fits served) _ (length-take-le _ _ (array-share-prefix-first-room tested)) (sym (tested .before .slots-fit2 .ensures) ∙ not-true _ (tested .if3 .taken))
+    (called .refuse-second .ensures)
+
+second-fits : (c : tie.Else3) → Fit (length (c .before .before .before .before .before .before .before .before .before .before .before .before .before .before .before .args .second-slots .now))
+second-fits c = fit _ (sym (c .before .slots-fit2 .ensures) ∙ not-false _ (c .if3 .left))
+
+least-requires : tie.Need-least-requires
+least-requires c κs = search needs
+
+array-borrow-prefix-first-room : tie.Need-array-borrow-prefix-first-room
+array-borrow-prefix-first-room c = let f = first-fits (c .before .before .before .before .before .before .before .before .before) in omega (arith, f .few)
+
+slice-aggregate-compare-by : tie.Need-slice-aggregate-compare-by
+slice-aggregate-compare-by c = sym (length-take-le _ _ (array-borrow-prefix-first-room (c .before)))
+
+array-borrow-prefix-second-room : tie.Need-array-borrow-prefix-second-room
+array-borrow-prefix-second-room c = let f = second-fits (c .before .before .before .before .before .before .before .before) in omega (arith, f .few)
+
+slice-aggregate-compare-by-2 : tie.Need-slice-aggregate-compare-by-2
+slice-aggregate-compare-by-2 c = sym (length-take-le _ _ (array-borrow-prefix-second-room (c .before)))
+
+array-borrow-prefix-rows : tie.Need-array-borrow-prefix-rows
+array-borrow-prefix-rows c = search needs
+
+slice-aggregate-compare-by-3 : tie.Need-slice-aggregate-compare-by-3
+slice-aggregate-compare-by-3 c = sym (length-take-le _ _ (array-borrow-prefix-rows (c .before)))
+
+compare-by-requires : tie.Need-compare-by-requires
+compare-by-requires c κs =
+    let counted = c .before .before .before .before .before .before .before .before .before in
+    let left = counted .before in
+    let first = left .before .before in
+    let room-2 = c .before .before in
+    let room-1 = room-2 .before in (
+      (eqb-true _ _ (sized (first .before .before)), length-take-le _ _ (array-borrow-prefix-rows (c .before)) ∙ counted .least .ensures),
+      (
+        (room-for _ (first-fits first) (array-borrow-prefix-first-room room-1), room-whole _ (first-fits first) (array-borrow-prefix-first-room room-1)),
+        (room-for _ (second-fits left) (array-borrow-prefix-second-room room-2), room-whole _ (second-fits left) (array-borrow-prefix-second-room room-2)),
+      ),
+    )
+
+same-length-4 : tie.Need-same-length-4
+same-length-4 c = search needs
+
+same-length-5 : tie.Need-same-length-5
+same-length-5 c = search needs
+
+same-length-6 : tie.Need-same-length-6
+same-length-6 c = search needs
+
+same-length-7 : tie.Need-same-length-7
+same-length-7 c = search needs
+
+same-length-8 : tie.Need-same-length-8
+same-length-8 c = search needs
+
+same-length-9 : tie.Need-same-length-9
+same-length-9 c = search needs
+
+returns-4 : tie.Need-returns-4
+returns-4 c =
+    let called = c .before .before .before .before .before .before .before .before .before .before .before .before .before .before .before in
+    let left = called .before .before .before .before .before .before .before .before .before .before .before in
+    let first = left .before .before in
+    called .compare-by .ensures ∙ served _ _ _ _ _ _ _ _ _ (sized (first .before .before)) (first-fits first) (second-fits left)
+
+pub compare-spec : {M : Type 1} → statement M
+compare-spec =
+    tie.close
+    (tie.spec
+    reply-fits-requires
+    returns
+    slots-fit-requires
+    refused-requires
+    reply-with-requires
+    same-length
+    returns-2
+    slots-fit-requires-2
+    array-share-prefix-first-room
+    slice-aggregate-refuse-second
+    refuse-second-requires
+    same-length-2
+    same-length-3
+    returns-3
+    least-requires
+    array-borrow-prefix-first-room
+    slice-aggregate-compare-by
+    array-borrow-prefix-second-room
+    slice-aggregate-compare-by-2
+    array-borrow-prefix-rows
+    slice-aggregate-compare-by-3
+    compare-by-requires
+    same-length-4
+    same-length-5
+    same-length-6
+    same-length-7
+    same-length-8
+    same-length-9
+    returns-4)

@@ -1,0 +1,3 @@
+-- What comparing for a C host means; then what the code's steps promise.
+pub mod Calls
+pub mod Steps
