@@ -1,22 +1,23 @@
 -- Laws of storing digits: the value of a run of characters, the byte that a turn makes, and the bytes of the field.
 use Prim.Native.Nat.{ℕ, zero, suc, _+_, _-_, _*_, _^_, _≤_, _<_, min}
-use native.Mathlib.Nat.{not-suc-le-zero, le-of-suc-le-suc, suc-sub-suc, pow-zero, pow-suc, pow-le-pow-right, lt-of-lt-of-le, add-comm, mul-comm, zero-mul, suc-mul}
+use native.Mathlib.Nat.{not-suc-le-zero, le-of-suc-le-suc, suc-sub-suc, add-comm, zero-mul, suc-mul}
 use native.Mathlib.Omega.{arith}
 use mathlib.Core.Path.{_≡_, refl, sym, ap, _∙_}
 use mathlib.Core.Bool.{Bool, true, false}
-use mathlib.Core.List.{List, [], _∷_, map, map-append}
-use lib.ListN.{length, take, drop, getD, replicate, length-take, length-drop, length-map, getD-replicate, List·getD-eq-default, drop-of-length-le}
-use lib.Seq.{getD-drop, getD-take, drop-cons, drop-drop, ext-getD}
-use lib.Arith.{digits-lt}
+use mathlib.Core.List.{List, [], _∷_, _++_, map, map-append, reverse, reverse-append}
+use lib.ListN.{length, take, drop, getD, replicate, length-take, length-map, length-reverse, getD-replicate, List·getD-eq-default, drop-of-length-le}
+use lib.Seq.{getD-drop, getD-take, drop-drop, take-add, take-all, ext-getD}
 use Rattle.layout.specs.declared.Shape.the-variants.{Digits}
 use Rattle.record.specs.Bytes.{part, fit, ceilDiv, pieces, number, ordered}
 use Rattle.record.specs.Geometry.{base, perByte}
 use Rattle.record.specs.Packing.{digitValue, digitBytes, stored}
-use Rattle.record.proofs.Bytes.{All, all-take, all-drop, all-append, all-replicate, all-ordered, length-fit, length-ordered, length-pieces}
+use Rattle.record.proofs.Bytes.{length-fit, length-pieces}
 use Rattle.record.proofs.Stores.{length-part, next-run}
+use Rattle.record.proofs.Widening.{number-append}
 use Rattle.record.proofs.Fields.{split}
-use Rattle.codec.specs.Numerals.{placeOf, DigitsAt, valuesAt, byteOf}
-use Rattle.codec.proofs.DigitLaws.{place-lt, ordered-at, map-at, take-min}
+use Rattle.codec.specs.Numerals.{valuesAt, byteOf}
+use Rattle.codec.proofs.WordLaws.{the-four, two-elements}
+use Rattle.codec.proofs.DigitLaws.{map-at, take-min}
 
 -- ---- digits, as many as fill a byte, and 0 for each that is missing
 
@@ -27,70 +28,72 @@ fit-zero (suc n) [] q h = getD-replicate (suc n - 0) q 0 0 (omega arith)
 fit-zero (suc n) (x ∷ xs) zero h = refl
 fit-zero (suc n) (x ∷ xs) (suc q) h = rw suc-sub-suc (fit-zero n xs q (le-of-suc-le-suc h))
 
-abbrev below : ℕ → ℕ → Type 0
-below b d = d < b
+-- ---- a byte from its digits
 
--- the digits of a byte, the lowest first
-abbrev pub group : Bool → Bool → List ℕ → List ℕ
-group hex high ds = ordered high (fit (perByte hex) 0 ds)
+module _ (first second : List ℕ) (lf : length first ≡ 4) (ls : length second ≡ 4) where
+  pub number-low : number 2 (first ++ second) ≡ number 2 first + number 2 second * 16
+  number-low =
+      let sum : number 2 (first ++ second) ≡ number 2 first + 2 ^ 4 * number 2 second = number-append 2 first second ∙ ap (λ (k : ℕ). number 2 first + 2 ^ k * number 2 second) lf in
+      omega arith
 
-module _ (hex high : Bool) (ds : List ℕ) where
-  length-group : length (group hex high ds) ≡ perByte hex
-  length-group = length-ordered high (fit (perByte hex) 0 ds) ∙ length-fit (perByte hex) 0 ds
+  pub number-high : number 2 (reverse (first ++ second)) ≡ number 2 (reverse first) * 16 + number 2 (reverse second)
+  number-high =
+      let long : length (reverse second) ≡ 4 = length-reverse second ∙ ls in
+      let sum : number 2 (reverse second ++ reverse first) ≡ number 2 (reverse second) + 2 ^ 4 * number 2 (reverse first) =
+      number-append 2 (reverse second) (reverse first) ∙ ap (λ (k : ℕ). number 2 (reverse second) + 2 ^ k * number 2 (reverse first)) long in
+      rw (reverse-append first second) (omega arith)
 
-  group-at : (t : ℕ) → t < perByte hex → getD (group hex high ds) t 0 ≡ getD ds (placeOf high (perByte hex) t) 0
-  group-at t h = ordered-at high (perByte hex) (fit (perByte hex) 0 ds) t (length-fit (perByte hex) 0 ds) h ∙ fit-zero (perByte hex) ds (placeOf high (perByte hex) t) (place-lt high (perByte hex) t h)
+module _ (ds : List ℕ) where
+  abbrev eight : List ℕ
+  eight = fit 8 0 ds
 
-  base-pos : 0 < base hex
-  base-pos = elim hex [ true ↦ omega arith | false ↦ omega arith ]
+  eight-long : length eight ≡ 8
+  eight-long = length-fit 8 0 ds
 
-  all-group : All (below (base hex)) ds → All (below (base hex)) (group hex high ds)
-  unfolding fit
-  all-group h =
-      all-ordered (below (base hex)) high (fit (perByte hex) 0 ds)
-      (all-append (below (base hex)) (take (perByte hex) ds) (replicate (perByte hex - length ds) 0) (all-take (below (base hex)) (perByte hex) ds h) (all-replicate (below (base hex)) (perByte hex - length ds) 0 base-pos))
+  halves : eight ≡ part eight 0 4 ++ part eight 4 4
+  halves =
+      let all : take 8 eight ≡ eight = take-all 8 eight (omega (arith, eight-long)) in
+      let cut : take 8 eight ≡ take 4 eight ++ take 4 (drop 4 eight) = take-add 4 4 eight in
+      sym all ∙ cut
 
-number-lt : (b : ℕ) (l : List ℕ) → All (below b) l → number b l < b ^ length l
-unfolding number
-number-lt b [] h = rw pow-zero (omega arith)
-number-lt b (x ∷ xs) h = rw (pow-suc, add-comm x (b * number b xs), mul-comm b (number b xs)) (digits-lt (number-lt b xs (h .1)) (h .0))
+  pub binary-low : {a b : ℕ} → a ≡ number 2 (part eight 0 4) → b ≡ number 2 (part eight 4 4) → a + b * 16 ≡ byteOf false false ds
+  unfolding byteOf
+  binary-low {a} {b} ea eb =
+      let sum = number-low (part eight 0 4) (part eight 4 4) (length-part 4 0 eight (omega (arith, eight-long))) (length-part 4 4 eight (omega (arith, eight-long))) in
+      sym (ap (number 2) halves ∙ sum ∙ rw (ea, eb))
 
-full-byte : (hex : Bool) → base hex ^ perByte hex ≡ 256
-full-byte true = refl
-full-byte false = refl
+  pub binary-high : {a b : ℕ} → a ≡ number 2 (reverse (part eight 0 4)) → b ≡ number 2 (reverse (part eight 4 4)) → a * 16 + b ≡ byteOf false true ds
+  unfolding byteOf
+  binary-high {a} {b} ea eb =
+      let sum = number-high (part eight 0 4) (part eight 4 4) (length-part 4 0 eight (omega (arith, eight-long))) (length-part 4 4 eight (omega (arith, eight-long))) in
+      sym (ap (λ (l : List ℕ). number 2 (reverse l)) halves ∙ sum ∙ rw (ea, eb))
 
--- ---- a byte, from its highest digit down: acc is the number of the digits from t up
+  -- four of the eight
+  module _ (first : ℕ) (h : first ≤ 4) {a b c d : ℕ} (ea : a ≡ getD ds first 0) (eb : b ≡ getD ds (first + 1) 0) (ec : c ≡ getD ds (first + 2) 0) (ed : d ≡ getD ds (first + 3) 0) where
+    half : part eight first 4 ≡ a ∷ b ∷ c ∷ d ∷ []
+    half =
+        the-four eight first (omega (arith, eight-long)) (ea ∙ sym (fit-zero 8 ds first (omega arith))) (eb ∙ sym (fit-zero 8 ds (first + 1) (omega arith)))
+        (ec ∙ sym (fit-zero 8 ds (first + 2) (omega arith))) (ed ∙ sym (fit-zero 8 ds (first + 3) (omega arith)))
 
-pub record Acc (hex high : Bool) (ds : List ℕ) (t acc : ℕ) : Type 0 where
-  pub within : t ≤ perByte hex
-  pub small : acc < 256
-  pub is : acc ≡ number (base hex) (drop t (group hex high ds))
+    pub half-low : a + 2 * b + 4 * c + 8 * d ≡ number 2 (part eight first 4)
+    unfolding number
+    half-low = rw half (omega arith)
 
-pub acc-none : {hex high : Bool} {ds : List ℕ} {t : ℕ} → t ≡ perByte hex → Acc hex high ds t 0
-unfolding number
-acc-none {hex} {high} {ds} {t} e = record {
-  within = omega arith;
-  small = omega arith;
-  is = rw (drop-of-length-le (group hex high ds) {i = t} (omega (arith, length-group hex high ds)));
-}
+    pub half-high : d + 2 * c + 4 * b + 8 * a ≡ number 2 (reverse (part eight first 4))
+    unfolding number
+    half-high = rw half (omega arith)
 
-pub acc-more : {hex high : Bool} {ds : List ℕ} {t p q d b acc : ℕ} → All (below (base hex)) ds → Acc hex high ds t acc → 0 < t → p ≡ perByte hex → b ≡ base hex
-    → q ≡ placeOf high p (t - 1) → d ≡ getD ds q 0 → Acc hex high ds (t - 1) (d + b * acc)
-unfolding number
-acc-more {hex} {high} {ds} {t} {p} {q} {d} {b} {acc} all a h ep eb eq ed =
-    let g : List ℕ = group hex high ds in
-    let s : t ≡ suc (t - 1) = omega arith in
-    let digit : d ≡ getD g (t - 1) 0 = rw (ed, eq, ep) (sym (group-at hex high ds (t - 1) (omega arith))) in
-    let rest : acc ≡ number (base hex) (drop (suc (t - 1)) g) = a .is ∙ ap (λ (n : ℕ). number (base hex) (drop n g)) s in
-    let step : d + b * acc ≡ number (base hex) (drop (t - 1) g) = rw (drop-cons g (t - 1) 0 (omega (arith, length-group hex high ds)), eb, digit, rest) in
-    let le : length (drop (t - 1) g) ≤ perByte hex = omega (arith, length-drop (t - 1) g, length-group hex high ds) in
-    let lt : number (base hex) (drop (t - 1) g) < base hex ^ perByte hex =
-    lt-of-lt-of-le (number-lt (base hex) (drop (t - 1) g) (all-drop (below (base hex)) (t - 1) g (all-group hex high ds all))) (pow-le-pow-right (base-pos hex high ds) le) in
-    record { within = omega arith; small = rw step (rw full-byte at lt); is = step }
+  module _ {a b : ℕ} (ea : a ≡ getD ds 0 0) (eb : b ≡ getD ds 1 0) where
+    pair : fit 2 0 ds ≡ a ∷ b ∷ []
+    pair = two-elements (fit 2 0 ds) (length-fit 2 0 ds) ∙ rw (fit-zero 2 ds 0 (omega arith), fit-zero 2 ds 1 (omega arith), ea, eb)
 
-pub acc-done : {hex high : Bool} {ds : List ℕ} {t acc : ℕ} → Acc hex high ds t acc → t ≤ 0 → acc ≡ byteOf hex high ds
-unfolding byteOf
-acc-done {hex} {high} {ds} {t} a h = let e : t ≡ 0 = omega arith in a .is ∙ ap (λ (n : ℕ). number (base hex) (drop n (group hex high ds))) e
+    pub hex-low : a + b * 16 ≡ byteOf true false ds
+    unfolding byteOf number
+    hex-low = rw pair (omega arith)
+
+    pub hex-high : a * 16 + b ≡ byteOf true true ds
+    unfolding byteOf number
+    hex-high = rw pair (omega arith)
 
 -- ---- the values of characters
 
@@ -100,15 +103,6 @@ value-low area from count q h k =
 
 pub value-high : (area : List ℕ) (from count q : ℕ) → count ≤ q → getD (valuesAt area from count) q 0 ≡ 0
 value-high area from count q h = List·getD-eq-default (valuesAt area from count) 0 {n = q} (simp (length-map, length-take) (omega arith))
-
-all-of : (P : ℕ → Type 0) (xs : List ℕ) → ((i : ℕ) → i < length xs → P (getD xs i 0)) → All P xs
-all-of P [] h = tt
-all-of P (x ∷ xs) h = (h 0 (omega arith), all-of P xs (λ i k. h (suc i) (omega arith)))
-
-pub values-below : (hex : Bool) (area : List ℕ) (from count : ℕ) → from + count ≤ length area → DigitsAt hex area from count → All (below (base hex)) (valuesAt area from count)
-values-below hex area from count h d =
-    all-of (below (base hex)) (valuesAt area from count)
-    (λ i k. let l : i < count = omega (arith, length-map (part area from count) digitValue, length-part count from area h) in rw (value-low area from count i h l) (d i l))
 
 -- the digits from the number i on: those that are there and fill a byte, or all that are there
 pub byte-part : (hex high : Bool) (area : List ℕ) (start have i j count : ℕ) → start + have ≤ length area → j ≡ min i have → j + count ≤ have → min (perByte hex) (have - j) ≤ count
@@ -127,9 +121,22 @@ byte-part hex high area start have i j count fits ej within enough =
     (λ q h. let k : q < perByte hex = omega (arith, length-fit (perByte hex) 0 a) in
     fit-zero (perByte hex) a q k ∙ same q k ∙ sym (fit-zero (perByte hex) (drop i b) q k ∙ getD-drop i b q 0)))
 
+-- where none is there
+pub zero-byte : (hex high : Bool) → byteOf hex high [] ≡ 0
+unfolding byteOf fit number
+zero-byte true true = refl
+zero-byte true false = refl
+zero-byte false true = refl
+zero-byte false false = refl
+
+pub byte-none : (hex high : Bool) (area : List ℕ) (start have i : ℕ) → have ≤ i → byteOf hex high (drop i (valuesAt area start have)) ≡ 0
+byte-none hex high area start have i h =
+    let long : length (valuesAt area start have) ≤ i = simp (length-map, length-take) (omega arith) in
+    rw (drop-of-length-le (valuesAt area start have) {i = i} long) (zero-byte hex high)
+
 -- ---- the bytes of a field
 
-map-take : (f : ℕ → ℕ) (n : ℕ) (l : List ℕ) → map f (take n l) ≡ take n (map f l)
+pub map-take : (f : ℕ → ℕ) (n : ℕ) (l : List ℕ) → map f (take n l) ≡ take n (map f l)
 map-take f zero l = refl
 map-take f (suc n) [] = refl
 map-take f (suc n) (x ∷ xs) = ap (λ (r : List ℕ). f x ∷ r) (map-take f n xs)
@@ -159,7 +166,7 @@ pub length-stored : (hex high : Bool) (n : ℕ) (cs : List ℕ) → length (stor
 unfolding stored digitBytes
 length-stored hex high n cs = simp (length-map, length-pieces)
 
-stored-at : (hex high : Bool) (n : ℕ) (cs : List ℕ) (k : ℕ) → k < ceilDiv n (perByte hex) → getD (stored (Digits hex high) n cs) k 0 ≡ byteOf hex high (drop (k * perByte hex) (map digitValue (take n cs)))
+pub stored-at : (hex high : Bool) (n : ℕ) (cs : List ℕ) (k : ℕ) → k < ceilDiv n (perByte hex) → getD (stored (Digits hex high) n cs) k 0 ≡ byteOf hex high (drop (k * perByte hex) (map digitValue (take n cs)))
 unfolding stored digitBytes byteOf digitValue
 stored-at hex high n cs k h =
     let per : ℕ = perByte hex in

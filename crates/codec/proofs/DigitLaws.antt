@@ -3,12 +3,13 @@ use Prim.Native.Nat.{ℕ, zero, suc, _+_, _-_, _*_, _%_, _/_, _≤_, _<_, min}
 use native.Mathlib.Nat.{not-suc-le-zero, le-of-suc-le-suc, add-assoc}
 use native.Mathlib.Numerals.{add-one}
 use native.Mathlib.Omega.{arith}
-use mathlib.Core.Path.{_≡_, refl, _∙_}
+use mathlib.Core.Path.{_≡_, refl, sym, _∙_}
 use mathlib.Core.Bool.{Bool, true, false, _&&_, _||_, and-true, and-assoc}
-use mathlib.Core.List.{List, [], _∷_, map}
+use mathlib.Core.List.{List, [], _∷_, map, map-append, reverse, reverse-cons}
 use lib.ListN.{length, take, drop, getD, length-drop, length-take}
-use lib.Seq.{getD-drop, getD-take, take-take, take-all}
+use lib.Seq.{getD-drop, getD-take, take-take, take-all, drop-drop}
 use Rattle.record.specs.Bytes.{part, ceilDiv, ordered}
+use Rattle.record.proofs.Bytes.{drop-take}
 use Rattle.record.proofs.Stores.{getD-reverse, length-part}
 use Rattle.codec.specs.Numerals.{placeOf, DigitsAt}
 use lib.Dec.{leb, ltb}
@@ -99,6 +100,27 @@ digits-at hex area start len n fits e i h =
     let is : getD cs i 0 ≡ getD area (start + i) 0 = getD-take (min n len) (drop start area) i 0 h ∙ getD-drop start area i 0 in
     rw is at (all-at hex cs (rw take-min at e) i (omega (arith, length-part (min n len) start area (omega arith))))
 
+all-past : (hex : Bool) (k : ℕ) (cs : List ℕ) → allDigits hex cs ≡ true → allDigits hex (drop k cs) ≡ true
+unfolding allDigits
+all-past hex zero cs e = e
+all-past hex (suc k) [] e = e
+all-past hex (suc k) (c ∷ cs) e = all-past hex k cs (and-both (ltb (digitValue c) (base hex)) (allDigits hex cs) e .1)
+
+all-first : (hex : Bool) (k : ℕ) (cs : List ℕ) → allDigits hex cs ≡ true → allDigits hex (take k cs) ≡ true
+unfolding allDigits
+all-first hex zero cs e = refl
+all-first hex (suc k) [] e = e
+all-first hex (suc k) (c ∷ cs) e =
+    let parts = and-both (ltb (digitValue c) (base hex)) (allDigits hex cs) e in
+    rw (parts .0, all-first hex k cs (parts .1))
+
+-- what the check of n digits says of the first k, and of those from the number k on
+pub all-fewer : (hex : Bool) (cs : List ℕ) (n k : ℕ) → k ≤ n → allDigits hex (take n cs) ≡ true → allDigits hex (take k cs) ≡ true
+all-fewer hex cs n k h e = rw (take-take k n cs h) at (all-first hex k (take n cs) e)
+
+pub all-rest : (hex : Bool) (cs : List ℕ) (n k : ℕ) → allDigits hex (take n cs) ≡ true → allDigits hex (take (n - k) (drop k cs)) ≡ true
+all-rest hex cs n k e = rw (drop-take k n cs) at (all-past hex k (take n cs) e)
+
 -- ---- the digits of a byte
 
 -- the turns of a loop over n digits that takes a byte a turn
@@ -114,6 +136,10 @@ pub per-byte : (hex : Bool) → (0 < perByte hex) × (perByte hex ≤ 8)
 per-byte true = omega arith
 per-byte false = omega arith
 
+pub base-pos : (hex : Bool) → 0 < base hex
+base-pos true = omega arith
+base-pos false = omega arith
+
 pub place-lt : (high : Bool) (n j : ℕ) → j < n → placeOf high n j < n
 place-lt true n j h = omega arith
 place-lt false n j h = h
@@ -126,6 +152,10 @@ pub map-at : (f : ℕ → ℕ) (l : List ℕ) (j : ℕ) → j < length l → get
 map-at f [] j h = absurd (not-suc-le-zero h)
 map-at f (x ∷ xs) zero h = refl
 map-at f (x ∷ xs) (suc j) h = map-at f xs j (le-of-suc-le-suc h)
+
+pub map-turned : (f : ℕ → ℕ) (xs : List ℕ) → map f (reverse xs) ≡ reverse (map f xs)
+map-turned f [] = refl
+map-turned f (x ∷ xs) = rw (reverse-cons x xs, map-append, map-turned f xs) (sym (reverse-cons (f x) (map f xs)))
 
 pub digits-part : (hex : Bool) (area : List ℕ) (start have j count : ℕ) → DigitsAt hex area start have → j + count ≤ have → DigitsAt hex area (start + j) count
 digits-part hex area start have j count d h i k = rw (add-assoc start j i) (d (j + i) (omega arith))

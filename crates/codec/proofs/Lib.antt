@@ -2,6 +2,9 @@
 pub mod ByteLaws
 pub mod IntegerLaws
 pub mod TextLaws
+mod WordLaws
 mod DigitLaws
 mod DigitBytes
+mod DigitEights
 mod DigitChars
+mod StripLaws

@@ -1,8 +1,8 @@
-// Runs of bytes, copied and filled: loops with no branch inside.
+// Runs of bytes, copied and filled: loops with no branch inside. And four bytes as a number.
 ghost use mathlib.Core.Path.{_≡_};
 ghost use Prim.Native.Nat.{_+_, _≤_, _<_};
 ghost use lib.ListN.{length, replicate};
-ghost use Rattle.record.specs.Bytes.{part, storeAt};
+ghost use Rattle.record.specs.Bytes.{part, storeAt, digits, ordered};
 
 // Copies n bytes, one after the other.
 fn copy_each(out: &mut [u8], at: usize, from: &[u8], start: usize, n: usize)
@@ -53,5 +53,27 @@ pub fn fill(out: &mut [u8], at: usize, n: usize, value: u8)
     while j < n {
         out[at + j] = value;
         j += 1;
+    }
+}
+
+pub fn wide(x: u8) -> usize
+    ensures { λ r. ⌜ (r ≡ x) × (r < 256) ⌝ }
+{
+    x as usize
+}
+
+// Four bytes as a number: the first in the lowest place, or in the highest. In a function of their own the compiler loads them at once.
+pub fn four_at(from: &[u8], at: usize, high: bool) -> usize
+    requires { ⌜ at + 4 ≤ length (now from) ⌝ }
+    ensures { λ r. ⌜ (r < 4294967296) × (digits 256 4 r ≡ ordered high (part (now (from .entry)) at 4)) ⌝ }
+{
+    let a = wide(from[at]);
+    let b = wide(from[at + 1]);
+    let c = wide(from[at + 2]);
+    let d = wide(from[at + 3]);
+    if high {
+        d + c * 256 + b * 65536 + a * 16777216
+    } else {
+        a + b * 256 + c * 65536 + d * 16777216
     }
 }

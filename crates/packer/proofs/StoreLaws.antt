@@ -14,7 +14,7 @@ use Rattle.layout.specs.declared.Count.{Count}
 use Rattle.layout.specs.declared.Count.the-variants.{Absent, Star, Times}
 use Rattle.record.specs.Bytes.{part, ceilDiv, pieces, number, ordered, bigEndianIn}
 use Rattle.record.specs.declared.slots.Slot.{Slot}
-use Rattle.record.specs.Table.{shown, integerSize, integersIn}
+use Rattle.record.specs.Table.{maxArea, shown, integerSize, integersIn}
 use Rattle.record.specs.Geometry.{amount, perByte}
 use Rattle.record.specs.Packing.{stored, lowBytes, enough, amountFits, allDigits, digitsFit, insideArea}
 use Rattle.record.proofs.NumberLaws.{length-bigEndianIn}
@@ -76,7 +76,7 @@ module _ (area : List ℕ) (n : ℕ) (a : Slot) (at size : ℕ) where
     text-value = ap (stored (Text pad) n) (sym (shown-string area a (s .kind)))
 
   module _ (hex high : Bool) (s : Storable area (Digits hex high) n a at size) where
-    pub digits-asks : (n ≤ 65536) × (a .start + a .len ≤ length area) × (at + ceilDiv n (perByte hex) ≤ size) × (allDigits hex (take n (part area (a .start) (a .len))) ≡ true)
+    pub digits-asks : (n ≤ maxArea) × (a .start + a .len ≤ length area) × (at + ceilDiv n (perByte hex) ≤ size) × (allDigits hex (take n (part area (a .start) (a .len))) ≡ true)
     unfolding digitsFit
     digits-asks =
         let few : n ≤ size * 8 = few-digits hex n size (omega (arith, s .room)) in

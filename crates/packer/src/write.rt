@@ -1,12 +1,16 @@
 // The writing pass: every field stored in the output.
 ghost use mathlib.Core.Path.{_≡_};
-ghost use Prim.Native.Nat.{_≤_, _<_};
+ghost use mathlib.Core.Bool.{false};
+ghost use Prim.Native.Nat.{_+_, _≤_, _<_};
 ghost use lib.ListN.{length};
 ghost use Rattle.layout.specs.declared.Shape.the-variants.{Text, Digits, Integers};
 ghost use Rattle.layout.specs.Words.{lastData, decoded, fieldOf, shapeNumbered};
-ghost use Rattle.record.specs.Table.{slotsOf};
+ghost use Rattle.record.specs.Bytes.{storeAt};
+ghost use Rattle.record.specs.Table.{slotsOf, shown};
+ghost use Rattle.record.specs.Packing.{stored};
 ghost use Rattle.record.specs.Slots.{slotAt};
 ghost use Rattle.record.specs.Cursor.{origin, moved};
+ghost use Rattle.codec.specs.Steps.{binarySteps, binaryBudget};
 ghost use Rattle.arguments.specs.Measure.{advance};
 ghost use Rattle.packer.specs.Writing.{putMove, put, written, StoredAs, Storable, Movable, Puttable, Writable};
 use layout::Code;
@@ -25,6 +29,15 @@ fn store_text(n: usize, a: Slot, area: &[u8], out: &mut [u8], at: usize, pad: u8
     n
 }
 
+// n binary digits, within their budget of steps; tells what is left of it.
+fn store_binary(n: usize, a: Slot, area: &[u8], out: &mut [u8], at: usize, high: bool) -> usize
+    requires { ⌜ Storable (now area) (Digits false high) n a at (length (now out)) ⌝ }
+    ensures steps { λ left. ⌜ binarySteps n + left ≡ binaryBudget n ⌝ }
+    ensures { λ _. ⌜ now (out .exit) ≡ storeAt (now (out .entry)) at (stored (Digits false high) n (shown (now (area .entry)) a .items)) ⌝ }
+{
+    codec::digits::store_binary(out, at, area, a.start, a.len, n, high)
+}
+
 // n digits.
 fn store_digits(
     n: usize,
@@ -38,8 +51,12 @@ fn store_digits(
     requires { ⌜ Storable (now area) (Digits hex high) n a at (length (now out)) ⌝ }
     ensures { λ r. ⌜ StoredAs (now (area .entry)) (Digits hex high) n a at (now (out .entry)) r (now (out .exit)) ⌝ }
 {
-    codec::digits::store(out, at, area, a.start, a.len, n, hex, high);
-    record::bytes_for(Shape::Digits(hex, high), n)
+    if hex {
+        codec::digits::store_hex(out, at, area, a.start, a.len, n, high);
+        return record::bytes_for(Shape::Digits(true, high), n);
+    }
+    store_binary(n, a, area, out, at, high);
+    record::bytes_for(Shape::Digits(false, high), n)
 }
 
 // n integers.
