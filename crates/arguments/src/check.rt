@@ -57,9 +57,7 @@ fn digits_fit(s: Shape, n: usize, a: Slot, area: &[u8]) -> bool
 {
     match s {
         Shape::Text(_) => true,
-        Shape::Digits(hex, _) => {
-            codec::digits::all_digits(area, a.start, record::least(n, a.len), hex)
-        }
+        Shape::Digits(hex, _) => { digits::all_digits(area, a.start, record::least(n, a.len), hex) }
         Shape::Integers(_, _) => true,
     }
 }
@@ -122,7 +120,7 @@ fn string_serves(d: u32, n: Count, a: Slot, area: &[u8]) -> bool
         return true;
     }
     let items = record::amount(n, a.len);
-    codec::digits::all_digits(
+    digits::all_digits(
         area,
         a.start,
         record::least(items, a.len),

@@ -10,7 +10,7 @@ ghost use Rattle.record.specs.Table.{slotsOf, shown};
 ghost use Rattle.record.specs.Packing.{stored};
 ghost use Rattle.record.specs.Slots.{slotAt};
 ghost use Rattle.record.specs.Cursor.{origin, moved};
-ghost use Rattle.codec.specs.Steps.{binarySteps, binaryBudget};
+ghost use Rattle.digits.specs.Steps.{binarySteps, binaryBudget};
 ghost use Rattle.arguments.specs.Measure.{advance};
 ghost use Rattle.packer.specs.Writing.{putMove, put, written, StoredAs, Storable, Movable, Puttable, Writable};
 use layout::Code;
@@ -25,7 +25,7 @@ fn store_text(n: usize, a: Slot, area: &[u8], out: &mut [u8], at: usize, pad: u8
     requires { ⌜ Storable (now area) (Text pad) n a at (length (now out)) ⌝ }
     ensures { λ r. ⌜ StoredAs (now (area .entry)) (Text pad) n a at (now (out .entry)) r (now (out .exit)) ⌝ }
 {
-    codec::text::store(out, at, area, a.start, a.len, n, pad);
+    text::store(out, at, area, a.start, a.len, n, pad);
     n
 }
 
@@ -35,7 +35,7 @@ fn store_binary(n: usize, a: Slot, area: &[u8], out: &mut [u8], at: usize, high:
     ensures steps { λ left. ⌜ binarySteps n + left ≡ binaryBudget n ⌝ }
     ensures { λ _. ⌜ now (out .exit) ≡ storeAt (now (out .entry)) at (stored (Digits false high) n (shown (now (area .entry)) a .items)) ⌝ }
 {
-    codec::digits::store_binary(out, at, area, a.start, a.len, n, high)
+    digits::store_binary(out, at, area, a.start, a.len, n, high)
 }
 
 // n digits.
@@ -52,7 +52,7 @@ fn store_digits(
     ensures { λ r. ⌜ StoredAs (now (area .entry)) (Digits hex high) n a at (now (out .entry)) r (now (out .exit)) ⌝ }
 {
     if hex {
-        codec::digits::store_hex(out, at, area, a.start, a.len, n, high);
+        digits::store_hex(out, at, area, a.start, a.len, n, high);
         return record::bytes_for(Shape::Digits(true, high), n);
     }
     store_binary(n, a, area, out, at, high);
@@ -72,7 +72,7 @@ fn store_integers(
     requires { ⌜ Storable (now area) (Integers w big) n a at (length (now out)) ⌝ }
     ensures { λ r. ⌜ StoredAs (now (area .entry)) (Integers w big) n a at (now (out .entry)) r (now (out .exit)) ⌝ }
 {
-    codec::integers::store(out, at, area, a.start, n, w, big);
+    integers::store(out, at, area, a.start, n, w, big);
     n * w
 }
 
@@ -108,13 +108,13 @@ fn put_move(m: Motion, n: Count, c: Cursor, out: &mut [u8]) -> Cursor
     match m {
         Motion::Skip => {
             let bytes = record::amount(n, 0);
-            codec::bytes::fill(out, c.at, bytes, 0);
+            text::bytes::fill(out, c.at, bytes, 0);
             c.store(bytes)
         }
         Motion::Back => c.back(n),
         Motion::Goto => {
             let d = c.goto(n);
-            codec::bytes::fill(out, c.end, d.end - c.end, 0);
+            text::bytes::fill(out, c.end, d.end - c.end, 0);
             d
         }
     }

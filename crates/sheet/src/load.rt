@@ -145,7 +145,7 @@ fn put(
         start_of(kind, to),
         items_of(kind, size),
     );
-    codec::bytes::copy(area, to, sheet, at + (w + 1), size);
+    text::bytes::copy(area, to, sheet, at + (w + 1), size);
     size
 }
 

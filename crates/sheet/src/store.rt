@@ -69,7 +69,7 @@ fn put_value(out: &mut [u8], at: usize, a: Slot, area: &[u8], size: usize)
     if a.kind == 0 {
         return;
     }
-    codec::bytes::copy(out, at, area, a.start, size)
+    text::bytes::copy(out, at, area, a.start, size)
 }
 
 // Stores the entry of a slot that was checked: length, kind and value; hands back the place after it.

@@ -1,0 +1,6 @@
+-- The laws that belong to no one function.
+mod DigitLaws
+mod DigitBytes
+mod DigitEights
+mod DigitChars
+mod StripLaws

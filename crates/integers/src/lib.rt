@@ -1,0 +1,143 @@
+// `c s S i I w W`: integers of 1 to 8 bytes in a field, and of eight big-endian bytes in the area. No number is ever formed: a field's bytes
+// are the last ones of an item, in their order where the field is big-endian, else turned round.
+ghost use mathlib.Core.Path.{_≡_};
+ghost use mathlib.Core.List.{List};
+ghost use Prim.Native.Nat.{ℕ, _+_, _*_, _≤_, _<_};
+ghost use lib.ListN.{length, getD, drop};
+ghost use Rattle.layout.specs.declared.Shape.the-variants.{Integers};
+ghost use Rattle.record.specs.Bytes.{part, storeAt, digits, ordered};
+ghost use Rattle.record.specs.Table.{integerBytes, integersIn};
+ghost use Rattle.record.specs.Packing.{stored};
+ghost use Rattle.record.specs.Reading.{loaded};
+ghost use Rattle.integers.specs.Items.{itemBytes, fillerOf};
+
+// Where byte j of a run of n stands before the run is turned round, or not.
+fn place(turn: bool, n: usize, j: usize) -> usize
+    requires { ⌜ j < n ⌝ }
+    ensures { λ r. ⌜ (r < n) × ((xs : List ℕ) → length xs ≡ n → getD (ordered turn xs) j 0 ≡ getD xs r 0) ⌝ }
+{
+    if turn { n - 1 - j } else { j }
+}
+
+// Copies n bytes, turned round or not.
+fn copy_ordered(out: &mut [u8], at: usize, from: &[u8], start: usize, n: usize, turn: bool)
+    requires { ⌜ (at + n ≤ length (now out)) × (start + n ≤ length (now from)) ⌝ }
+    ensures { λ _. ⌜ now (out .exit) ≡ storeAt (now (out .entry)) at (ordered turn (part (now (from .entry)) start n)) ⌝ }
+{
+    let mut j = 0;
+    while j < n {
+        let p = place(turn, n, j);
+        out[at + j] = from[start + p];
+        j += 1;
+    }
+}
+
+// Two bytes as a number, the first in the low place. In a function of their own the compiler loads them at once.
+fn pair_at(from: &[u8], at: usize) -> u16
+    requires { ⌜ at + 2 ≤ length (now from) ⌝ }
+    ensures { λ r. ⌜ digits 256 2 r ≡ part (now (from .entry)) at 2 ⌝ }
+{
+    from[at] as u16 + 256 * from[at + 1] as u16
+}
+
+// Stores the two bytes of a number, the low one first, turned round or not.
+fn put_pair(out: &mut [u8], at: usize, v: u16, turn: bool)
+    requires { ⌜ at + 2 ≤ length (now out) ⌝ }
+    ensures { λ _. ⌜ now (out .exit) ≡ storeAt (now (out .entry)) at (ordered turn (digits 256 2 v)) ⌝ }
+{
+    if turn {
+        out[at] = (v / 256) as u8;
+        out[at + 1] = (v % 256) as u8;
+        return;
+    }
+    out[at] = (v % 256) as u8;
+    out[at + 1] = (v / 256) as u8;
+}
+
+// Stores the two low-order bytes of each of n integers of the area, a pair at once.
+fn store_pairs(out: &mut [u8], at: usize, area: &[u8], start: usize, n: usize, big: bool)
+    requires { ⌜ (at + n * 2 ≤ length (now out)) × (start + n * 8 ≤ length (now area)) ⌝ }
+    ensures { λ _. ⌜ now (out .exit) ≡ storeAt (now (out .entry)) at (stored (Integers 2 big) n (integersIn n (drop start (now (area .entry))))) ⌝ }
+{
+    let mut i = 0;
+    while i < n {
+        put_pair(out, at + i * 2, pair_at(area, start + i * 8 + 6), !big);
+        i += 1;
+    }
+}
+
+// Stores the w low-order bytes of each of n integers of the area, one after the other.
+fn store_each(out: &mut [u8], at: usize, area: &[u8], start: usize, n: usize, w: usize, big: bool)
+    requires { ⌜ (w ≤ 8) × (at + n * w ≤ length (now out)) × (start + n * 8 ≤ length (now area)) ⌝ }
+    ensures { λ _. ⌜ now (out .exit) ≡ storeAt (now (out .entry)) at (stored (Integers w big) n (integersIn n (drop start (now (area .entry))))) ⌝ }
+{
+    let mut i = 0;
+    while i < n {
+        copy_ordered(out, at + i * w, area, start + i * 8 + (8 - w), w, !big);
+        i += 1;
+    }
+}
+
+// Stores the w low-order bytes of each of n integers of the area. One alone, the usual field, is spared the loop.
+pub fn store(out: &mut [u8], at: usize, area: &[u8], start: usize, n: usize, w: usize, big: bool)
+    requires { ⌜ (w ≤ 8) × (at + n * w ≤ length (now out)) × (start + n * 8 ≤ length (now area)) ⌝ }
+    ensures { λ _. ⌜ now (out .exit) ≡ storeAt (now (out .entry)) at (stored (Integers w big) n (integersIn n (drop start (now (area .entry))))) ⌝ }
+{
+    if n == 1 {
+        return copy_ordered(out, at, area, start + (8 - w), w, !big);
+    }
+    if w == 2 {
+        return store_pairs(out, at, area, start, n, big);
+    }
+    store_each(out, at, area, start, n, w, big)
+}
+
+// The byte that widens an integer whose highest byte is `top`.
+fn filler(unsigned: bool, top: u8) -> u8
+    ensures { λ r. ⌜ r ≡ fillerOf unsigned top ⌝ }
+{
+    if unsigned {
+        return 0;
+    }
+    if top < 128 { 0 } else { 255 }
+}
+
+// Reads one integer of w bytes.
+fn load_item(
+    area: &mut [u8],
+    to: usize,
+    input: &[u8],
+    at: usize,
+    w: usize,
+    big: bool,
+    unsigned: bool,
+)
+    requires { ⌜ (0 < w) × (w ≤ 8) × (to + 8 ≤ length (now area)) × (at + w ≤ length (now input)) ⌝ }
+    ensures { λ _. ⌜ now (area .exit) ≡ storeAt (now (area .entry)) to (itemBytes w big unsigned (part (now (input .entry)) at w)) ⌝ }
+{
+    let top = place(!big, w, 0);
+    let fill = filler(unsigned, input[at + top]);
+    text::bytes::fill(area, to, 8 - w, fill);
+    copy_ordered(area, to + (8 - w), input, at, w, !big);
+}
+
+// Reads n integers of w bytes each.
+pub fn load(
+    area: &mut [u8],
+    to: usize,
+    input: &[u8],
+    at: usize,
+    n: usize,
+    w: usize,
+    big: bool,
+    unsigned: bool,
+)
+    requires { ⌜ (0 < w) × (w ≤ 8) × (to + n * 8 ≤ length (now area)) × (at + n * w ≤ length (now input)) ⌝ }
+    ensures { λ _. ⌜ now (area .exit) ≡ storeAt (now (area .entry)) to (integerBytes (loaded (Integers w big) unsigned n (part (now (input .entry)) at (n * w)) .items)) ⌝ }
+{
+    let mut i = 0;
+    while i < n {
+        load_item(area, to + i * 8, input, at + i * w, w, big, unsigned);
+        i += 1;
+    }
+}
