@@ -254,6 +254,26 @@ static void cut(struct record *record, size_t length, const char *number)
     record->length = length;
 }
 
+/* A table in which the oral leg of every other candidate is still to be marked. */
+static void fill_open(struct table *table, size_t i)
+{
+    clear(table);
+    add_text(table, candidates[i].number);
+    add_text(table, candidates[i].name);
+    add_mark(table, candidates[i].written);
+    if (i % 2 == 0)
+        add_nothing(table);
+    else
+        add_mark(table, candidates[i].oral);
+    if (candidates[i].this_year) {
+        add_mark(table, candidates[i].steno);
+        add_text(table, candidates[i].strip);
+    } else {
+        add_nothing(table);
+        add_nothing(table);
+    }
+}
+
 /* A leg in the middle that nobody marked: a record has no place for it, a sheet keeps it. */
 static void show_sheets(void)
 {
@@ -264,24 +284,45 @@ static void show_sheets(void)
     printf("\nkept as sheets, with legs that are still to be marked\n");
     print_heads(FIELDS);
     for (i = 0; i < CANDIDATES; i++) {
-        clear(&table);
-        add_text(&table, candidates[i].number);
-        add_text(&table, candidates[i].name);
-        add_mark(&table, candidates[i].written);
-        if (i % 2 == 0)
-            add_nothing(&table);
-        else
-            add_mark(&table, candidates[i].oral);
-        if (candidates[i].this_year) {
-            add_mark(&table, candidates[i].steno);
-            add_text(&table, candidates[i].strip);
-        } else {
-            add_nothing(&table);
-            add_nothing(&table);
-        }
+        fill_open(&table, i);
         if (keep(&table, &sheet) && fetch(&sheet, &table))
             print_row(&table, FIELDS);
     }
+}
+
+/* The legs are the three slots behind number and name. A leg that nobody marked leaves the mean as it is. */
+static void print_mean(const struct table *table)
+{
+    uint8_t reply[CURLEW_MEAN_REPLY];
+    double mean;
+
+    if (curlew_mean(table->slots + 2 * CURLEW_SLOT_SIZE, 3 * CURLEW_SLOT_SIZE, table->area, table->used,
+                    reply, sizeof reply) != CURLEW_OK)
+        print_refusal(curlew_get_answer(reply));
+    else if (curlew_get_mean(reply, &mean))
+        printf("mean %.2f, legs not marked: %" PRIu32 "\n", mean, curlew_get_answer(reply).first);
+    else
+        printf("no leg marked\n");
+}
+
+static void show_means(void)
+{
+    struct table table;
+    size_t i;
+
+    printf("\nmeans of the legs that are marked\n");
+    for (i = 0; i < CANDIDATES; i++) {
+        fill_open(&table, i);
+        printf("%-14s", candidates[i].name);
+        print_mean(&table);
+    }
+    clear(&table);
+    add_text(&table, "C00421");
+    add_text(&table, "Efe Aydin");
+    for (i = 0; i < 3; i++)
+        add_nothing(&table);
+    printf("%-14s", "Efe Aydin");
+    print_mean(&table);
 }
 
 /* Two markers' copies of one candidate's record: the second gave another oral mark, and lost the strip. */
@@ -346,6 +387,7 @@ int main(void)
     print_table(old_layout, 4, records, CANDIDATES);
     print_table(new_layout, FIELDS, records, CANDIDATES);
     show_sheets();
+    show_means();
     show_differences();
     show_refusals();
     return 0;

@@ -6,7 +6,8 @@
  * of Tcl's `binary format` and `binary scan`, within the types listed below.
  *
  * curlew_sheet_write and curlew_sheet_read keep a whole table of values in a file, as a sheet, with the values
- * that are not set. curlew_compare reads two copies of one record and says what differs.
+ * that are not set. curlew_compare reads two copies of one record and says what differs. curlew_mean gives the
+ * mean of a candidate's marks.
  *
  * Link with libcurlew.a; no other library is needed. The header serves C99 and C++.
  *
@@ -139,6 +140,21 @@
  * length that holds the findings; its other bytes stay as they were.
  *
  *
+ * THE MEAN OF THE MARKED LEGS
+ *
+ * curlew_mean takes a table in which each slot is a leg: not set, or one integer from 0 to CURLEW_MAX_MARK, signed
+ * or unsigned. It gives the mean of the legs that are set, as a double. A leg of 0 counts; a leg that is not set
+ * does not, so it never pulls the mean down. Where no leg is set, or there are no slots, there is no mean. The
+ * reply is CURLEW_MEAN_REPLY (24) bytes:
+ *
+ *   bytes 0-11    the answer: CURLEW_OK, how many slots are not set, 0; or the refusal
+ *   bytes 12-15   1 where a mean follows, else 0
+ *   bytes 16-23   the mean, a big-endian double (zero bytes where there is none)
+ *
+ * curlew_get_mean takes it out. The sum and the number of marks are whole numbers, so the mean is the double
+ * nearest to their quotient.
+ *
+ *
  * ANSWERS
  *
  * Every call returns a number and writes three big-endian 32-bit numbers into the reply, the same one first:
@@ -148,6 +164,7 @@
  *   sheet written   CURLEW_OK, length of the sheet, 0
  *   sheet read      CURLEW_OK, how many entries there were, place in the area after the last value
  *   compared        CURLEW_OK, how many findings there are, 0
+ *   mean            CURLEW_OK, how many slots are not set, 0 (and the mean behind them)
  *   refused         the number of the refusal, the place of the fault, 0
  *
  *   no.  constant            refused because                                        place
@@ -160,12 +177,13 @@
  *    5   CURLEW_BAD_SLOTS    packing: not one slot for each field that takes one;   0
  *                            reading a record or a sheet: too few slots
  *    6   CURLEW_NOT_SET      packing: the slot is not set                           the slot
- *    7   CURLEW_BAD_SLOT     packing, writing a sheet: the slot's kind is above 3,  the slot
- *                            or its value does not lie inside the area
+ *    7   CURLEW_BAD_SLOT     packing, writing a sheet, mean: the slot's kind is     the slot
+ *                            above 3, or its value does not lie inside the area
  *    8   CURLEW_WRONG_KIND   packing: the field wants integers and the slot has     the slot
- *                            a string, or the other way round
+ *                            a string, or the other way round; mean: a string
  *    9   CURLEW_BAD_LIST     packing: fewer integers than the count, or another     the slot
- *                            number than one where the field has no count
+ *                            number than one where the field has no count;
+ *                            mean: not exactly one integer
  *   10   CURLEW_BAD_DIGIT    packing: a digit that counts is not a digit            the slot
  *   11   CURLEW_NO_ROOM      the result does not fit the output run, or the         0
  *                            values do not fit the area from the mark on; a
@@ -175,12 +193,13 @@
  *                            wrong;
  *                            the length or the kind of an entry is wrong            the entry's first byte
  *   13   CURLEW_BAD_VERSION  the sheet's first byte is not 1                        0
+ *   14   CURLEW_BAD_MARK     mean: the mark is below 0 or above CURLEW_MAX_MARK     the slot
  *
  * The checks are made in this order. Packing and reading a record: 1; then 2, 3 and 4 for each field in turn;
  * then 5; then 6 to 10 for each slot in turn, the lower number first; then 11. Writing a sheet: 1; 7 for each
  * slot in turn; 11. Reading a sheet: 1; 13; 12; 5; 11. Comparing: all of reading the first copy, then all of
- * reading the second, then 11 for the report. No byte is written before the last of them: a refusal writes the
- * reply and nothing else. A reply of a wrong size makes the call return 1 and write nothing
+ * reading the second, then 11 for the report. Mean: 1; then 7, 8, 9 and 14 for each slot in turn. No byte is
+ * written before the last of them: a refusal writes the reply and nothing else. A reply of a wrong size makes the call return 1 and write nothing
  * at all.
  *
  * After a packing that was accepted, the bytes of the output run behind the result stay as they were.
@@ -194,8 +213,8 @@
  *   area                    at most CURLEW_MAX_AREA   65,536 bytes
  *   sheet, run for one      at most CURLEW_MAX_SHEET  65,538 bytes
  *   count in a layout       at most CURLEW_MAX_COUNT   4,096
- *   reply                   exactly CURLEW_PACK_REPLY, CURLEW_READ_REPLY, CURLEW_SHEET_REPLY or
- *                           CURLEW_COMPARE_REPLY bytes
+ *   reply                   exactly CURLEW_PACK_REPLY, CURLEW_READ_REPLY, CURLEW_SHEET_REPLY,
+ *                           CURLEW_COMPARE_REPLY or CURLEW_MEAN_REPLY bytes
  *
  * The limits are on the lengths that you give to a call. The output run must be no larger than a record may
  * be, even where the result is short. A run of length 0 may be a null pointer.
@@ -264,6 +283,7 @@
 
 #include <stddef.h>
 #include <stdint.h>
+#include <string.h>
 
 /* Sizes in bytes of the things that have a fixed size. */
 #define CURLEW_SLOT_SIZE 12
@@ -272,6 +292,7 @@
 #define CURLEW_READ_REPLY 12
 #define CURLEW_SHEET_REPLY 12
 #define CURLEW_COMPARE_REPLY 12
+#define CURLEW_MEAN_REPLY 24
 #define CURLEW_FINDING_SIZE 12
 
 /* Limits. */
@@ -281,6 +302,7 @@
 #define CURLEW_MAX_AREA 65536
 #define CURLEW_MAX_SHEET 65538
 #define CURLEW_MAX_COUNT 4096
+#define CURLEW_MAX_MARK 1000000
 
 /* Kinds of a slot. */
 #define CURLEW_UNSET 0
@@ -310,6 +332,7 @@
 #define CURLEW_NO_ROOM 11
 #define CURLEW_BAD_SHEET 12
 #define CURLEW_BAD_VERSION 13
+#define CURLEW_BAD_MARK 14
 
 #ifdef __cplusplus
 extern "C" {
@@ -353,6 +376,11 @@ uint32_t curlew_compare(const uint8_t *layout, size_t layout_len,
                         uint8_t *second_area, size_t second_area_len,
                         uint8_t *report, size_t report_len,
                         uint8_t *reply, size_t reply_len);
+
+/* The mean of the legs that are set. Writes reply. */
+uint32_t curlew_mean(const uint8_t *slots, size_t slots_len,
+                     const uint8_t *area, size_t area_len,
+                     uint8_t *reply, size_t reply_len);
 
 #ifdef __cplusplus
 }
@@ -466,6 +494,17 @@ static inline struct curlew_answer curlew_get_answer(const uint8_t *reply)
     return answer;
 }
 
+/* Takes the mean out of a reply of curlew_mean. Returns 1, or 0 where no leg is marked: *mean stays as it was then. */
+static inline int curlew_get_mean(const uint8_t *reply, double *mean)
+{
+    uint64_t pattern = curlew_get_uint(reply + 16);
+
+    if (curlew_get_number(reply + 12) == 0)
+        return 0;
+    memcpy(mean, &pattern, sizeof pattern);
+    return 1;
+}
+
 /* A text for a number that came back. */
 static inline const char *curlew_refusal(uint32_t number)
 {
@@ -484,6 +523,7 @@ static inline const char *curlew_refusal(uint32_t number)
     case CURLEW_NO_ROOM: return "the result does not fit the run that is to hold it";
     case CURLEW_BAD_SHEET: return "the sheet was cut, or one of its lengths or kinds is wrong";
     case CURLEW_BAD_VERSION: return "the sheet does not begin with a version that is known";
+    case CURLEW_BAD_MARK: return "the mark lies outside 0 to 1,000,000";
     default: return "unknown number";
     }
 }

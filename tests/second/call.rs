@@ -1,7 +1,7 @@
 //! A call with everything lent to it, and what is found after it.
 
 use crate::compare::{self, Side};
-use crate::{sheet, twin};
+use crate::{mean, sheet, twin};
 use std::ops::{Deref, DerefMut};
 
 #[derive(Clone, Copy, PartialEq, Eq, Debug)]
@@ -11,14 +11,16 @@ pub enum Which {
     SheetWrite,
     SheetRead,
     Compare,
+    Mean,
 }
 
-pub const CALLS: [Which; 5] = [
+pub const CALLS: [Which; 6] = [
     Which::Pack,
     Which::Read,
     Which::SheetWrite,
     Which::SheetRead,
     Which::Compare,
+    Which::Mean,
 ];
 
 impl Which {
@@ -29,6 +31,7 @@ impl Which {
             Which::Read | Which::Compare => &[0, 1, 2, 3, 4, 5, 11],
             Which::SheetWrite => &[0, 1, 7, 11],
             Which::SheetRead => &[0, 1, 5, 11, 12, 13],
+            Which::Mean => &[0, 1, 7, 8, 9, 14],
         }
     }
 }
@@ -74,6 +77,7 @@ impl Runs {
                 ("report", &mut self.report),
                 reply,
             ],
+            Which::Mean => vec![slots, area, reply],
         }
     }
 }
@@ -215,6 +219,7 @@ pub fn by_twin(call: &Call) -> After {
             &mut runs.report,
             &mut runs.reply,
         ),
+        Which::Mean => mean::mean_call(&call.slots, &call.area, &mut runs.reply),
     };
     after
 }

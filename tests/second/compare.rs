@@ -1,6 +1,6 @@
 //! What differs between two copies of a record that one layout reads.
 
-use crate::limits::REPORT_BYTES;
+use crate::limits::{REPLY_BYTES, REPORT_BYTES};
 use crate::slots::{accepted, put_numbers, refused, replied, slot_at, value_of, Answer};
 use crate::twin::{decided, load_fields, Decided, Field, Fields, NO_FIELDS};
 
@@ -81,7 +81,9 @@ pub fn compare_call(
     report: &mut [u8],
     reply: &mut [u8],
 ) -> u32 {
-    replied(reply, || {
-        compared(layout, first, second, report).unwrap_or_else(|refusal| refusal)
+    replied(reply, REPLY_BYTES, || {
+        compared(layout, first, second, report)
+            .unwrap_or_else(|refusal| refusal)
+            .numbers()
     })
 }

@@ -2,6 +2,7 @@
 
 mod compare;
 mod limits;
+mod mean;
 mod sheet;
 mod slots;
 mod twin;
@@ -158,6 +159,24 @@ pub unsafe extern "C" fn twin_compare(
         &mut first,
         &mut second,
         lent_mut(report, report_len),
+        lent_mut(reply, reply_len),
+    )
+}
+
+/// # Safety
+/// Each pointer leads to a run of its length; `reply` overlaps no other run.
+#[no_mangle]
+pub unsafe extern "C" fn twin_mean(
+    slots: *const u8,
+    slots_len: usize,
+    area: *const u8,
+    area_len: usize,
+    reply: *mut u8,
+    reply_len: usize,
+) -> u32 {
+    mean::mean_call(
+        lent(slots, slots_len),
+        lent(area, area_len),
         lent_mut(reply, reply_len),
     )
 }

@@ -70,6 +70,14 @@ extern "C" {
         reply: *mut u8,
         reply_len: usize,
     ) -> u32;
+    fn curlew_mean(
+        slots: *const u8,
+        slots_len: usize,
+        area: *const u8,
+        area_len: usize,
+        reply: *mut u8,
+        reply_len: usize,
+    ) -> u32;
 }
 
 const GUARD: usize = 40;
@@ -150,6 +158,7 @@ pub fn by_library(call: &Call) -> (After, Vec<&'static str>) {
                 at[0], len[0], at[1], len[1], at[2], len[2], at[3], len[3], at[4], len[4], at[5],
                 len[5], at[6], len[6], at[7], len[7], at[8], len[8],
             ),
+            Which::Mean => curlew_mean(at[0], len[0], at[1], len[1], at[2], len[2]),
         }
     };
     let mut broken = Vec::new();

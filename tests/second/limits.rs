@@ -17,6 +17,11 @@ pub const ITEM_BYTES: usize = 8;
 /// Kinds above this one are unknown.
 pub const KIND_MAX: u32 = 3;
 
+/// The highest mark of a leg.
+pub const MARK_MAX: u64 = 1_000_000;
+
 pub const REPLY_BYTES: usize = 12;
+/// The reply of a mean: three numbers, whether there is a mean, and the mean.
+pub const MEAN_REPLY_BYTES: usize = 24;
 /// The bytes that a comparison reports on each value field.
 pub const REPORT_BYTES: usize = 12;

@@ -12,6 +12,8 @@ mod fixed;
 mod layouts;
 mod library;
 mod limits;
+mod mean;
+mod mean_calls;
 mod sheet;
 mod sheet_calls;
 mod slots;
@@ -52,6 +54,7 @@ fn main() {
     fixed::run(&mut tally);
     sheet_calls::run(&mut tally);
     compare_calls::run(&mut tally);
+    mean_calls::run(&mut tally);
     println!(
         "fixed calls: {} passed, {} failed",
         tally.passed, tally.failed
@@ -63,6 +66,7 @@ fn main() {
         calls::round(&mut dice, &mut scratch, &mut tally);
         sheet_calls::round(&mut dice, &mut tally);
         compare_calls::round(&mut dice, &mut scratch, &mut tally);
+        mean_calls::round(&mut dice, &mut tally);
     }
     tally.print();
     exit((tally.failed > 0) as i32);

@@ -2,7 +2,7 @@
 //!
 //! An entry is the length of what follows in it, the kind, and the value's bytes.
 
-use crate::limits::{AREA_MAX, ITEM_BYTES, KIND_MAX, SHEET_MAX, SLOT_BYTES};
+use crate::limits::{AREA_MAX, ITEM_BYTES, KIND_MAX, REPLY_BYTES, SHEET_MAX, SLOT_BYTES};
 use crate::slots::{
     accepted, bad_slot_run, item_bytes, put_slot, refused, replied, slot_at, value_of, Answer, Slot,
 };
@@ -142,8 +142,10 @@ fn read_into(
 
 /// Writes the table as a sheet.
 pub fn write_call(slots: &[u8], area: &[u8], sheet: &mut [u8], reply: &mut [u8]) -> u32 {
-    replied(reply, || {
-        written(slots, area, sheet).unwrap_or_else(|refusal| refusal)
+    replied(reply, REPLY_BYTES, || {
+        written(slots, area, sheet)
+            .unwrap_or_else(|refusal| refusal)
+            .numbers()
     })
 }
 
@@ -155,7 +157,9 @@ pub fn read_call(
     mark: usize,
     reply: &mut [u8],
 ) -> u32 {
-    replied(reply, || {
-        read_into(sheet, slots, area, mark).unwrap_or_else(|refusal| refusal)
+    replied(reply, REPLY_BYTES, || {
+        read_into(sheet, slots, area, mark)
+            .unwrap_or_else(|refusal| refusal)
+            .numbers()
     })
 }

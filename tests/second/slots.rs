@@ -1,6 +1,6 @@
 //! Answers, and slots as runs of bytes: what all calls of the twin share.
 
-use crate::limits::{ITEM_BYTES, KIND_MAX, REPLY_BYTES, SLOT_BYTES, SLOT_RUN_MAX};
+use crate::limits::{ITEM_BYTES, KIND_MAX, SLOT_BYTES, SLOT_RUN_MAX};
 
 /// The three numbers that come back from a call.
 #[derive(Clone, Copy, PartialEq, Eq, Debug)]
@@ -26,14 +26,25 @@ pub fn refused(number: u32, place: usize) -> Answer {
     }
 }
 
-/// Writes the answer into a reply run of its size; gives the number.
-pub fn replied(reply: &mut [u8], answer: impl FnOnce() -> Answer) -> u32 {
-    if reply.len() != REPLY_BYTES {
+impl Answer {
+    pub fn numbers(self) -> [u32; 3] {
+        [self.number, self.first, self.second]
+    }
+}
+
+/// Writes the numbers of a call into a reply run of this size; gives the first.
+/// Without such a run the call is not made.
+pub fn replied<const N: usize>(
+    reply: &mut [u8],
+    size: usize,
+    call: impl FnOnce() -> [u32; N],
+) -> u32 {
+    if reply.len() != size {
         return 1;
     }
-    let answer = answer();
-    put_numbers(reply, &[answer.number, answer.first, answer.second]);
-    answer.number
+    let numbers = call();
+    put_numbers(reply, &numbers);
+    numbers[0]
 }
 
 #[derive(Clone, Copy)]

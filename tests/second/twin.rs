@@ -2,7 +2,9 @@
 //!
 //! Both calls first decide everything, then write: a refused call writes nothing but the reply.
 
-use crate::limits::{AREA_MAX, COUNT_MAX, ITEM_BYTES, LAYOUT_MAX, RECORD_MAX, SLOT_BYTES};
+use crate::limits::{
+    AREA_MAX, COUNT_MAX, ITEM_BYTES, LAYOUT_MAX, RECORD_MAX, REPLY_BYTES, SLOT_BYTES,
+};
 use crate::slots::{
     accepted, bad_slot_run, put_slot, refused, replied, slot_at, value_of, Answer, Slot,
 };
@@ -655,7 +657,9 @@ pub fn pack_call(
     out: &mut [u8],
     reply: &mut [u8],
 ) -> u32 {
-    replied(reply, || pack(layout, slots, area, out))
+    replied(reply, REPLY_BYTES, || {
+        pack(layout, slots, area, out).numbers()
+    })
 }
 
 /// `read` with the answer in a reply run.
@@ -667,5 +671,7 @@ pub fn read_call(
     mark: usize,
     reply: &mut [u8],
 ) -> u32 {
-    replied(reply, || read(layout, record, slots, area, mark))
+    replied(reply, REPLY_BYTES, || {
+        read(layout, record, slots, area, mark).numbers()
+    })
 }

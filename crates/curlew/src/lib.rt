@@ -3,6 +3,7 @@ ghost use mathlib.Core.Path.{_≡_};
 ghost use Rattle.host_record.specs.Calls.{curlewPack, curlewRead};
 ghost use Rattle.host_sheet.specs.Calls.{curlewSheetWrite, curlewSheetRead};
 ghost use Rattle.host_compare.specs.Calls.{curlewCompare};
+ghost use Rattle.host_mean.specs.Calls.{curlewMean};
 
 // Packs the arguments into `out` by the layout (Tcl's `binary format`).
 #[no_mangle]
@@ -86,4 +87,12 @@ pub extern "C" fn curlew_compare(
         report,
         reply,
     )
+}
+
+// The mean of the marked legs of a table, and how many of its slots are not set.
+#[no_mangle]
+pub extern "C" fn curlew_mean(slots: &[u8], area: &[u8], reply: &mut [u8]) -> u32
+    ensures { λ r. ⌜ record { returned = r; reply = now (reply .exit) } ≡ curlewMean (now (slots .entry)) (now (area .entry)) (now (reply .entry)) ⌝ }
+{
+    host_mean::mean(slots, area, reply)
 }

@@ -72,6 +72,7 @@ pub enum Refusal {
     NoRoom,
     BadSheet,
     BadVersion,
+    BadMark,
 }
 
 pub enum Count {

@@ -86,6 +86,7 @@ fn line_of(why: Refusal) -> u8
         Refusal::NoRoom => 10,
         Refusal::BadSheet => 11,
         Refusal::BadVersion => 12,
+        Refusal::BadMark => 13,
     }
 }
 

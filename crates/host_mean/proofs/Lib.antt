@@ -1,0 +1,2 @@
+-- Laws of the mean for a C host.
+mod Calls

@@ -1,0 +1,2 @@
+-- What the mean for a C host means.
+pub mod Calls

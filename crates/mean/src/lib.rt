@@ -1,0 +1,126 @@
+// The mean of the marked legs: each slot of a table is one leg, which has a mark or is not set.
+ghost use mathlib.Core.Path.{_≡_};
+ghost use Prim.Native.Nat.{_+_, _*_, _≤_};
+ghost use lib.ListN.{length};
+ghost use Rattle.record.specs.Table.{slotWidth};
+ghost use Rattle.record.specs.Packing.{refusal};
+ghost use Rattle.record.specs.Slots.{slotAt};
+ghost use Rattle.mean.specs.Mean.{legOf, mean};
+ghost use Rattle.mean.specs.Walk.{turnOf, meanOfTally, Near};
+use layout::Refusal;
+use record::Answer;
+use record::numbers;
+use record::slots;
+
+const MAX_MARK: u64 = 1000000;
+
+// No leg is marked, or the mean of those that are.
+pub enum LegMean {
+    Unmarked,
+    Of(f64),
+}
+
+// What the call answers; an accepted answer's second number is how many slots are not set.
+pub struct Marks {
+    pub answer: Answer,
+    pub mean: LegMean,
+}
+
+// What the walk over the slots has counted: the sum of the marks, how many there are, and the slots not set.
+pub struct Tally {
+    pub sum: u32,
+    pub marked: u32,
+    pub unset: u32,
+}
+
+// What one slot does to the walk: the tally grows, or the slot is refused.
+pub enum Turn {
+    Next(Tally),
+    Stop(Refusal),
+}
+
+fn refused(why: Refusal, place: u32) -> Marks
+    ensures { λ r. ⌜ r ≡ record { answer = refusal why place; mean = LegMean.Unmarked } ⌝ }
+{
+    Marks {
+        answer: Answer::refused(why, place),
+        mean: LegMean::Unmarked,
+    }
+}
+
+// Slot number k.
+fn step(slots: &[u32], area: &[u8], k: usize, t: Tally) -> Turn
+    requires { ⌜ (slotWidth * k + slotWidth ≤ length (now slots)) × Near k t ⌝ }
+    ensures { λ r. ⌜ r ≡ turnOf t (legOf (now (area .entry)) k (slotAt (now (slots .entry)) k)) ⌝ }
+{
+    let s = slots::slot_at(slots, k);
+    if s.kind == 0 {
+        return Turn::Next(Tally {
+            sum: t.sum,
+            marked: t.marked,
+            unset: t.unset + 1,
+        });
+    }
+    if !slots::is_inside(s, area.len()) {
+        return Turn::Stop(Refusal::BadSlot);
+    }
+    if s.kind == slots::STRING {
+        return Turn::Stop(Refusal::WrongKind);
+    }
+    if s.len != 1 {
+        return Turn::Stop(Refusal::WrongAmount);
+    }
+    let mark = numbers::number_at(area, s.start, numbers::INTEGER_SIZE);
+    if MAX_MARK < mark {
+        return Turn::Stop(Refusal::BadMark);
+    }
+    Turn::Next(Tally {
+        sum: t.sum + mark as u32,
+        marked: t.marked + 1,
+        unset: t.unset,
+    })
+}
+
+// The one division.
+fn mean_of_tally(t: Tally) -> LegMean
+    ensures { λ r. ⌜ r ≡ meanOfTally t ⌝ }
+{
+    let sum = t.sum;
+    let marked = t.marked;
+    if marked == 0 {
+        return LegMean::Unmarked;
+    }
+    LegMean::Of(sum as f64 / marked as f64)
+}
+
+// The mean of the marks in a table, and how many of its slots are not set. A refusal says that no leg is marked.
+pub fn mean(slots: &[u32], area: &[u8]) -> Marks
+    ensures { λ r. ⌜ r ≡ mean (now (slots .entry)) (now (area .entry)) ⌝ }
+{
+    if !record::table_fits(slots.len(), area.len()) {
+        return refused(Refusal::BadSize, 0);
+    }
+    let n = slots.len() / record::SLOT_WIDTH;
+    let mut t = Tally {
+        sum: 0,
+        marked: 0,
+        unset: 0,
+    };
+    let mut k: usize = 0;
+    while k < n {
+        let turn = step(slots, area, k, t);
+        match turn {
+            Turn::Stop(why) => {
+                return refused(why, k as u32);
+            }
+            Turn::Next(u) => {
+                t = u;
+                k += 1;
+            }
+        }
+    }
+    Marks {
+        answer: Answer::accepted(t.unset, 0),
+        mean: mean_of_tally(t),
+    }
+}
