@@ -35,6 +35,9 @@ $(COMPARE)/second: $(ARCHIVE) $(TWIN)
 $(COMPARE)/tcl: $(ARCHIVE) $(TWIN) tests/tcl/main.rs tests/tcl/build.sh
 	tests/tcl/build.sh $(ARCHIVE) $(COMPARE)
 
+$(COMPARE)/perl: $(ARCHIVE) $(TWIN) tests/perl/main.rs tests/perl/build.sh
+	tests/perl/build.sh $(ARCHIVE) $(COMPARE)
+
 bench: $(ARCHIVE)
 	@bench/run
 

@@ -360,6 +360,22 @@ static void show_differences(void)
     }
 }
 
+/* The partner college describes its records by a pack template of Perl. */
+static void show_partner(void)
+{
+    static const char partner[] = "a6 a12 (n)3 b10";
+    char layout[CURLEW_MAX_LAYOUT];
+    uint8_t reply[CURLEW_PERL_REPLY];
+
+    printf("\nthe partner college's template %s\n", partner);
+    if (curlew_from_perl((const uint8_t *)partner, strlen(partner), (uint8_t *)layout, sizeof layout,
+                         reply, sizeof reply) != CURLEW_OK) {
+        print_refusal(curlew_get_answer(reply));
+        return;
+    }
+    printf("is our layout %.*s\n", (int)curlew_get_answer(reply).first, layout);
+}
+
 static void show_refusals(void)
 {
     static const char wrong_layout[] = "a6 A12 Su Su Yu b10";
@@ -389,6 +405,7 @@ int main(void)
     show_sheets();
     show_means();
     show_differences();
+    show_partner();
     show_refusals();
     return 0;
 }

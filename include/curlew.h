@@ -7,7 +7,7 @@
  *
  * curlew_sheet_write and curlew_sheet_read keep a whole table of values in a file, as a sheet, with the values
  * that are not set. curlew_compare reads two copies of one record and says what differs. curlew_mean gives the
- * mean of a candidate's marks.
+ * mean of a candidate's marks. curlew_from_perl turns a pack template of Perl into a layout.
  *
  * Link with libcurlew.a; no other library is needed. The header serves C99 and C++.
  *
@@ -155,6 +155,21 @@
  * nearest to their quotient.
  *
  *
+ * LAYOUTS FROM PERL
+ *
+ * curlew_from_perl writes the layout that a pack template of Perl stands for into the run `layout`. It takes
+ * these letters, each with a count from 1 to 4,096 or none:
+ *
+ *   Perl     a   b   B   h   H   x   C    n    N    v    V
+ *   layout   a   b   B   h   H   x   cu   Su   Iu   su   iu
+ *
+ * and groups: items in brackets, one at least, with a number of times from 1 to 64 or none behind the bracket, at
+ * most 8 inside one another. `(n2a3)2 C` becomes `Su2a3Su2a3cu`. An item may have spaces on both sides, but none
+ * before its count; numbers have no leading zeros. A count makes one list: `n2` takes one slot of two
+ * integers. The other letters of Perl are refused, also `A`, which strips other characters there. An empty
+ * template is the empty layout. Bytes of the run behind the layout stay as they were.
+ *
+ *
  * ANSWERS
  *
  * Every call returns a number and writes three big-endian 32-bit numbers into the reply, the same one first:
@@ -165,6 +180,7 @@
  *   sheet read      CURLEW_OK, how many entries there were, place in the area after the last value
  *   compared        CURLEW_OK, how many findings there are, 0
  *   mean            CURLEW_OK, how many slots are not set, 0 (and the mean behind them)
+ *   from Perl       CURLEW_OK, length of the layout, 0
  *   refused         the number of the refusal, the place of the fault, 0
  *
  *   no.  constant            refused because                                        place
@@ -188,18 +204,21 @@
  *   11   CURLEW_NO_ROOM      the result does not fit the output run, or the         0
  *                            values do not fit the area from the mark on; a
  *                            sheet's lengths do not fit their two bytes; the
- *                            report does not hold the findings
+ *                            report does not hold the findings; a layout from
+ *                            Perl is longer than its run or CURLEW_MAX_LAYOUT
  *   12   CURLEW_BAD_SHEET    the sheet is too short or its header's length is       0
  *                            wrong;
  *                            the length or the kind of an entry is wrong            the entry's first byte
  *   13   CURLEW_BAD_VERSION  the sheet's first byte is not 1                        0
  *   14   CURLEW_BAD_MARK     mean: the mark is below 0 or above CURLEW_MAX_MARK     the slot
+ *   15   CURLEW_BAD_TEMPLATE from Perl: no template goes on with this byte, or the  its byte; the template's
+ *                            template ends inside a group                           length
  *
  * The checks are made in this order. Packing and reading a record: 1; then 2, 3 and 4 for each field in turn;
  * then 5; then 6 to 10 for each slot in turn, the lower number first; then 11. Writing a sheet: 1; 7 for each
  * slot in turn; 11. Reading a sheet: 1; 13; 12; 5; 11. Comparing: all of reading the first copy, then all of
- * reading the second, then 11 for the report. Mean: 1; then 7, 8, 9 and 14 for each slot in turn. No byte is
- * written before the last of them: a refusal writes the reply and nothing else. A reply of a wrong size makes the call return 1 and write nothing
+ * reading the second, then 11 for the report. Mean: 1; then 7, 8, 9 and 14 for each slot in turn. From Perl: 1;
+ * 15; 11. No byte is written before the last of them: a refusal writes the reply and nothing else. A reply of a wrong size makes the call return 1 and write nothing
  * at all.
  *
  * After a packing that was accepted, the bytes of the output run behind the result stay as they were.
@@ -213,8 +232,9 @@
  *   area                    at most CURLEW_MAX_AREA   65,536 bytes
  *   sheet, run for one      at most CURLEW_MAX_SHEET  65,538 bytes
  *   count in a layout       at most CURLEW_MAX_COUNT   4,096
+ *   template of Perl        at most CURLEW_MAX_TEMPLATE  256 bytes
  *   reply                   exactly CURLEW_PACK_REPLY, CURLEW_READ_REPLY, CURLEW_SHEET_REPLY,
- *                           CURLEW_COMPARE_REPLY or CURLEW_MEAN_REPLY bytes
+ *                           CURLEW_COMPARE_REPLY, CURLEW_MEAN_REPLY or CURLEW_PERL_REPLY bytes
  *
  * The limits are on the lengths that you give to a call. The output run must be no larger than a record may
  * be, even where the result is short. A run of length 0 may be a null pointer.
@@ -293,6 +313,7 @@
 #define CURLEW_SHEET_REPLY 12
 #define CURLEW_COMPARE_REPLY 12
 #define CURLEW_MEAN_REPLY 24
+#define CURLEW_PERL_REPLY 12
 #define CURLEW_FINDING_SIZE 12
 
 /* Limits. */
@@ -303,6 +324,7 @@
 #define CURLEW_MAX_SHEET 65538
 #define CURLEW_MAX_COUNT 4096
 #define CURLEW_MAX_MARK 1000000
+#define CURLEW_MAX_TEMPLATE 256
 
 /* Kinds of a slot. */
 #define CURLEW_UNSET 0
@@ -333,6 +355,7 @@
 #define CURLEW_BAD_SHEET 12
 #define CURLEW_BAD_VERSION 13
 #define CURLEW_BAD_MARK 14
+#define CURLEW_BAD_TEMPLATE 15
 
 #ifdef __cplusplus
 extern "C" {
@@ -381,6 +404,11 @@ uint32_t curlew_compare(const uint8_t *layout, size_t layout_len,
 uint32_t curlew_mean(const uint8_t *slots, size_t slots_len,
                      const uint8_t *area, size_t area_len,
                      uint8_t *reply, size_t reply_len);
+
+/* Writes the layout that a pack template of Perl stands for. Writes layout and reply. */
+uint32_t curlew_from_perl(const uint8_t *perl_template, size_t perl_template_len,
+                          uint8_t *layout, size_t layout_len,
+                          uint8_t *reply, size_t reply_len);
 
 #ifdef __cplusplus
 }
@@ -524,6 +552,7 @@ static inline const char *curlew_refusal(uint32_t number)
     case CURLEW_BAD_SHEET: return "the sheet was cut, or one of its lengths or kinds is wrong";
     case CURLEW_BAD_VERSION: return "the sheet does not begin with a version that is known";
     case CURLEW_BAD_MARK: return "the mark lies outside 0 to 1,000,000";
+    case CURLEW_BAD_TEMPLATE: return "the template cannot go on like this, or it ends inside a group";
     default: return "unknown number";
     }
 }

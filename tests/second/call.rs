@@ -1,7 +1,7 @@
 //! A call with everything lent to it, and what is found after it.
 
 use crate::compare::{self, Side};
-use crate::{mean, sheet, twin};
+use crate::{mean, perl, sheet, twin};
 use std::ops::{Deref, DerefMut};
 
 #[derive(Clone, Copy, PartialEq, Eq, Debug)]
@@ -12,15 +12,17 @@ pub enum Which {
     SheetRead,
     Compare,
     Mean,
+    FromPerl,
 }
 
-pub const CALLS: [Which; 6] = [
+pub const CALLS: [Which; 7] = [
     Which::Pack,
     Which::Read,
     Which::SheetWrite,
     Which::SheetRead,
     Which::Compare,
     Which::Mean,
+    Which::FromPerl,
 ];
 
 impl Which {
@@ -32,12 +34,14 @@ impl Which {
             Which::SheetWrite => &[0, 1, 7, 11],
             Which::SheetRead => &[0, 1, 5, 11, 12, 13],
             Which::Mean => &[0, 1, 7, 8, 9, 14],
+            Which::FromPerl => &[0, 1, 11, 15],
         }
     }
 }
 
 /// The runs that a call may be lent; those that are not lent to it stay empty.
 /// In packing `record` is the output buffer. In comparing `record`, `slots` and `area` are the first's.
+/// In translating a template `layout` is the buffer.
 #[derive(Clone, PartialEq, Eq, Default)]
 pub struct Runs {
     pub layout: Vec<u8>,
@@ -49,6 +53,7 @@ pub struct Runs {
     pub second_slots: Vec<u8>,
     pub second_area: Vec<u8>,
     pub report: Vec<u8>,
+    pub template: Vec<u8>,
     pub reply: Vec<u8>,
 }
 
@@ -78,6 +83,7 @@ impl Runs {
                 reply,
             ],
             Which::Mean => vec![slots, area, reply],
+            Which::FromPerl => vec![("template", &mut self.template), layout, reply],
         }
     }
 }
@@ -220,6 +226,7 @@ pub fn by_twin(call: &Call) -> After {
             &mut runs.reply,
         ),
         Which::Mean => mean::mean_call(&call.slots, &call.area, &mut runs.reply),
+        Which::FromPerl => perl::from_perl_call(&call.template, &mut runs.layout, &mut runs.reply),
     };
     after
 }

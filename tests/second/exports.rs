@@ -3,6 +3,7 @@
 mod compare;
 mod limits;
 mod mean;
+mod perl;
 mod sheet;
 mod slots;
 mod twin;
@@ -177,6 +178,24 @@ pub unsafe extern "C" fn twin_mean(
     mean::mean_call(
         lent(slots, slots_len),
         lent(area, area_len),
+        lent_mut(reply, reply_len),
+    )
+}
+
+/// # Safety
+/// Each pointer leads to a run of its length; `layout` and `reply` overlap no other run.
+#[no_mangle]
+pub unsafe extern "C" fn twin_from_perl(
+    template: *const u8,
+    template_len: usize,
+    layout: *mut u8,
+    layout_len: usize,
+    reply: *mut u8,
+    reply_len: usize,
+) -> u32 {
+    perl::from_perl_call(
+        lent(template, template_len),
+        lent_mut(layout, layout_len),
         lent_mut(reply, reply_len),
     )
 }

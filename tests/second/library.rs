@@ -78,6 +78,14 @@ extern "C" {
         reply: *mut u8,
         reply_len: usize,
     ) -> u32;
+    fn curlew_from_perl(
+        template: *const u8,
+        template_len: usize,
+        layout: *mut u8,
+        layout_len: usize,
+        reply: *mut u8,
+        reply_len: usize,
+    ) -> u32;
 }
 
 const GUARD: usize = 40;
@@ -159,6 +167,7 @@ pub fn by_library(call: &Call) -> (After, Vec<&'static str>) {
                 len[5], at[6], len[6], at[7], len[7], at[8], len[8],
             ),
             Which::Mean => curlew_mean(at[0], len[0], at[1], len[1], at[2], len[2]),
+            Which::FromPerl => curlew_from_perl(at[0], len[0], at[1], len[1], at[2], len[2]),
         }
     };
     let mut broken = Vec::new();

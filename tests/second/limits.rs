@@ -20,6 +20,12 @@ pub const KIND_MAX: u32 = 3;
 /// The highest mark of a leg.
 pub const MARK_MAX: u64 = 1_000_000;
 
+/// A Perl template, its counts, the repeats of its groups, and how deep they nest.
+pub const TEMPLATE_MAX: usize = 256;
+pub const TEMPLATE_COUNT_MAX: usize = 4096;
+pub const TEMPLATE_REPEAT_MAX: usize = 64;
+pub const TEMPLATE_DEPTH_MAX: usize = 8;
+
 pub const REPLY_BYTES: usize = 12;
 /// The reply of a mean: three numbers, whether there is a mean, and the mean.
 pub const MEAN_REPLY_BYTES: usize = 24;

@@ -14,6 +14,8 @@ mod library;
 mod limits;
 mod mean;
 mod mean_calls;
+mod perl;
+mod perl_calls;
 mod sheet;
 mod sheet_calls;
 mod slots;
@@ -55,6 +57,7 @@ fn main() {
     sheet_calls::run(&mut tally);
     compare_calls::run(&mut tally);
     mean_calls::run(&mut tally);
+    perl_calls::run(&mut tally);
     println!(
         "fixed calls: {} passed, {} failed",
         tally.passed, tally.failed
@@ -67,6 +70,7 @@ fn main() {
         sheet_calls::round(&mut dice, &mut tally);
         compare_calls::round(&mut dice, &mut scratch, &mut tally);
         mean_calls::round(&mut dice, &mut tally);
+        perl_calls::round(&mut dice, &mut tally);
     }
     tally.print();
     exit((tally.failed > 0) as i32);

@@ -7,7 +7,7 @@ const SHOWN: usize = 5;
 /// How much of a run is shown.
 const SHOWN_BYTES: usize = 200;
 /// Numbers that come back are below this.
-const NUMBERS: usize = 15;
+const NUMBERS: usize = 16;
 
 #[derive(Default)]
 pub struct Tally {
@@ -49,7 +49,9 @@ fn show_call(call: &Call) {
     for (name, run) in call.runs.clone().lent(call.which) {
         println!("  {:8} {}", name, hex(run));
     }
-    println!("  layout   {:?}", String::from_utf8_lossy(&call.layout));
+    for text in [&call.layout, &call.template] {
+        println!("  as text  {:?}", String::from_utf8_lossy(text));
+    }
     let shown = &call.slots[..call.slots.len().min(SHOWN_BYTES)];
     println!("  slots    {:?}", numbers(shown));
 }

@@ -4,6 +4,7 @@ ghost use Rattle.host_record.specs.Calls.{curlewPack, curlewRead};
 ghost use Rattle.host_sheet.specs.Calls.{curlewSheetWrite, curlewSheetRead};
 ghost use Rattle.host_compare.specs.Calls.{curlewCompare};
 ghost use Rattle.host_mean.specs.Calls.{curlewMean};
+ghost use Rattle.host_perl.specs.Calls.{curlewFromPerl};
 
 // Packs the arguments into `out` by the layout (Tcl's `binary format`).
 #[no_mangle]
@@ -95,4 +96,12 @@ pub extern "C" fn curlew_mean(slots: &[u8], area: &[u8], reply: &mut [u8]) -> u3
     ensures { λ r. ⌜ record { returned = r; reply = now (reply .exit) } ≡ curlewMean (now (slots .entry)) (now (area .entry)) (now (reply .entry)) ⌝ }
 {
     host_mean::mean(slots, area, reply)
+}
+
+// Writes the layout that a Perl template stands for.
+#[no_mangle]
+pub extern "C" fn curlew_from_perl(template: &[u8], layout: &mut [u8], reply: &mut [u8]) -> u32
+    ensures { λ r. ⌜ record { returned = r; layout = now (layout .exit); reply = now (reply .exit) } ≡ curlewFromPerl (now (template .entry)) (now (layout .entry)) (now (reply .entry)) ⌝ }
+{
+    host_perl::from_perl(template, layout, reply)
 }

@@ -73,6 +73,7 @@ pub enum Refusal {
     BadSheet,
     BadVersion,
     BadMark,
+    BadTemplate,
 }
 
 pub enum Count {

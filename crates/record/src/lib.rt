@@ -87,6 +87,7 @@ fn line_of(why: Refusal) -> u8
         Refusal::BadSheet => 11,
         Refusal::BadVersion => 12,
         Refusal::BadMark => 13,
+        Refusal::BadTemplate => 14,
     }
 }
 

@@ -1,0 +1,46 @@
+// Perl pack templates become our layout text (document 02, M-105).
+// The text is put into a block of its own, so that nothing is written before all is decided.
+ghost use mathlib.Core.Path.{_≡_};
+ghost use Rattle.perl.specs.Conversion.{fromPerl};
+use layout::MAX_LAYOUT;
+use layout::Refusal;
+use record::Answer;
+use record::least;
+use text::bytes;
+
+pub mod readers;
+pub mod tokens;
+
+// What a Perl letter stands for in a layout: our letter, and whether the flag `u` follows it.
+pub enum Letter {
+    Taken(u8, bool),
+    Unknown,
+}
+
+// What a reader of a template finds: the place after what it read, and the place after the layout text that it put into the block, held at one
+// byte more than the block has; or the place of the stray byte.
+pub enum Span {
+    Read(usize, usize),
+    Stray(usize),
+}
+
+// Writes the layout that a Perl template stands for. A refusal changes nothing.
+pub fn from_perl(template: &[u8], layout: &mut [u8]) -> Answer
+    ensures { λ r. ⌜ record { answer = r; layout = now (layout .exit) } ≡ fromPerl (now (template .entry)) (now (layout .entry)) ⌝ }
+{
+    if MAX_LAYOUT < template.len() {
+        return Answer::refused(Refusal::BadSize, 0);
+    }
+    let mut block: [u8; MAX_LAYOUT] = [0; MAX_LAYOUT];
+    let whole = readers::sequence(template, 0, 0, &mut block, 0);
+    match whole {
+        Span::Stray(p) => Answer::refused(Refusal::BadTemplate, p as u32),
+        Span::Read(_, size) => {
+            if least(MAX_LAYOUT, layout.len()) < size {
+                return Answer::refused(Refusal::NoRoom, 0);
+            }
+            bytes::copy(layout, 0, &block, 0, size);
+            Answer::accepted(size as u32, 0)
+        }
+    }
+}
