@@ -94,6 +94,17 @@ static void print_refusal(struct curlew_answer answer)
            answer.number, answer.first, curlew_refusal(answer.number));
 }
 
+/* The numbers 2 to 4 point at a place of the layout. */
+static void print_place(const char *layout, struct curlew_answer answer)
+{
+    char text[2 * CURLEW_MAX_LAYOUT + 4];
+
+    if (answer.number >= CURLEW_BAD_TYPE && answer.number <= CURLEW_BAD_MOVE) {
+        curlew_point(layout, strlen(layout), answer.first, text, sizeof text);
+        printf("%s\n", text);
+    }
+}
+
 /* Packs the table. Returns 1, or 0 after saying why not. */
 static int pack(const char *layout, const struct table *table, struct record *record)
 {
@@ -104,6 +115,7 @@ static int pack(const char *layout, const struct table *table, struct record *re
     struct curlew_answer answer = curlew_get_answer(reply);
 
     if (number != CURLEW_OK) {
+        print_place(layout, answer);
         print_refusal(answer);
         return 0;
     }
@@ -378,9 +390,10 @@ static void show_partner(void)
 
 static void show_refusals(void)
 {
-    static const char wrong_layout[] = "a6 A12 Su Su Yu b10";
+    static const char *const wrong_layouts[] = {"a6 A12 Su Su Yu b10", "a6 A12 Su3 b10000"};
     struct table table;
     struct record record;
+    size_t i;
 
     printf("\na leg that nobody marked cannot be packed\n");
     fill_old(&table, &candidates[1]);
@@ -388,9 +401,10 @@ static void show_refusals(void)
     add_text(&table, "0000000000");
     pack(new_layout, &table, &record);
 
-    printf("\na layout with a slip in it: %s\n", wrong_layout);
+    printf("\nlayouts with a slip in them\n");
     fill_new(&table, &candidates[0]);
-    pack(wrong_layout, &table, &record);
+    for (i = 0; i < sizeof wrong_layouts / sizeof wrong_layouts[0]; i++)
+        pack(wrong_layouts[i], &table, &record);
 }
 
 int main(void)

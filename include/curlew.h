@@ -188,7 +188,7 @@
  *                            of CURLEW_SLOT_SIZE, or the mark lies above the
  *                            area's length
  *    2   CURLEW_BAD_TYPE     the layout has an unknown type                         its byte in the layout
- *    3   CURLEW_BAD_COUNT    a count is over CURLEW_MAX_COUNT                       byte of the type character
+ *    3   CURLEW_BAD_COUNT    a count is over CURLEW_MAX_COUNT                       byte of its first digit
  *    4   CURLEW_BAD_MOVE     `@` has no count, or packing met `x*`                  byte of the type character
  *    5   CURLEW_BAD_SLOTS    packing: not one slot for each field that takes one;   0
  *                            reading a record or a sheet: too few slots
@@ -555,6 +555,35 @@ static inline const char *curlew_refusal(uint32_t number)
     case CURLEW_BAD_TEMPLATE: return "the template cannot go on like this, or it ends inside a group";
     default: return "unknown number";
     }
+}
+
+/*
+ * Writes the layout, and below it a caret under a place of it, as a compiler points at a fault:
+ *
+ *   a6 c5000
+ *       ^
+ *
+ * Bytes that do not print appear as dots; a place past the end points behind the last byte. Like snprintf it writes at
+ * most to_len bytes, the zero byte at the end included, and returns how long the whole text is.
+ */
+static inline size_t curlew_point(const void *layout, size_t layout_len, size_t place, char *to, size_t to_len)
+{
+    const uint8_t *bytes = (const uint8_t *)layout;
+    size_t at = place < layout_len ? place : layout_len;
+    size_t length = layout_len + 1 + at + 1;
+    size_t i;
+
+    for (i = 0; i < length && i + 1 < to_len; i++) {
+        if (i < layout_len)
+            to[i] = bytes[i] >= 32 && bytes[i] < 127 ? (char)bytes[i] : '.';
+        else if (i == layout_len)
+            to[i] = '\n';
+        else
+            to[i] = i + 1 < length ? ' ' : '^';
+    }
+    if (to_len > 0)
+        to[i] = '\0';
+    return length;
 }
 
 #endif

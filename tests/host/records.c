@@ -5,7 +5,7 @@
  */
 #include "harness.h"
 
-static struct guard layout_run, slots_run, area_run, data_run, reply_run;
+static struct guard layout_run, slots_run, area_run, data_run, reply_run, text_run;
 static struct values given, wanted;
 
 /* ---- one call ---- */
@@ -401,6 +401,33 @@ static void test_mark(void)
     finish_read(&c);
 }
 
+static void points(const char *layout, size_t len, size_t place, const char *text)
+{
+    struct guard *to = &text_run;
+    size_t room;
+
+    for (room = 0; room <= strlen(text) + 2; room++) {
+        size_t kept = room > strlen(text) ? strlen(text) : room - (room > 0);
+
+        guard_lend(to, NULL, room, HIGH);
+        check(curlew_point(layout, len, place, (char *)to->at, room) == strlen(text), text, "length of a pointer's text");
+        if (room > 0) {
+            memcpy(guard_expected(to), text, kept);
+            guard_expected(to)[kept] = 0;
+        }
+        check(guard_holds(to), text, "a pointer's text");
+    }
+}
+
+static void test_point(void)
+{
+    points("a6 c5000", 8, 4, "a6 c5000\n    ^");
+    points("t", 1, 0, "t\n^");
+    points("a\t\xff" "b", 4, 2, "a..b\n  ^");
+    points("", 0, 0, "\n^");
+    points("a8 @", 4, 99, "a8 @\n    ^");
+}
+
 /* The flag after types that have no use for it. */
 static void test_flags(void)
 {
@@ -428,10 +455,10 @@ static void test_layout_refusals(void)
         {"t", 2, 0, 2, 0}, {"c 3", 2, 2, 2, 2}, {"c*5", 2, 2, 2, 2}, {"c5*", 2, 2, 2, 2}, {"auu", 2, 2, 2, 2},
         {"xuu2", 2, 2, 2, 2}, {"cuu", 2, 2, 2, 2}, {"c\t", 2, 1, 2, 1}, {"a f", 2, 2, 2, 2}, {"5", 2, 0, 2, 0},
         {"*", 2, 0, 2, 0}, {"u", 2, 0, 2, 0}, {"a\xe4", 2, 1, 2, 1},
-        {"c4097", 3, 0, 3, 0}, {" a99999999999999999999", 3, 1, 3, 1}, {"x 4097x4097", 2, 2, 2, 2},
-        {"x04097", 3, 0, 3, 0}, {"c4294967297", 3, 0, 3, 0}, {"c18446744073709551617", 3, 0, 3, 0},
+        {"c4097", 3, 1, 3, 1}, {" a99999999999999999999", 3, 2, 3, 2}, {"x 4097x4097", 2, 2, 2, 2},
+        {"xu04097", 3, 2, 3, 2}, {"c4294967297", 3, 1, 3, 1}, {"c18446744073709551617", 3, 1, 3, 1},
         {"@", 4, 0, 4, 0}, {"a @u", 4, 2, 4, 2}, {"@uu", 4, 0, 4, 0}, {"@ 5", 4, 0, 4, 0}, {"x2x*u", 4, 2, 2, 4},
-        {"c4097t", 3, 0, 3, 0}, {"@t", 4, 0, 4, 0}, {"tc4097", 2, 0, 2, 0},
+        {"c0004097t", 3, 1, 3, 1}, {"@t", 4, 0, 4, 0}, {"tc4097", 2, 0, 2, 0},
     };
     size_t i;
 
@@ -667,7 +694,7 @@ static void test_record_limit(void)
     c.data_len = CURLEW_MAX_RECORD;
     refuse_pack(&c, CURLEW_NO_ROOM, 0);
     c = pack_call("a4097a1");
-    refuse_pack(&c, CURLEW_BAD_COUNT, 0);
+    refuse_pack(&c, CURLEW_BAD_COUNT, 1);
 
     begin(&wanted, 0);
     add_bytes(&wanted, bytes, CURLEW_MAX_RECORD);
@@ -720,7 +747,7 @@ static void test_count_limit(void)
     c = pack_call("c4096");
     c.data_len = CURLEW_MAX_RECORD;
     finish_pack(&c, record, sizeof record);
-    pack_refused("c4097", CURLEW_BAD_COUNT, 0);
+    pack_refused("c4097", CURLEW_BAD_COUNT, 1);
     begin(&wanted, 0);
     add_same(&wanted, CURLEW_SIGNED, CURLEW_MAX_COUNT, 0x85 - 0x100);
     c = read_call("c4096", record, sizeof record);
@@ -827,6 +854,7 @@ int main(void)
     guard_open(&area_run);
     guard_open(&data_run);
     guard_open(&reply_run);
+    guard_open(&text_run);
 
     test_helpers();
     test_pack_examples();
@@ -835,6 +863,7 @@ int main(void)
     test_read_widths();
     test_moves();
     test_mark();
+    test_point();
     test_flags();
     test_layout_refusals();
     test_slot_counts();

@@ -81,7 +81,7 @@ def main():
     equal(pack(lib, b"c t", [[1]])[0], (2, 2, 0))
     equal(pack(lib, b"b3", [b"012"])[0], (10, 0, 0))
     equal(pack(lib, b"a9", [b""], 8)[0], (11, 0, 0))
-    equal(read(lib, b"c4097", b"", 1)[0], (3, 0, 0))
+    equal(read(lib, b"c4097", b"", 1)[0], (3, 1, 0))
     equal(pack(lib, b"", []), ((0, 0, 0), b""))
     equal(lib.curlew_pack(None, 0, None, 0, None, 0, None, 0, None, 0), 1)
 

@@ -159,7 +159,7 @@ fn layout_refusals(t: &mut dyn Judge, mut call: Call) {
     call.layout = b"ca2@".to_vec();
     refuses(t, call.clone(), 4, 3);
     call.layout = format!("ca{}", COUNT_MAX + 1).into_bytes();
-    refuses(t, call.clone(), 3, 1);
+    refuses(t, call.clone(), 3, 2);
     call.layout = vec![b'q'; LAYOUT_MAX + 1];
     refuses(t, call, 1, 0);
 }

@@ -349,9 +349,9 @@ fn leading_zeros(t: &mut dyn Judge) {
     packs(t, &two, &[text("xyz")], "xy");
     reads(t, &two, "xyz", &[text("xy")], 0);
     packs(t, &format!("a{:0digits$}", 0), &[text("xyz")], "");
-    pack_refused(t, &format!("a{}", "9".repeat(digits)), &[text("xyz")], 3, 0);
+    pack_refused(t, &format!("a{}", "9".repeat(digits)), &[text("xyz")], 3, 1);
     packs(t, &format!("x{COUNT_MAX:0digits$}"), &[], [0; COUNT_MAX]);
-    pack_refused(t, &format!("x{OVER:0digits$}"), &[], 3, 0);
+    pack_refused(t, &format!("x{OVER:0digits$}"), &[], 3, 1);
     let over = OVER.to_string();
     for large in [
         &over,
@@ -361,8 +361,11 @@ fn leading_zeros(t: &mut dyn Judge) {
         "4294967296",
         "18446744073709551616",
     ] {
-        pack_refused(t, &format!("a{}", large), &[text("")], 3, 0);
-        read_refused(t, &format!(" c a{}", large), 2, 3, 3);
+        pack_refused(t, &format!("a{}", large), &[text("")], 3, 1);
+        read_refused(t, &format!(" c a{}", large), 2, 3, 4);
+        read_refused(t, &format!(" c a000{}", large), 2, 3, 4);
+        pack_refused(t, &format!("cu{}", large), &[ints(&[1])], 3, 2);
+        read_refused(t, &format!("a2 xu0{}", large), 1, 3, 5);
     }
 }
 
@@ -594,7 +597,7 @@ fn full_record_packings(t: &mut dyn Judge) {
     packs(t, &format!("w{longs}"), &[ints(&items)], ones);
     pack_refused(t, &format!("w{}", longs + 1), &[ints(&items)], 11, 0);
     pack_refused(t, "c*", &[ints(&items)], 11, 0);
-    pack_refused(t, &format!("c{OVER}"), &[ints(&items)], 3, 0);
+    pack_refused(t, &format!("c{OVER}"), &[ints(&items)], 3, 1);
 }
 
 fn full_record_readings(t: &mut dyn Judge, full: &[u8]) {
@@ -795,15 +798,15 @@ fn order_of_refusals(t: &mut dyn Judge) {
     let mut call = unset("q");
     call.slots.push(0);
     refuses(t, call, 1, 0);
-    pack_refused(t, &format!("a{OVER}q"), &[], 3, 0);
+    pack_refused(t, &format!("a{OVER}q"), &[], 3, 1);
     pack_refused(t, &format!("qa{OVER}"), &[], 2, 0);
     pack_refused(t, &format!("@a{OVER}"), &[], 4, 0);
     pack_refused(t, "x*@", &[], 4, 0);
-    pack_refused(t, &format!("a{OVER}x*"), &[], 3, 0);
+    pack_refused(t, &format!("a{OVER}x*"), &[], 3, 1);
     pack_refused(t, "aax*", &[], 4, 2);
-    pack_refused(t, &format!("x{OVER}"), &[], 3, 0);
-    pack_refused(t, &format!("@{OVER}"), &[], 3, 0);
-    pack_refused(t, &format!("X{OVER}"), &[], 3, 0);
+    pack_refused(t, &format!("x{OVER}"), &[], 3, 1);
+    pack_refused(t, &format!("@{OVER}"), &[], 3, 1);
+    pack_refused(t, &format!("X{OVER}"), &[], 3, 1);
     refuses(t, unset("aa"), 5, 0);
     refuses(t, unset(&format!("ax{COUNT_MAX}x")), 6, 0);
     refuses(t, with_slot(packing("a", &[text("z")]), 0, [2, 9, 0]), 7, 0);
@@ -834,7 +837,7 @@ fn order_of_refusals(t: &mut dyn Judge) {
     let after = was_read(&call, &[text("abc")]);
     t.expect("only values that are set need room", &call, &after);
     refuses(t, reading("a9@", "abc", 1), 4, 2);
-    refuses(t, reading(format!("a9a{OVER}"), "abc", 2), 3, 2);
+    refuses(t, reading(format!("a9a{OVER}"), "abc", 2), 3, 3);
 }
 
 /// What lies below the mark or in an unset slot stays as it was.

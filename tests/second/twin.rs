@@ -163,7 +163,7 @@ fn parse(text: &[u8], packing: bool, fields: &mut Fields) -> Result<(usize, usiz
             *unsigned = flagged;
         }
         let (count, next) = count_at(text, at);
-        let count = count.ok_or_else(|| refused(3, place))?;
+        let count = count.ok_or_else(|| refused(3, at))?;
         match (kind, count) {
             (Kind::Goto, Count::Absent) => return Err(refused(4, place)),
             (Kind::Skip, Count::All) if packing => return Err(refused(4, place)),

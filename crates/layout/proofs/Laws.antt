@@ -94,7 +94,7 @@ Later (bad n p) s = Unit {0}
 
 abbrev ending : Bool → ℕ → Bool → Code → Count → Bool → ℕ → Result (Field × ℕ)
 ending packing at l k n u m =
-    demand l CountTooLarge at >>= (λ _. demand (hasMeaning packing k n) CountMisused at >>= (λ _. ok (record { code = k; unsigned = u; count = n }, m)))
+    demand l CountTooLarge (suc at + toNat u) >>= (λ _. demand (hasMeaning packing k n) CountMisused at >>= (λ _. ok (record { code = k; unsigned = u; count = n }, m)))
 
 later-end : (at : ℕ) (l : Bool) (k : Code) (n : Count) (u : Bool) (m : ℕ) → FitCode k
     → Later (stepFrom (ending true at l k n u m)) (stepFrom (ending false at l k n u m))

@@ -194,7 +194,7 @@ module _ (packing : Bool) (p c : ℕ) (cs : List ℕ) (no-space : c ≡ 32 → �
   step-unknown e = rw (ne-eqb c 32 no-space, at-unknown e)
 
   module _ (k : Code) (e : typeOf c ≡ Known k) (u : Bool) (flag : u ≡ flagged cs) (v : ℕ) (held : v ≡ heldNumber (countOf (drop (toNat u) cs))) where
-    pub step-large : lastCount < v → stepOf packing p c cs ≡ bad CountTooLarge p
+    pub step-large : lastCount < v → stepOf packing p c cs ≡ bad CountTooLarge (suc p + toNat u)
     unfolding stepOf fieldAfter
     step-large h =
         let n : Count = countOf (drop (toNat u) cs) in
@@ -273,17 +273,18 @@ module _ (packing : Bool) (text : List ℕ) (p d b v e : ℕ) (s : Seen text p d
   pub flag-le : b ≤ 1
   flag-le = omega (arith, bit, bit-le u)
 
+  place : p + 1 + b ≡ suc p + toNat u
+  place = omega (arith, bit)
+
   tail : drop (p + 1 + b) text ≡ drop (toNat u) (drop (suc p) text)
-  tail =
-      let place : p + 1 + b ≡ suc p + toNat u = omega (arith, bit) in
-      ap (λ (i : ℕ). drop i text) place ∙ sym (drop-drop (toNat u) (suc p) text)
+  tail = ap (λ (i : ℕ). drop i text) place ∙ sym (drop-drop (toNat u) (suc p) text)
 
   number : v ≡ heldNumber (countOf (drop (toNat u) (drop (suc p) text)))
   number = s .tail .1 .0 ∙ ap (λ (cs : List ℕ). heldNumber (countOf cs)) tail
 
-  pub read-large : lastCount < v → FoundAs packing text p (Bad CountTooLarge p)
+  pub read-large : lastCount < v → FoundAs packing text p (Bad CountTooLarge (p + 1 + b))
   read-large h =
-      record { step = step-large packing p _ _ (s .no-space) k typed u refl v number h; told = tt }
+      record { step = rw place (step-large packing p _ _ (s .no-space) k typed u refl v number h); told = tt }
 
   pub read-meaningless : v ≤ lastCount → hasMeaning packing k (countFrom v) ≡ false → FoundAs packing text p (Bad CountMisused p)
   read-meaningless h m =

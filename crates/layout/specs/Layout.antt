@@ -121,14 +121,15 @@ abbrev pub stepFrom : Result (Field × ℕ) → Step
 stepFrom (ok f) = field (f .0) (f .1)
 stepFrom (refused why place) = bad why place
 
--- the field of type k at the place `at`, whose flag and count stand in front of cs; and how many bytes those take
+-- the field of type k at the place `at`, whose flag and count stand in front of cs; and how many bytes those take. A count over the limit is
+-- refused at its own first digit (02, M-106), one that is missing or means nothing at the type character.
 unfoldable pub fieldAfter : Bool → ℕ → Code → List ℕ → Result (Field × ℕ)
 unfolding flagged countOf countLength
 fieldAfter packing at k cs = do
   let u = flagged cs
   let rest = drop (toNat u) cs
   let n = countOf rest
-  _ ← demand (inLimit n) CountTooLarge at
+  _ ← demand (inLimit n) CountTooLarge (suc at + toNat u)
   _ ← demand (hasMeaning packing k n) CountMisused at
   ok (record { code = k; unsigned = u; count = n }, toNat u + countLength rest)
 

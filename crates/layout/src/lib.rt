@@ -345,7 +345,8 @@ fn read_field(text: &[u8], packing: bool, p: usize) -> Found
     let t = tail_at(text, p + 1);
     let v = t.value;
     if LAST_COUNT < v {
-        return Found::Bad(Refusal::CountTooLarge, p);
+        let count = p + 1 + t.flag as usize;
+        return Found::Bad(Refusal::CountTooLarge, count);
     }
     if !has_meaning(packing, d, v) {
         return Found::Bad(Refusal::CountMisused, p);
