@@ -1,31 +1,17 @@
 -- What the calls for a C host share (document 01, Slot tables): slots and replies are runs of bytes, each number four of them, big-endian.
 use Prim.Native.Nat.{ℕ, _*_, _/_, _%_}
-use mathlib.Core.Bool.{Bool, true, _&&_}
-use mathlib.Core.List.{List, [], _∷_, map}
+use mathlib.Core.Bool.{Bool, _&&_}
+use mathlib.Core.List.{List, [], _∷_}
 use lib.ListN.{length}
 use lib.Dec.{eqb, leb}
 use Rattle.layout.specs.Refusals.{if_then_else_}
 use Rattle.record.specs.declared.Answer.{Answer}
-use Rattle.record.specs.Bytes.{pieces, join, digits, number, ordered}
+use Rattle.record.specs.Bytes.{bigEndian, bigEndianIn}
 use Rattle.record.specs.Table.{slotWidth, maxSlots}
 use Rattle.record.specs.Packing.{Packed}
 use Rattle.record.specs.Reading.{Read}
 
 -- ---- numbers as bytes
-
--- the w bytes of a number, the highest first
-unfoldable pub numberBytes : ℕ → ℕ → List ℕ
-unfolding digits
-numberBytes w x = ordered true (digits 256 w x)
-
--- numbers of w bytes each, one after the other; and the n numbers that stand at the front of bs
-unfoldable pub bigEndian : ℕ → List ℕ → List ℕ
-unfolding join numberBytes
-bigEndian w xs = join (map (numberBytes w) xs)
-
-unfoldable pub bigEndianIn : ℕ → ℕ → List ℕ → List ℕ
-unfolding pieces number
-bigEndianIn w n bs = map (λ p. number 256 (ordered true p)) (pieces w n bs)
 
 -- the bytes of a number, of a slot, and of a reply, which is an answer's three numbers
 abbrev pub numberSize : ℕ

@@ -2,9 +2,9 @@
 ghost use mathlib.Core.Path.{_≡_};
 ghost use Prim.Native.Nat.{_+_, _*_, _%_, _≤_};
 ghost use lib.ListN.{length, take};
-ghost use Rattle.record.specs.Bytes.{part, storeAt, numberAt};
+ghost use Rattle.record.specs.Bytes.{part, storeAt, numberBytes, numberAt};
 ghost use Rattle.record.specs.Table.{slotWidth};
-ghost use Rattle.host.specs.Host.{numberSize, numberBytes, numbersIn, bytesOf};
+ghost use Rattle.host.specs.Host.{numberSize, numbersIn, bytesOf};
 
 // The bytes of a number.
 pub const NUMBER_SIZE: usize = 4;
@@ -13,21 +13,14 @@ fn number_at(bytes: &[u8], at: usize) -> u32
     requires { ⌜ at + numberSize ≤ length (now bytes) ⌝ }
     ensures { λ r. ⌜ r ≡ numberAt numberSize (now (bytes .entry)) at ⌝ }
 {
-    let a = bytes[at] as u32;
-    let b = bytes[at + 1] as u32;
-    let c = bytes[at + 2] as u32;
-    let d = bytes[at + 3] as u32;
-    a * 16777216 + b * 65536 + c * 256 + d
+    record::numbers::number_at(bytes, at, NUMBER_SIZE) as u32
 }
 
 fn put_number(out: &mut [u8], at: usize, x: u32)
     requires { ⌜ at + numberSize ≤ length (now out) ⌝ }
     ensures { λ _. ⌜ now (out .exit) ≡ storeAt (now (out .entry)) at (numberBytes numberSize x) ⌝ }
 {
-    out[at] = (x / 16777216 % 256) as u8;
-    out[at + 1] = (x / 65536 % 256) as u8;
-    out[at + 2] = (x / 256 % 256) as u8;
-    out[at + 3] = (x % 256) as u8;
+    record::numbers::put_number(out, at, NUMBER_SIZE, x as u64)
 }
 
 // The n numbers from number `from` on, out of the bytes where they stand.

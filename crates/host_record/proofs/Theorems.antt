@@ -10,14 +10,15 @@ use lib.Dec.{eqb}
 use lib.ListN.{length, take, drop}
 use lib.Seq.{take-at, drop-at}
 use Rattle.layout.specs.Refusals.{if_then_else_}
-use Rattle.record.specs.Bytes.{part, join, digits, number, numberAt}
+use Rattle.record.specs.Bytes.{part, join, digits, number, numberBytes, numberAt, bigEndian}
 use Rattle.record.specs.Table.{slotWidth}
 use Rattle.record.specs.Reading.{Read, read}
 use Rattle.record.proofs.Bytes.{All, all-below, number-digits}
-use Rattle.host.specs.Host.{numberSize, slotSize, replySize, numberBytes, bigEndian, bytesOf, numbersIn, replyOf, ReadCall, readCall}
+use Rattle.host.specs.Host.{numberSize, slotSize, replySize, bytesOf, numbersIn, replyOf, ReadCall, readCall}
 use Rattle.host_record.specs.Calls.{curlewRead}
 use Rattle.host_record.specs.Claims.{Stay, UnsetStay}
-use Rattle.host.proofs.NumberLaws.{length-numberBytes, bytes-drop, bytes-back}
+use Rattle.record.proofs.NumberLaws.{length-numberBytes}
+use Rattle.host.proofs.NumberLaws.{bytes-drop, bytes-back}
 use Rattle.record.proofs.Readings.{read-unset, read-few}
 
 -- a number of 32 bits comes back from its bytes
