@@ -11,7 +11,7 @@ import subprocess
 import sys
 from statistics import median
 
-from workloads import BYTE_COUNTS, CALLS, FIELD_COUNTS, crowd_sum, main_workloads, workloads
+from workloads import BYTE_COUNTS, CALLS, FIELD_COUNTS, SHEET_CALLS, crowd_sum, main_workloads, tables, workloads
 
 ROUNDS = int(os.environ.get("BENCH_ROUNDS", "15"))
 SLICE = int(float(os.environ.get("BENCH_MILLISECONDS", "3")) * 1e6)
@@ -19,8 +19,10 @@ CROWD = int(os.environ.get("BENCH_RECORDS", "1000000"))
 CROWD_ROUNDS = 3
 NAMES = {"ours": "ours", "twin": "Rust twin", "tcl": "Tcl", "perl": "Perl", "python": "Python"}
 TITLES = {"w1": "w1 small mark record", "w2": "w2 strip of digits", "w3": "w3 s2000", "w4": "w4 a4096",
-          "w5": "w5 64 fields of c"}
+          "w5": "w5 64 fields of c", "t8": "table of 8 slots", "t60000": "value of 60,000 bytes"}
+LIBRARIES = ("ours", "twin")
 TWIN_GOAL = 1.5
+COPY_GOAL = 2.0
 
 
 def tcl_goal(name, call):
@@ -61,6 +63,9 @@ def start_peers(program):
         for work in workloads():
             for line in work.lines():
                 process.tell(line)
+    for table in tables():
+        for line in table.lines():
+            native.tell(line)
     return serving
 
 
@@ -69,8 +74,13 @@ def cases(peers):
     for work in workloads():
         for call in CALLS:
             for peer in peers:
-                if peer != "memcpy" or work.name == "w4":
+                if peer in NAMES or (peer, work.name) == ("memcpy", "w4"):
                     yield peer, work.name, call
+    for table in tables():
+        for call in SHEET_CALLS:
+            for peer in peers:
+                if peer in LIBRARIES or peer == "memcpy":
+                    yield peer, table.name, call
 
 
 def check_same(serving):
@@ -79,8 +89,18 @@ def check_same(serving):
         for call in CALLS:
             expected = serving["ours"].ask(f"show ours {work.name} {call}")
             for peer, process in serving.items():
-                if peer != "memcpy" and process.ask(f"show {peer} {work.name} {call}") != expected:
+                if peer in NAMES and process.ask(f"show {peer} {work.name} {call}") != expected:
                     sys.exit(f"{NAMES[peer]} and ours differ on {work.name} {call}")
+    for table in tables():
+        for call in SHEET_CALLS:
+            check_libraries(serving, table.name, call, table.expected(call))
+
+
+def check_libraries(serving, name, call, expected):
+    """Ours and the twin give what is expected."""
+    for peer in LIBRARIES:
+        if peer in serving and serving[peer].ask(f"show {peer} {name} {call}") != expected:
+            sys.exit(f"{NAMES[peer]}: wrong result of {name} {call}")
 
 
 def calls_per_slice(serving, case):
@@ -109,12 +129,12 @@ def run_rounds(serving):
 def run_crowd(serving):
     """Records in a second, packed and read, for each peer and number of threads."""
     cores = len(os.sched_getaffinity(0))
-    todo = [(peer, threads) for peer in serving if peer != "memcpy"
-            for threads in ((1, cores) if peer in ("ours", "twin", "tcl") and cores > 1 else (1,))]
+    todo = [(peer, threads) for peer in serving if peer in NAMES
+            for threads in ((1, cores) if peer in (*LIBRARIES, "tcl") and cores > 1 else (1,))]
     rates = {case: ([], []) for case in todo}
     for _ in range(CROWD_ROUNDS):
         for peer, threads in todo:
-            records = CROWD if peer in ("ours", "twin") else CROWD // 5 if peer == "tcl" else CROWD // 20
+            records = CROWD if peer in LIBRARIES else CROWD // 5 if peer == "tcl" else CROWD // 20
             packing, reading, total = map(int, serving[peer].ask(f"crowd {peer} {threads} {records}").split())
             if total != crowd_sum(records):
                 sys.exit(f"{NAMES[peer]} read wrong marks")
@@ -134,8 +154,9 @@ def text(value, form="{:.2f}x"):
     return "-" if value is None else form.format(value)
 
 
-def verdict(good):
-    return "met" if good else "MISSED"
+def goal_text(value, goal):
+    """A goal for a peer's time over ours, and whether it is met."""
+    return "-" if value is None else f">={goal:.2f} {'met' if value >= goal else 'MISSED'}"
 
 
 def print_main(times):
@@ -145,9 +166,7 @@ def print_main(times):
     for work in main_workloads():
         for call in CALLS:
             tcl, twin = (ratio(times, peer, work.name, call) for peer in ("tcl", "twin"))
-            goal = tcl_goal(work.name, call)
-            tcl_text = f">={goal:.1f} {verdict(tcl >= goal)}" if tcl else "-"
-            twin_text = f">={1 / TWIN_GOAL:.2f} {verdict(twin >= 1 / TWIN_GOAL)}" if twin else "-"
+            tcl_text, twin_text = goal_text(tcl, tcl_goal(work.name, call)), goal_text(twin, 1 / TWIN_GOAL)
             print(f"{TITLES[work.name]:22} {call:5} {median(times['ours', work.name, call]):9.0f} {text(tcl):>9}"
                   f" {tcl_text:>13} {text(twin):>10} {twin_text:>14}"
                   f" {text(ratio(times, 'perl', work.name, call)):>9}"
@@ -157,6 +176,22 @@ def print_main(times):
     print("Goals: Tcl's time at least 2 times ours for w1 pack, 4 times for w1 read, 1.3 times for w5 pack, 3 times for")
     print("the others; our time at most 1.5 times the twin's (the twin's at least 0.67 of ours).")
     print("Python's struct has no digit fields: w1 and w2 add the usual conversions by int, format and fromhex.")
+
+
+def print_beside(times, peer, name, call, goal=None):
+    """A call's time, the twin's and another peer's over ours."""
+    twin, other = (ratio(times, beside, name, call) for beside in ("twin", peer))
+    print(f"{TITLES[name]:28} {call:11} {median(times['ours', name, call]):9.0f} {text(twin):>10}"
+          f" {goal_text(twin, 1 / TWIN_GOAL):>14} {text(other):>10} {goal_text(other, goal) if goal else '-':>14}")
+
+
+def print_sheets(times):
+    print("\nSheets, beside the twin and beside memcpy of the sheet's bytes. Each one's time over ours.")
+    print(f"{'table':28} {'call':11} {'ours ns':>9} {'Rust twin':>10} {'goal':>14} {'memcpy':>10} {'goal':>14}")
+    for table in tables():
+        for call in SHEET_CALLS:
+            print_beside(times, "memcpy", table.name, call, 1 / COPY_GOAL if table.name == "t60000" else None)
+    print(f"Goals: our time at most {TWIN_GOAL} times the twin's, and at most {COPY_GOAL:.0f} times memcpy's for the long value.")
 
 
 def print_growth(times, peers, letter, sizes, what):
@@ -200,6 +235,7 @@ def main():
     for process in set(serving.values()):
         process.close()
     print_main(times)
+    print_sheets(times)
     print_growth(times, peers, "f", FIELD_COUNTS, "Growth by fields: 1 to 64 fields of c")
     print_growth(times, peers, "b", BYTE_COUNTS, "Growth by bytes: one field of s, 16 to 4,096 bytes of record")
     print_crowd(rates)

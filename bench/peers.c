@@ -2,34 +2,23 @@
  * The C side of the benchmark: our library, the Rust twin, Tcl's commands, and memcpy. Takes orders line by line on
  * its input and answers each `time`, `show`, `crowd` and `peers` by one line:
  *
- *   work NAME, pack LAYOUT, read LAYOUT, text STRING, list NUMBERS, record HEX, end    describe a workload
- *   peers                           which peers this program has
- *   time PEER NAME pack|read N      nanoseconds of processor time of N calls
- *   show PEER NAME pack|read        what one call gives
- *   crowd PEER THREADS RECORDS      nanoseconds of packing and of reading, and a sum over what was read
+ *   work NAME, pack LAYOUT, read LAYOUT, text STRING, list NUMBERS, unset, record HEX    describe a workload
+ *   end                           it is one for Tcl too
+ *   peers                         which peers this program has
+ *   time PEER NAME CALL N         nanoseconds of processor time of N calls
+ *   show PEER NAME CALL           what one call gives
+ *   crowd PEER THREADS RECORDS    nanoseconds of packing and of reading, and a sum over what was read
+ *
+ * The calls are those of the table library_calls.
  */
 #include "peers.h"
 
 #define WORKS 64
 
-#ifndef NO_TWIN
-pack_call twin_pack;
-read_call twin_read;
-#endif
-
-static const struct library libraries[] = {
-    {"ours", curlew_pack, curlew_read},
-#ifndef NO_TWIN
-    {"twin", twin_pack, twin_read},
-#endif
-};
-
 static struct work *works[WORKS];
 static size_t work_count;
-static char line[1 << 17];
-
-static uint8_t slots[CURLEW_MAX_SLOTS * CURLEW_SLOT_SIZE], area[CURLEW_MAX_AREA], out[CURLEW_MAX_RECORD];
-static uint8_t packed[CURLEW_PACK_REPLY], reply[CURLEW_READ_REPLY];
+/* Room for the hex digits of the largest sheet. */
+static char line[2 * CURLEW_MAX_SHEET + 64];
 
 void stop(const char *why)
 {
@@ -55,95 +44,6 @@ uint64_t wall_time(void)
     return clock_of(CLOCK_MONOTONIC);
 }
 
-/* ---- libraries with our interface ---- */
-
-static uint32_t pack_once(const struct library *lib, const struct work *w, size_t layout_len)
-{
-    return lib->pack((const uint8_t *)w->pack_layout, layout_len, w->slots, w->count * CURLEW_SLOT_SIZE,
-                     w->area, w->used, out, sizeof out, packed, sizeof packed);
-}
-
-static uint32_t read_once(const struct library *lib, const struct work *w, size_t layout_len)
-{
-    return lib->read((const uint8_t *)w->read_layout, layout_len, w->record, w->record_len,
-                     slots, w->count * CURLEW_SLOT_SIZE, area, sizeof area, 0, reply, sizeof reply);
-}
-
-static uint64_t time_pack(const struct library *lib, const struct work *w, unsigned long n)
-{
-    size_t layout_len = strlen(w->pack_layout);
-    uint32_t numbers = 0;
-    uint64_t start = used_time();
-    unsigned long i;
-
-    for (i = 0; i < n; i++)
-        numbers |= pack_once(lib, w, layout_len);
-    start = used_time() - start;
-    if (numbers != CURLEW_OK)
-        stop("a packing was refused");
-    return start;
-}
-
-static uint64_t time_read(const struct library *lib, const struct work *w, unsigned long n)
-{
-    size_t layout_len = strlen(w->read_layout);
-    uint32_t numbers = 0;
-    uint64_t start = used_time();
-    unsigned long i;
-
-    for (i = 0; i < n; i++)
-        numbers |= read_once(lib, w, layout_len);
-    start = used_time() - start;
-    if (numbers != CURLEW_OK)
-        stop("a reading was refused");
-    return start;
-}
-
-static void show_pack(const struct library *lib, const struct work *w)
-{
-    size_t i;
-
-    if (pack_once(lib, w, strlen(w->pack_layout)) != CURLEW_OK)
-        stop("a packing was refused");
-    for (i = 0; i < curlew_get_answer(packed).first; i++)
-        printf("%02x", (unsigned)out[i]);
-}
-
-static void show_value(struct curlew_slot slot)
-{
-    size_t i;
-
-    if (slot.kind == CURLEW_STRING)
-        printf("%.*s,", (int)slot.length, (const char *)area + slot.start);
-    else
-        for (i = 0; i < slot.length; i++)
-            printf("%lld,", (long long)curlew_get_int(area + slot.start + i * CURLEW_ITEM_SIZE));
-}
-
-static void show_read(const struct library *lib, const struct work *w)
-{
-    size_t i;
-
-    memset(slots, 0, sizeof slots);
-    if (read_once(lib, w, strlen(w->read_layout)) != CURLEW_OK)
-        stop("a reading was refused");
-    for (i = 0; i < w->count; i++)
-        show_value(curlew_get_slot(slots, i));
-}
-
-/* ---- memcpy, of as many bytes as the record has ---- */
-
-static uint64_t time_memcpy(const struct work *w, unsigned long n)
-{
-    void *(*volatile copy)(void *, const void *, size_t) = memcpy;
-    uint64_t start = used_time();
-    unsigned long i;
-
-    for (i = 0; i < n; i++)
-        copy(out, w->record, w->record_len);
-    return used_time() - start;
-}
-
 /* ---- workloads ---- */
 
 static struct work *last_work(void)
@@ -166,12 +66,21 @@ static struct work *find_work(const char *name)
 
 static void new_work(const char *name)
 {
-    struct work *w = (struct work *)calloc(1, sizeof *w);
+    void *room;
+    struct work *w;
 
-    if (w == NULL || work_count == WORKS)
+    if (work_count == WORKS || posix_memalign(&room, PAGE, sizeof *w) != 0)
         stop("no room for a workload");
+    w = (struct work *)room;
+    memset(w, 0, sizeof *w);
     snprintf(w->name, sizeof w->name, "%s", name);
     works[work_count++] = w;
+}
+
+static void set_layout(struct layout *layout, const char *text)
+{
+    snprintf(layout->text, sizeof layout->text, "%s", text);
+    layout->length = strlen(layout->text);
 }
 
 static void add_text(struct work *w, const char *text)
@@ -196,12 +105,25 @@ static void add_list(struct work *w, char *numbers)
                     (uint32_t)((w->used - start) / CURLEW_ITEM_SIZE));
 }
 
-static void add_record(struct work *w, const char *hex)
+static void add_unset(struct work *w)
 {
-    unsigned byte;
+    curlew_put_slot(w->slots, w->count++, CURLEW_UNSET, 0, 0);
+}
 
-    for (; sscanf(hex, "%2x", &byte) == 1; hex += 2)
-        w->record[w->record_len++] = (uint8_t)byte;
+static unsigned hex_digit(char digit)
+{
+    return (unsigned)(digit <= '9' ? digit - '0' : digit - 'a' + 10);
+}
+
+/* The bytes that the digits stand for; how many. */
+static size_t put_hex(uint8_t *to, const char *hex)
+{
+    size_t length = strlen(hex) / 2;
+    size_t i;
+
+    for (i = 0; i < length; i++)
+        to[i] = (uint8_t)(hex_digit(hex[2 * i]) << 4 | hex_digit(hex[2 * i + 1]));
+    return length;
 }
 
 static void end_work(void)
@@ -213,27 +135,17 @@ static void end_work(void)
 
 /* ---- orders ---- */
 
-static const struct library *find_library(const char *peer)
-{
-    size_t i;
-
-    for (i = 0; i < sizeof libraries / sizeof libraries[0]; i++)
-        if (strcmp(libraries[i].name, peer) == 0)
-            return &libraries[i];
-    return NULL;
-}
-
-static uint64_t time_peer(const char *peer, struct work *w, int packing, unsigned long n)
+static uint64_t time_peer(const char *peer, struct work *w, const struct library_call *call, unsigned long n)
 {
     const struct library *lib = find_library(peer);
 
     if (lib != NULL)
-        return packing ? time_pack(lib, w, n) : time_read(lib, w, n);
+        return time_calls(call->once, lib, w, n);
     if (strcmp(peer, "memcpy") == 0)
-        return time_memcpy(w, n);
+        return time_calls(copy_once, NULL, w, n);
 #ifndef NO_TCL
     if (strcmp(peer, "tcl") == 0)
-        return packing ? tcl_time_pack(w, n) : tcl_time_read(w, n);
+        return call->packs ? tcl_time_pack(w, n) : tcl_time_read(w, n);
 #endif
     stop("unknown peer");
     return 0;
@@ -241,24 +153,22 @@ static uint64_t time_peer(const char *peer, struct work *w, int packing, unsigne
 
 static void order_time(const char *rest)
 {
-    char peer[16], name[32], call[8];
+    char peer[16], name[32], call[16];
     unsigned long n;
 
-    if (sscanf(rest, "%15s %31s %7s %lu", peer, name, call, &n) != 4)
+    if (sscanf(rest, "%15s %31s %15s %lu", peer, name, call, &n) != 4)
         stop("time?");
-    printf("%llu\n", (unsigned long long)time_peer(peer, find_work(name), strcmp(call, "pack") == 0, n));
+    printf("%llu\n", (unsigned long long)time_peer(peer, find_work(name), find_call(call), n));
 }
 
-static void show_peer(const char *peer, struct work *w, int packing)
+static void show_peer(const char *peer, struct work *w, const struct library_call *call)
 {
     const struct library *lib = find_library(peer);
 
-    if (lib != NULL && packing)
-        show_pack(lib, w);
-    else if (lib != NULL)
-        show_read(lib, w);
+    if (lib != NULL)
+        call->show(lib, w);
 #ifndef NO_TCL
-    else if (packing)
+    else if (call->packs)
         tcl_show_pack(w);
     else
         tcl_show_read(w);
@@ -268,11 +178,11 @@ static void show_peer(const char *peer, struct work *w, int packing)
 
 static void order_show(const char *rest)
 {
-    char peer[16], name[32], call[8];
+    char peer[16], name[32], call[16];
 
-    if (sscanf(rest, "%15s %31s %7s", peer, name, call) != 3)
+    if (sscanf(rest, "%15s %31s %15s", peer, name, call) != 3)
         stop("show?");
-    show_peer(peer, find_work(name), strcmp(call, "pack") == 0);
+    show_peer(peer, find_work(name), find_call(call));
 }
 
 static void order_crowd(const char *rest)
@@ -296,7 +206,7 @@ static void order_peers(void)
 {
     size_t i;
 
-    for (i = 0; i < sizeof libraries / sizeof libraries[0]; i++)
+    for (i = 0; libraries[i].name != NULL; i++)
         printf("%s ", libraries[i].name);
 #ifndef NO_TCL
     printf("tcl ");
@@ -309,15 +219,17 @@ static void obey(const char *order, char *rest)
     if (strcmp(order, "work") == 0)
         new_work(rest);
     else if (strcmp(order, "pack") == 0)
-        snprintf(last_work()->pack_layout, sizeof last_work()->pack_layout, "%s", rest);
+        set_layout(&last_work()->pack_layout, rest);
     else if (strcmp(order, "read") == 0)
-        snprintf(last_work()->read_layout, sizeof last_work()->read_layout, "%s", rest);
+        set_layout(&last_work()->read_layout, rest);
     else if (strcmp(order, "text") == 0)
         add_text(last_work(), rest);
     else if (strcmp(order, "list") == 0)
         add_list(last_work(), rest);
+    else if (strcmp(order, "unset") == 0)
+        add_unset(last_work());
     else if (strcmp(order, "record") == 0)
-        add_record(last_work(), rest);
+        last_work()->record_len = put_hex(last_work()->record, rest);
     else if (strcmp(order, "end") == 0)
         end_work();
     else if (strcmp(order, "time") == 0)

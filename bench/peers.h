@@ -13,27 +13,63 @@ typedef uint32_t pack_call(const uint8_t *, size_t, const uint8_t *, size_t, con
                            uint8_t *, size_t, uint8_t *, size_t);
 typedef uint32_t read_call(const uint8_t *, size_t, const uint8_t *, size_t, uint8_t *, size_t,
                            uint8_t *, size_t, size_t, uint8_t *, size_t);
+typedef uint32_t sheet_write_call(const uint8_t *, size_t, const uint8_t *, size_t, uint8_t *, size_t,
+                                  uint8_t *, size_t);
+typedef uint32_t sheet_read_call(const uint8_t *, size_t, uint8_t *, size_t, uint8_t *, size_t, size_t,
+                                 uint8_t *, size_t);
 
-/* Two calls with the same interface: ours, or the twin's. */
+/* Calls with the same interface: ours, or the twin's. */
 struct library {
     const char *name;
     pack_call *pack;
     read_call *read;
+    sheet_write_call *sheet_write;
+    sheet_read_call *sheet_read;
 };
 
-/* One workload: what is packed, by which layout; which record is read, by which layout. */
+/*
+ * Runs that are read begin at a page and runs that are written half a page behind one, so that no copy is slowed by
+ * where its two runs happen to lie.
+ */
+#define PAGE 4096
+#define AT_PAGE __attribute__((aligned(PAGE)))
+
+struct layout {
+    char text[CURLEW_MAX_LAYOUT + 1];
+    size_t length;
+};
+
+/* One workload: what is packed, by which layout; which record is read, by which layout. Or a table and its sheet. */
 struct work {
     char name[32];
-    char pack_layout[CURLEW_MAX_LAYOUT + 1];
-    char read_layout[CURLEW_MAX_LAYOUT + 1];
+    struct layout pack_layout;
+    struct layout read_layout;
     uint8_t slots[CURLEW_MAX_SLOTS * CURLEW_SLOT_SIZE];
     size_t count;
-    uint8_t area[CURLEW_MAX_AREA];
+    uint8_t area[CURLEW_MAX_AREA] AT_PAGE;
     size_t used;
-    uint8_t record[CURLEW_MAX_RECORD];
+    uint8_t record[CURLEW_MAX_SHEET] AT_PAGE;
     size_t record_len;
     void *tcl;
 };
+
+/* One call on a workload; the number that came back. */
+typedef uint32_t once_call(const struct library *, const struct work *);
+
+/* A call that libraries have: how it is made once, how its result is shown, and whether it packs. */
+struct library_call {
+    const char *name;
+    once_call *once;
+    void (*show)(const struct library *, const struct work *);
+    int packs;
+};
+
+/* The libraries; the last has no name. */
+extern const struct library libraries[];
+const struct library *find_library(const char *name);
+const struct library_call *find_call(const char *name);
+once_call copy_once;
+uint64_t time_calls(once_call *once, const struct library *lib, const struct work *w, unsigned long n);
 
 /* A million candidates: one layout, records of one length, side by side in one run. */
 #define CROWD_LAYOUT "a8 A20 Su Iu c6 b12 H8"

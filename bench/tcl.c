@@ -102,12 +102,12 @@ void tcl_prepare(struct work *w)
 
     if (t == NULL)
         stop("no room for Tcl's objects");
-    find_digits(w->pack_layout, digits);
+    find_digits(w->pack_layout.text, digits);
     t->pack[t->pack_count++] = keep(Tcl_NewStringObj("::tcl::binary::format", -1));
-    t->pack[t->pack_count++] = keep(Tcl_NewStringObj(w->pack_layout, -1));
+    t->pack[t->pack_count++] = keep(Tcl_NewStringObj(w->pack_layout.text, -1));
     t->read[t->read_count++] = keep(Tcl_NewStringObj("::tcl::binary::scan", -1));
     t->read[t->read_count++] = keep(Tcl_NewByteArrayObj(w->record, (int)w->record_len));
-    t->read[t->read_count++] = keep(Tcl_NewStringObj(w->read_layout, -1));
+    t->read[t->read_count++] = keep(Tcl_NewStringObj(w->read_layout.text, -1));
     for (i = 0; i < w->count; i++) {
         t->pack[t->pack_count++] = keep(argument(w, i, digits[i]));
         t->read[t->read_count++] = keep(name_of(i));

@@ -1,10 +1,19 @@
-"""The workloads: what is packed and read, for ours and Tcl by `pack` and `read`, for Perl by templates of its own."""
+"""The workloads: what is packed and read, for ours and Tcl by `pack` and `read`, for Perl by templates of its own; and
+the tables that are written and read as sheets."""
 import random
 import struct
 
 FIELD_COUNTS = (1, 2, 4, 8, 16, 32, 64)
 BYTE_COUNTS = (16, 64, 256, 1024, 4096)
 CALLS = ("pack", "read")
+SHEET_CALLS = ("sheet-write", "sheet-read")
+
+
+def value_line(value):
+    """A value as an order to a peer: text, integers, or None where it is not set."""
+    if value is None:
+        return "unset"
+    return f"text {value}" if isinstance(value, str) else "list " + " ".join(map(str, value))
 
 
 class Work:
@@ -30,8 +39,7 @@ class Work:
         yield f"read {self.read}"
         yield f"perlpack {self.perl}"
         yield f"perlread {self.perl_read}"
-        for value in self.values:
-            yield f"text {value}" if isinstance(value, str) else "list " + " ".join(map(str, value))
+        yield from map(value_line, self.values)
         yield f"record {self.record.hex()}"
         yield "end"
 
@@ -75,6 +83,46 @@ def growth_workloads():
 
 def workloads():
     return main_workloads() + list(growth_workloads())
+
+
+def sheet_entry(value):
+    if value is None:
+        rest = bytes([0])
+    elif isinstance(value, str):
+        rest = bytes([1]) + value.encode()
+    else:
+        rest = bytes([2]) + struct.pack(f">{len(value)}q", *value)
+    return struct.pack(">H", len(rest)) + rest
+
+
+class Table:
+    """Values that are kept as a sheet, and what each call on them has to give."""
+
+    def __init__(self, name, values):
+        self.name, self.values = name, values
+        entries = b"".join(map(sheet_entry, values))
+        self.sheet = struct.pack(">BH", 1, len(entries)) + entries
+
+    def lines(self):
+        yield f"work {self.name}"
+        yield from map(value_line, self.values)
+        yield f"record {self.sheet.hex()}"
+
+    def expected(self, call):
+        if call == "sheet-write":
+            return self.sheet.hex()
+        shown = ("not set" if value is None else value if isinstance(value, str) else ",".join(map(str, value))
+                 for value in self.values)
+        return "".join(text + "," for text in shown)
+
+
+def tables():
+    dice = random.Random(419)
+    letters = "".join(dice.choice("abcdefghijklmnopqrstuvwxyz") for _ in range(60000))
+    return [
+        Table("t8", ["00417042", "Ada Lind", [417], None, [1234567], [61, 0, 88, -7, 100, 3], "110110101100", "0badcafe"]),
+        Table("t60000", [letters]),
+    ]
 
 
 def crowd_sum(records):

@@ -1,0 +1,174 @@
+/* The calls of our library and of the twin, made once, timed and shown; and memcpy beside them. */
+#include "peers.h"
+
+#ifndef NO_TWIN
+pack_call twin_pack;
+read_call twin_read;
+sheet_write_call twin_sheet_write;
+sheet_read_call twin_sheet_read;
+#endif
+
+const struct library libraries[] = {
+    {"ours", curlew_pack, curlew_read, curlew_sheet_write, curlew_sheet_read},
+#ifndef NO_TWIN
+    {"twin", twin_pack, twin_read, twin_sheet_write, twin_sheet_read},
+#endif
+    {NULL, NULL, NULL, NULL, NULL},
+};
+
+const struct library *find_library(const char *name)
+{
+    size_t i;
+
+    for (i = 0; libraries[i].name != NULL; i++)
+        if (strcmp(libraries[i].name, name) == 0)
+            return &libraries[i];
+    return NULL;
+}
+
+uint64_t time_calls(once_call *once, const struct library *lib, const struct work *w, unsigned long n)
+{
+    uint32_t numbers = 0;
+    uint64_t start = used_time();
+    unsigned long i;
+
+    for (i = 0; i < n; i++)
+        numbers |= once(lib, w);
+    start = used_time() - start;
+    if (numbers != CURLEW_OK)
+        stop("a call was refused");
+    return start;
+}
+
+static void make(once_call *once, const struct library *lib, const struct work *w)
+{
+    if (once(lib, w) != CURLEW_OK)
+        stop("a call was refused");
+}
+
+/* What the calls write. */
+static struct {
+    uint8_t slots[CURLEW_MAX_SLOTS * CURLEW_SLOT_SIZE];
+    uint8_t before_area[PAGE / 2] AT_PAGE;
+    uint8_t area[CURLEW_MAX_AREA];
+} table;
+static struct {
+    uint8_t before_bytes[PAGE / 2] AT_PAGE;
+    uint8_t bytes[CURLEW_MAX_SHEET];
+} out;
+static uint8_t packed[CURLEW_PACK_REPLY], reply[CURLEW_READ_REPLY], sheet_reply[CURLEW_SHEET_REPLY];
+
+static void show_bytes(const uint8_t *bytes, size_t length)
+{
+    size_t i;
+
+    for (i = 0; i < length; i++)
+        printf("%02x", (unsigned)bytes[i]);
+}
+
+static void show_value(struct curlew_slot slot)
+{
+    size_t i;
+
+    if (slot.kind == CURLEW_UNSET)
+        printf("not set,");
+    else if (slot.kind == CURLEW_STRING)
+        printf("%.*s,", (int)slot.length, (const char *)table.area + slot.start);
+    else
+        for (i = 0; i < slot.length; i++)
+            printf("%lld,", (long long)curlew_get_int(table.area + slot.start + i * CURLEW_ITEM_SIZE));
+}
+
+static void show_table(size_t count)
+{
+    size_t i;
+
+    for (i = 0; i < count; i++)
+        show_value(curlew_get_slot(table.slots, i));
+}
+
+/* ---- records ---- */
+
+static uint32_t pack_once(const struct library *lib, const struct work *w)
+{
+    return lib->pack((const uint8_t *)w->pack_layout.text, w->pack_layout.length, w->slots,
+                     w->count * CURLEW_SLOT_SIZE, w->area, w->used, out.bytes, CURLEW_MAX_RECORD,
+                     packed, sizeof packed);
+}
+
+static uint32_t read_once(const struct library *lib, const struct work *w)
+{
+    return lib->read((const uint8_t *)w->read_layout.text, w->read_layout.length, w->record, w->record_len,
+                     table.slots, w->count * CURLEW_SLOT_SIZE, table.area, sizeof table.area, 0,
+                     reply, sizeof reply);
+}
+
+static void show_pack(const struct library *lib, const struct work *w)
+{
+    make(pack_once, lib, w);
+    show_bytes(out.bytes, curlew_get_answer(packed).first);
+}
+
+static void show_read(const struct library *lib, const struct work *w)
+{
+    memset(table.slots, 0, sizeof table.slots);
+    make(read_once, lib, w);
+    show_table(w->count);
+}
+
+/* ---- sheets ---- */
+
+static uint32_t sheet_write_once(const struct library *lib, const struct work *w)
+{
+    return lib->sheet_write(w->slots, w->count * CURLEW_SLOT_SIZE, w->area, w->used,
+                            out.bytes, sizeof out.bytes, sheet_reply, sizeof sheet_reply);
+}
+
+static uint32_t sheet_read_once(const struct library *lib, const struct work *w)
+{
+    return lib->sheet_read(w->record, w->record_len, table.slots, w->count * CURLEW_SLOT_SIZE,
+                           table.area, sizeof table.area, 0, sheet_reply, sizeof sheet_reply);
+}
+
+static void show_sheet_write(const struct library *lib, const struct work *w)
+{
+    make(sheet_write_once, lib, w);
+    show_bytes(out.bytes, curlew_get_answer(sheet_reply).first);
+}
+
+/* The slots begin with bytes that mean nothing, so an entry that is not set has to clear its slot. */
+static void show_sheet_read(const struct library *lib, const struct work *w)
+{
+    memset(table.slots, 255, sizeof table.slots);
+    make(sheet_read_once, lib, w);
+    show_table(w->count);
+}
+
+/* ---- memcpy, of as many bytes as the record or the sheet has ---- */
+
+uint32_t copy_once(const struct library *lib, const struct work *w)
+{
+    static void *(*volatile copy)(void *, const void *, size_t) = memcpy;
+
+    (void)lib;
+    copy(out.bytes, w->record, w->record_len);
+    return CURLEW_OK;
+}
+
+static const struct library_call library_calls[] = {
+    {"pack", pack_once, show_pack, 1},
+    {"read", read_once, show_read, 0},
+    {"sheet-write", sheet_write_once, show_sheet_write, 1},
+    {"sheet-read", sheet_read_once, show_sheet_read, 0},
+};
+
+const struct library_call *find_call(const char *name)
+{
+    size_t i;
+
+    for (i = 0; i < sizeof library_calls / sizeof library_calls[0]; i++)
+        if (strcmp(library_calls[i].name, name) == 0)
+            return &library_calls[i];
+    stop("unknown call");
+    return NULL;
+}
