@@ -1,4 +1,4 @@
-/* The calls of our library and of the twin, made once, timed and shown; and memcpy beside them. */
+/* The calls of our library and of the twin, made once, timed and shown; and memcpy and memcmp beside them. */
 #include "peers.h"
 
 #ifndef NO_TWIN
@@ -6,14 +6,15 @@ pack_call twin_pack;
 read_call twin_read;
 sheet_write_call twin_sheet_write;
 sheet_read_call twin_sheet_read;
+compare_call twin_compare;
 #endif
 
 const struct library libraries[] = {
-    {"ours", curlew_pack, curlew_read, curlew_sheet_write, curlew_sheet_read},
+    {"ours", curlew_pack, curlew_read, curlew_sheet_write, curlew_sheet_read, curlew_compare},
 #ifndef NO_TWIN
-    {"twin", twin_pack, twin_read, twin_sheet_write, twin_sheet_read},
+    {"twin", twin_pack, twin_read, twin_sheet_write, twin_sheet_read, twin_compare},
 #endif
-    {NULL, NULL, NULL, NULL, NULL},
+    {NULL, NULL, NULL, NULL, NULL, NULL},
 };
 
 const struct library *find_library(const char *name)
@@ -47,16 +48,19 @@ static void make(once_call *once, const struct library *lib, const struct work *
 }
 
 /* What the calls write. */
-static struct {
+struct table {
     uint8_t slots[CURLEW_MAX_SLOTS * CURLEW_SLOT_SIZE];
     uint8_t before_area[PAGE / 2] AT_PAGE;
     uint8_t area[CURLEW_MAX_AREA];
-} table;
+};
+
+static struct table table, second_table;
 static struct {
     uint8_t before_bytes[PAGE / 2] AT_PAGE;
     uint8_t bytes[CURLEW_MAX_SHEET];
 } out;
 static uint8_t packed[CURLEW_PACK_REPLY], reply[CURLEW_READ_REPLY], sheet_reply[CURLEW_SHEET_REPLY];
+static uint8_t report[CURLEW_MAX_SLOTS * CURLEW_FINDING_SIZE], compare_reply[CURLEW_COMPARE_REPLY];
 
 static void show_bytes(const uint8_t *bytes, size_t length)
 {
@@ -96,11 +100,16 @@ static uint32_t pack_once(const struct library *lib, const struct work *w)
                      packed, sizeof packed);
 }
 
+static uint32_t read_into(struct table *t, const struct library *lib, const struct work *w,
+                          const uint8_t *record, size_t record_len)
+{
+    return lib->read((const uint8_t *)w->read_layout.text, w->read_layout.length, record, record_len,
+                     t->slots, w->count * CURLEW_SLOT_SIZE, t->area, sizeof t->area, 0, reply, sizeof reply);
+}
+
 static uint32_t read_once(const struct library *lib, const struct work *w)
 {
-    return lib->read((const uint8_t *)w->read_layout.text, w->read_layout.length, w->record, w->record_len,
-                     table.slots, w->count * CURLEW_SLOT_SIZE, table.area, sizeof table.area, 0,
-                     reply, sizeof reply);
+    return read_into(&table, lib, w, w->record, w->record_len);
 }
 
 static void show_pack(const struct library *lib, const struct work *w)
@@ -144,6 +153,52 @@ static void show_sheet_read(const struct library *lib, const struct work *w)
     show_table(w->count);
 }
 
+/* ---- two copies of a record ---- */
+
+static uint32_t compare_once(const struct library *lib, const struct work *w)
+{
+    return lib->compare((const uint8_t *)w->read_layout.text, w->read_layout.length,
+                        w->record, w->record_len, w->second, w->second_len,
+                        table.slots, w->count * CURLEW_SLOT_SIZE, table.area, sizeof table.area,
+                        second_table.slots, w->count * CURLEW_SLOT_SIZE, second_table.area, sizeof second_table.area,
+                        report, w->count * CURLEW_FINDING_SIZE, compare_reply, sizeof compare_reply);
+}
+
+static void show_finding(struct curlew_finding finding)
+{
+    printf("%u %u %u,", (unsigned)finding.verdict, (unsigned)finding.place, (unsigned)finding.bits);
+}
+
+static void show_compare(const struct library *lib, const struct work *w)
+{
+    size_t i;
+
+    memset(report, 255, sizeof report);
+    make(compare_once, lib, w);
+    for (i = 0; i < w->count; i++)
+        show_finding(curlew_get_finding(report, i));
+}
+
+/* Two readings, and memcmp of the values: enough to know that two copies are equal, but not what differs. */
+uint32_t memcmp_once(const struct library *lib, const struct work *w)
+{
+    static int (*volatile differ)(const void *, const void *, size_t) = memcmp;
+    uint32_t refused = read_into(&table, lib, w, w->record, w->record_len)
+        | read_into(&second_table, lib, w, w->second, w->second_len);
+
+    return refused | (differ(table.area, second_table.area, curlew_get_answer(reply).second) != 0);
+}
+
+void show_memcmp(const struct work *w)
+{
+    static const struct curlew_finding same = {CURLEW_SAME, 0, 0};
+    size_t i;
+
+    make(memcmp_once, &libraries[0], w);
+    for (i = 0; i < w->count; i++)
+        show_finding(same);
+}
+
 /* ---- memcpy, of as many bytes as the record or the sheet has ---- */
 
 uint32_t copy_once(const struct library *lib, const struct work *w)
@@ -160,6 +215,7 @@ static const struct library_call library_calls[] = {
     {"read", read_once, show_read, 0},
     {"sheet-write", sheet_write_once, show_sheet_write, 1},
     {"sheet-read", sheet_read_once, show_sheet_read, 0},
+    {"compare", compare_once, show_compare, 0},
 };
 
 const struct library_call *find_call(const char *name)

@@ -11,7 +11,8 @@ import subprocess
 import sys
 from statistics import median
 
-from workloads import BYTE_COUNTS, CALLS, FIELD_COUNTS, SHEET_CALLS, crowd_sum, main_workloads, tables, workloads
+from workloads import (BYTE_COUNTS, CALLS, FIELD_COUNTS, PAIR_CALLS, SHEET_CALLS, crowd_sum, main_workloads, pairs,
+                       tables, workloads)
 
 ROUNDS = int(os.environ.get("BENCH_ROUNDS", "15"))
 SLICE = int(float(os.environ.get("BENCH_MILLISECONDS", "3")) * 1e6)
@@ -19,10 +20,12 @@ CROWD = int(os.environ.get("BENCH_RECORDS", "1000000"))
 CROWD_ROUNDS = 3
 NAMES = {"ours": "ours", "twin": "Rust twin", "tcl": "Tcl", "perl": "Perl", "python": "Python"}
 TITLES = {"w1": "w1 small mark record", "w2": "w2 strip of digits", "w3": "w3 s2000", "w4": "w4 a4096",
-          "w5": "w5 64 fields of c", "t8": "table of 8 slots", "t60000": "value of 60,000 bytes"}
+          "w5": "w5 64 fields of c", "t8": "table of 8 slots", "t60000": "value of 60,000 bytes",
+          "same-w1": "w1 twice", "other-a4096": "a4096, one byte differs", "same-a4096": "a4096 twice"}
 LIBRARIES = ("ours", "twin")
 TWIN_GOAL = 1.5
 COPY_GOAL = 2.0
+MEMCMP_GOAL = 4.0
 
 
 def tcl_goal(name, call):
@@ -63,10 +66,18 @@ def start_peers(program):
         for work in workloads():
             for line in work.lines():
                 process.tell(line)
-    for table in tables():
-        for line in table.lines():
+    for work, _, _ in library_cases():
+        for line in work.lines():
             native.tell(line)
     return serving
+
+
+def library_cases():
+    """Workloads that only libraries with our interface know, with their calls and with the peer beside them."""
+    for table in tables():
+        yield table, SHEET_CALLS, "memcpy"
+    for pair in pairs():
+        yield pair, PAIR_CALLS, "memcmp" if pair.name == "same-a4096" else None
 
 
 def cases(peers):
@@ -76,11 +87,11 @@ def cases(peers):
             for peer in peers:
                 if peer in NAMES or (peer, work.name) == ("memcpy", "w4"):
                     yield peer, work.name, call
-    for table in tables():
-        for call in SHEET_CALLS:
+    for work, calls, beside in library_cases():
+        for call in calls:
             for peer in peers:
-                if peer in LIBRARIES or peer == "memcpy":
-                    yield peer, table.name, call
+                if peer in LIBRARIES or peer == beside:
+                    yield peer, work.name, call
 
 
 def check_same(serving):
@@ -91,16 +102,16 @@ def check_same(serving):
             for peer, process in serving.items():
                 if peer in NAMES and process.ask(f"show {peer} {work.name} {call}") != expected:
                     sys.exit(f"{NAMES[peer]} and ours differ on {work.name} {call}")
-    for table in tables():
-        for call in SHEET_CALLS:
-            check_libraries(serving, table.name, call, table.expected(call))
+    for work, calls, beside in library_cases():
+        for call in calls:
+            for peer in (*LIBRARIES, beside):
+                if peer in serving and peer != "memcpy":
+                    check_result(serving, peer, work.name, call, work.expected(call))
 
 
-def check_libraries(serving, name, call, expected):
-    """Ours and the twin give what is expected."""
-    for peer in LIBRARIES:
-        if peer in serving and serving[peer].ask(f"show {peer} {name} {call}") != expected:
-            sys.exit(f"{NAMES[peer]}: wrong result of {name} {call}")
+def check_result(serving, peer, name, call, expected):
+    if serving[peer].ask(f"show {peer} {name} {call}") != expected:
+        sys.exit(f"{NAMES.get(peer, peer)} gives a wrong result on {name} {call}")
 
 
 def calls_per_slice(serving, case):
@@ -191,7 +202,18 @@ def print_sheets(times):
     for table in tables():
         for call in SHEET_CALLS:
             print_beside(times, "memcpy", table.name, call, 1 / COPY_GOAL if table.name == "t60000" else None)
-    print(f"Goals: our time at most {TWIN_GOAL} times the twin's, and at most {COPY_GOAL:.0f} times memcpy's for the long value.")
+    print(f"Goals: our time at most {TWIN_GOAL} times the twin's, and at most {COPY_GOAL:.0f} times memcpy's for the"
+          " long value.")
+
+
+def print_pairs(times):
+    print("\nTwo copies of a record compared, beside the twin and beside two of our readings and memcmp. Time over ours.")
+    print(f"{'copies':28} {'call':11} {'ours ns':>9} {'Rust twin':>10} {'goal':>14} {'memcmp':>10} {'goal':>14}")
+    for pair in pairs():
+        for call in PAIR_CALLS:
+            print_beside(times, "memcmp", pair.name, call, 1 / MEMCMP_GOAL)
+    print(f"Goals: our time at most {TWIN_GOAL} times the twin's, and at most {MEMCMP_GOAL:.0f} times that of memcmp"
+          " and two readings.")
 
 
 def print_growth(times, peers, letter, sizes, what):
@@ -236,6 +258,7 @@ def main():
         process.close()
     print_main(times)
     print_sheets(times)
+    print_pairs(times)
     print_growth(times, peers, "f", FIELD_COUNTS, "Growth by fields: 1 to 64 fields of c")
     print_growth(times, peers, "b", BYTE_COUNTS, "Growth by bytes: one field of s, 16 to 4,096 bytes of record")
     print_crowd(rates)

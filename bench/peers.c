@@ -1,8 +1,9 @@
 /*
- * The C side of the benchmark: our library, the Rust twin, Tcl's commands, and memcpy. Takes orders line by line on
- * its input and answers each `time`, `show`, `crowd` and `peers` by one line:
+ * The C side of the benchmark: our library, the Rust twin, Tcl's commands, memcpy and memcmp. Takes orders line by
+ * line on its input and answers each `time`, `show`, `crowd` and `peers` by one line:
  *
- *   work NAME, pack LAYOUT, read LAYOUT, text STRING, list NUMBERS, unset, record HEX    describe a workload
+ *   work NAME, pack LAYOUT, read LAYOUT, text STRING, list NUMBERS, unset, record HEX, second HEX
+ *                                 describe a workload
  *   end                           it is one for Tcl too
  *   peers                         which peers this program has
  *   time PEER NAME CALL N         nanoseconds of processor time of N calls
@@ -143,6 +144,8 @@ static uint64_t time_peer(const char *peer, struct work *w, const struct library
         return time_calls(call->once, lib, w, n);
     if (strcmp(peer, "memcpy") == 0)
         return time_calls(copy_once, NULL, w, n);
+    if (strcmp(peer, "memcmp") == 0)
+        return time_calls(memcmp_once, &libraries[0], w, n);
 #ifndef NO_TCL
     if (strcmp(peer, "tcl") == 0)
         return call->packs ? tcl_time_pack(w, n) : tcl_time_read(w, n);
@@ -167,6 +170,8 @@ static void show_peer(const char *peer, struct work *w, const struct library_cal
 
     if (lib != NULL)
         call->show(lib, w);
+    else if (strcmp(peer, "memcmp") == 0)
+        show_memcmp(w);
 #ifndef NO_TCL
     else if (call->packs)
         tcl_show_pack(w);
@@ -211,7 +216,7 @@ static void order_peers(void)
 #ifndef NO_TCL
     printf("tcl ");
 #endif
-    printf("memcpy\n");
+    printf("memcpy memcmp\n");
 }
 
 static void obey(const char *order, char *rest)
@@ -230,6 +235,8 @@ static void obey(const char *order, char *rest)
         add_unset(last_work());
     else if (strcmp(order, "record") == 0)
         last_work()->record_len = put_hex(last_work()->record, rest);
+    else if (strcmp(order, "second") == 0)
+        last_work()->second_len = put_hex(last_work()->second, rest);
     else if (strcmp(order, "end") == 0)
         end_work();
     else if (strcmp(order, "time") == 0)

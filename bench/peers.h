@@ -17,6 +17,9 @@ typedef uint32_t sheet_write_call(const uint8_t *, size_t, const uint8_t *, size
                                   uint8_t *, size_t);
 typedef uint32_t sheet_read_call(const uint8_t *, size_t, uint8_t *, size_t, uint8_t *, size_t, size_t,
                                  uint8_t *, size_t);
+typedef uint32_t compare_call(const uint8_t *, size_t, const uint8_t *, size_t, const uint8_t *, size_t,
+                              uint8_t *, size_t, uint8_t *, size_t, uint8_t *, size_t, uint8_t *, size_t,
+                              uint8_t *, size_t, uint8_t *, size_t);
 
 /* Calls with the same interface: ours, or the twin's. */
 struct library {
@@ -25,6 +28,7 @@ struct library {
     read_call *read;
     sheet_write_call *sheet_write;
     sheet_read_call *sheet_read;
+    compare_call *compare;
 };
 
 /*
@@ -39,7 +43,10 @@ struct layout {
     size_t length;
 };
 
-/* One workload: what is packed, by which layout; which record is read, by which layout. Or a table and its sheet. */
+/*
+ * One workload: what is packed, by which layout; which record is read, by which layout, and compared with which other
+ * copy of it. Or a table and its sheet.
+ */
 struct work {
     char name[32];
     struct layout pack_layout;
@@ -50,6 +57,8 @@ struct work {
     size_t used;
     uint8_t record[CURLEW_MAX_SHEET] AT_PAGE;
     size_t record_len;
+    uint8_t second[CURLEW_MAX_RECORD] AT_PAGE;
+    size_t second_len;
     void *tcl;
 };
 
@@ -69,6 +78,8 @@ extern const struct library libraries[];
 const struct library *find_library(const char *name);
 const struct library_call *find_call(const char *name);
 once_call copy_once;
+once_call memcmp_once;
+void show_memcmp(const struct work *w);
 uint64_t time_calls(once_call *once, const struct library *lib, const struct work *w, unsigned long n);
 
 /* A million candidates: one layout, records of one length, side by side in one run. */

@@ -1,5 +1,5 @@
-"""The workloads: what is packed and read, for ours and Tcl by `pack` and `read`, for Perl by templates of its own; and
-the tables that are written and read as sheets."""
+"""The workloads: what is packed and read, for ours and Tcl by `pack` and `read`, for Perl by templates of its own;
+the tables that are written and read as sheets; and the copies of a record that are compared."""
 import random
 import struct
 
@@ -7,6 +7,7 @@ FIELD_COUNTS = (1, 2, 4, 8, 16, 32, 64)
 BYTE_COUNTS = (16, 64, 256, 1024, 4096)
 CALLS = ("pack", "read")
 SHEET_CALLS = ("sheet-write", "sheet-read")
+PAIR_CALLS = ("compare",)
 
 
 def value_line(value):
@@ -120,8 +121,40 @@ def tables():
     dice = random.Random(419)
     letters = "".join(dice.choice("abcdefghijklmnopqrstuvwxyz") for _ in range(60000))
     return [
-        Table("t8", ["00417042", "Ada Lind", [417], None, [1234567], [61, 0, 88, -7, 100, 3], "110110101100", "0badcafe"]),
+        Table("t8", ["00417042", "Ada Lind", [417], None, [1234567], [61, 0, 88, -7, 100, 3], "110110101100",
+                     "0badcafe"]),
         Table("t60000", [letters]),
+    ]
+
+
+class Pair:
+    """Two copies of a record, and what comparing them has to find for each field: verdict, place and bits."""
+
+    def __init__(self, name, layout, first, second, findings):
+        self.name, self.layout, self.first, self.second, self.findings = name, layout, first, second, findings
+
+    def lines(self):
+        yield f"work {self.name}"
+        yield f"read {self.layout}"
+        yield from ["unset"] * len(self.findings)
+        yield f"record {self.first.hex()}"
+        yield f"second {self.second.hex()}"
+
+    def expected(self, _):
+        return "".join(f"{verdict} {place} {bits}," for verdict, place, bits in self.findings)
+
+
+def pairs():
+    works = {work.name: work for work in main_workloads()}
+    small, large = works["w1"], works["w4"]
+    place = len(large.record) // 2
+    changed = bytearray(large.record)
+    changed[place] ^= 1
+    same = (0, 0, 0)
+    return [
+        Pair("same-w1", small.read, small.record, small.record, [same] * len(small.values)),
+        Pair("other-a4096", large.read, large.record, bytes(changed), [(4, place, 1)]),
+        Pair("same-a4096", large.read, large.record, large.record, [same]),
     ]
 
 
