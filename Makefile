@@ -1,6 +1,6 @@
 # make demo      builds the proved library and runs the exam-server example
 # make test      proves everything from nothing and runs all tests; the last line is 'N passed, 0 failed'
-# make bench     compares the speed with Tcl, Perl, Python and an unproved twin, and draws docs/bench.svg
+# make bench     compares the speed with Tcl, Perl, Python and an unproved twin, and draws docs/bench.svg and docs/strips.svg
 # make install   installs header, archive and pkg-config file under PREFIX
 
 PREFIX ?= /usr/local

@@ -11,16 +11,17 @@ import subprocess
 import sys
 from statistics import median
 
-from workloads import (BYTE_COUNTS, CALLS, FIELD_COUNTS, PAIR_CALLS, SHEET_CALLS, crowd_sum, main_workloads, pairs,
-                       tables, workloads)
+from workloads import (BYTE_COUNTS, CALLS, DIGIT_COUNTS, FIELD_COUNTS, PAIR_CALLS, SHEET_CALLS, crowd_sum,
+                       main_workloads, pairs, step_bound, tables, workloads)
 
 ROUNDS = int(os.environ.get("BENCH_ROUNDS", "15"))
 SLICE = int(float(os.environ.get("BENCH_MILLISECONDS", "3")) * 1e6)
 CROWD = int(os.environ.get("BENCH_RECORDS", "1000000"))
 CROWD_ROUNDS = 3
 NAMES = {"ours": "ours", "twin": "Rust twin", "tcl": "Tcl", "perl": "Perl", "python": "Python"}
-TITLES = {"w1": "w1 small mark record", "w2": "w2 strip of digits", "w3": "w3 s2000", "w4": "w4 a4096",
-          "w5": "w5 64 fields of c", "t8": "table of 8 slots", "t60000": "value of 60,000 bytes",
+TITLES = {"w1": "w1 small mark record", "w2": "w2 b4096; b*, 4096 bytes", "w3": "w3 s2000", "w4": "w4 a4096",
+          "w5": "w5 64 fields of c", "b4096": "b4096, 512 bytes",
+          "t8": "table of 8 slots", "t60000": "value of 60,000 bytes",
           "same-w1": "w1 twice", "other-a4096": "a4096, one byte differs", "same-a4096": "a4096 twice"}
 LIBRARIES = ("ours", "twin")
 TWIN_GOAL = 1.5
@@ -28,8 +29,28 @@ COPY_GOAL = 2.0
 MEMCMP_GOAL = 4.0
 
 
+STRIPS = ("w2", "b4096")
+STRIP_TWIN_GOAL = 1.2
+STRIP_TCL_GOAL = 8.0
+
+
 def tcl_goal(name, call):
+    if name in STRIPS:
+        return STRIP_TCL_GOAL
     return {("w1", "pack"): 2.0, ("w1", "read"): 4.0, ("w5", "pack"): 1.3}.get((name, call), 3.0)
+
+
+def twin_goal(name):
+    return STRIP_TWIN_GOAL if name in STRIPS else TWIN_GOAL
+
+
+def main_rows():
+    """The calls in the main table. Of b4096, w2 has the packing already."""
+    for work in main_workloads():
+        for call in CALLS:
+            yield work.name, call
+        if work.name == "w2":
+            yield "b4096", "read"
 
 
 class Process:
@@ -172,21 +193,19 @@ def goal_text(value, goal):
 
 def print_main(times):
     print("\nOne call. Each peer's time over ours: above 1, ours is quicker. Medians of the ratios of", ROUNDS, "rounds.")
-    print(f"{'workload':22} {'call':5} {'ours ns':>9} {'Tcl':>9} {'goal':>13} {'Rust twin':>10} {'goal':>14}"
+    print(f"{'workload':26} {'call':5} {'ours ns':>9} {'Tcl':>9} {'goal':>13} {'Rust twin':>10} {'goal':>14}"
           f" {'Perl':>9} {'Python':>9}")
-    for work in main_workloads():
-        for call in CALLS:
-            tcl, twin = (ratio(times, peer, work.name, call) for peer in ("tcl", "twin"))
-            tcl_text, twin_text = goal_text(tcl, tcl_goal(work.name, call)), goal_text(twin, 1 / TWIN_GOAL)
-            print(f"{TITLES[work.name]:22} {call:5} {median(times['ours', work.name, call]):9.0f} {text(tcl):>9}"
-                  f" {tcl_text:>13} {text(twin):>10} {twin_text:>14}"
-                  f" {text(ratio(times, 'perl', work.name, call)):>9}"
-                  f" {text(ratio(times, 'python', work.name, call)):>9}")
+    for name, call in main_rows():
+        tcl, twin, perl, python = (ratio(times, peer, name, call) for peer in ("tcl", "twin", "perl", "python"))
+        print(f"{TITLES[name]:26} {call:5} {median(times['ours', name, call]):9.0f}"
+              f" {text(tcl):>9} {goal_text(tcl, tcl_goal(name, call)):>13}"
+              f" {text(twin):>10} {goal_text(twin, 1 / twin_goal(name)):>14} {text(perl):>9} {text(python):>9}")
     for call in CALLS:
         print(f"memcpy of the 4,096 bytes of w4 beside {call}: {text(ratio(times, 'memcpy', 'w4', call))} of our time")
-    print("Goals: Tcl's time at least 2 times ours for w1 pack, 4 times for w1 read, 1.3 times for w5 pack, 3 times for")
-    print("the others; our time at most 1.5 times the twin's (the twin's at least 0.67 of ours).")
-    print("Python's struct has no digit fields: w1 and w2 add the usual conversions by int, format and fromhex.")
+    print("Goals: Tcl's time at least 2 times ours for w1 pack, 4 times for w1 read, 1.3 times for w5 pack, 8 times for")
+    print("strips of digits, 3 times for the others; our time at most 1.5 times the twin's, 1.2 times for strips (the")
+    print("twin's at least 0.67 of ours, 0.83 for strips).")
+    print("Python's struct has no digit fields: w1, w2 and b4096 add the usual conversions by int, format and fromhex.")
 
 
 def print_beside(times, peer, name, call, goal=None):
@@ -216,11 +235,13 @@ def print_pairs(times):
           " and two readings.")
 
 
-def print_growth(times, peers, letter, sizes, what):
+def print_growth(times, peers, letter, sizes, what, bound=None):
     print(f"\n{what}, nanoseconds a call (medians)")
-    print(f"{'':>8}" + "".join(f" {NAMES[peer] + ' ' + call:>15}" for peer in peers for call in CALLS))
+    print(f"{'':>8}" + "".join(f" {NAMES[peer] + ' ' + call:>15}" for peer in peers for call in CALLS)
+          + (f" {'steps at most':>15}" if bound else ""))
     for size in sizes:
-        row = (median(times[peer, f"{letter}{size}", call]) for peer in peers for call in CALLS)
+        row = [median(times[peer, f"{letter}{size}", call]) for peer in peers for call in CALLS]
+        row += [bound(size)] if bound else []
         print(f"{size:8}" + "".join(f" {value:15.0f}" for value in row))
 
 
@@ -236,12 +257,13 @@ def results(times, rates, peers):
     """What the plot needs."""
     return {
         "peers": [[peer, NAMES[peer]] for peer in peers],
-        "ratios": [{"name": f"{work.name} {call}", "goal": tcl_goal(work.name, call),
-                    **{peer: ratio(times, peer, work.name, call) for peer in peers}}
-                   for work in main_workloads() for call in CALLS],
+        "ratios": [{"name": f"{name} {call}", "goal": tcl_goal(name, call),
+                    **{peer: ratio(times, peer, name, call) for peer in peers}}
+                   for name, call in main_rows()],
         "growth": {letter: {f"{peer} {call}": [[size, median(times[peer, f"{letter}{size}", call])] for size in sizes]
                             for peer in peers for call in CALLS}
-                   for letter, sizes in (("f", FIELD_COUNTS), ("b", BYTE_COUNTS))},
+                   for letter, sizes in (("f", FIELD_COUNTS), ("s", BYTE_COUNTS), ("b", DIGIT_COUNTS))},
+        "bound": [[count, step_bound(count)] for count in DIGIT_COUNTS],
         "crowd": [[peer, threads, *both] for (peer, threads), both in rates.items()],
     }
 
@@ -260,7 +282,8 @@ def main():
     print_sheets(times)
     print_pairs(times)
     print_growth(times, peers, "f", FIELD_COUNTS, "Growth by fields: 1 to 64 fields of c")
-    print_growth(times, peers, "b", BYTE_COUNTS, "Growth by bytes: one field of s, 16 to 4,096 bytes of record")
+    print_growth(times, peers, "s", BYTE_COUNTS, "Growth by bytes: one field of s, 16 to 4,096 bytes of record")
+    print_growth(times, peers, "b", DIGIT_COUNTS, "Growth by digits: one field of b, 8 to 4,096 digits", step_bound)
     print_crowd(rates)
     with open(kept, "w", encoding="utf-8") as file:
         json.dump(results(times, rates, peers), file, indent=1)

@@ -20,7 +20,8 @@ def mark_record_calls(work):
 
 def digit_calls(work):
     strip, record = work.values[0], work.record
-    return lambda: pack_digits(strip, 512), lambda: (read_digits(record, 32768),)
+    size, count = len(strip) // 8, 8 * len(record)
+    return lambda: pack_digits(strip, size), lambda: (read_digits(record, count),)
 
 
 def plain_calls(work):
@@ -29,7 +30,8 @@ def plain_calls(work):
 
 
 def calls_of(work):
-    pack, read = {"w1": mark_record_calls, "w2": digit_calls}.get(work.name, plain_calls)(work)
+    calls = plain_calls if work.plain else mark_record_calls if work.name == "w1" else digit_calls
+    pack, read = calls(work)
     return {"pack": pack, "read": read}
 
 

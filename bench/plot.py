@@ -1,18 +1,19 @@
-"""Draws the plot of the benchmark: plot.py results.json plot.svg"""
+"""Draws the plots of the benchmark: plot.py results.json plot.svg strips.svg"""
 import json
 import sys
 from math import ceil, floor, log10
 
-WIDTH, HEIGHT = 1120, 860
-COLOURS = {"ours": "#009e73", "twin": "#e69f00", "tcl": "#0072b2", "perl": "#cc79a7", "python": "#8c8c8c"}
+WIDTH, HEIGHT, STRIPS_HEIGHT = 1120, 860, 470
 INK, FAINT = "#222222", "#dddddd"
+COLOURS = {"ours": "#009e73", "twin": "#e69f00", "tcl": "#0072b2", "perl": "#cc79a7", "python": "#8c8c8c", "steps": INK}
+DASHES = {"pack": "", "read": "6 4", "bound": "2 3"}
 
 
 class Canvas:
-    def __init__(self):
-        self.parts = [f'<svg xmlns="http://www.w3.org/2000/svg" viewBox="0 0 {WIDTH} {HEIGHT}" width="{WIDTH}"'
-                      f' height="{HEIGHT}" font-family="sans-serif" font-size="13">',
-                      f'<rect width="{WIDTH}" height="{HEIGHT}" fill="white"/>']
+    def __init__(self, width, height):
+        self.parts = [f'<svg xmlns="http://www.w3.org/2000/svg" viewBox="0 0 {width} {height}" width="{width}"'
+                      f' height="{height}" font-family="sans-serif" font-size="13">',
+                      f'<rect width="{width}" height="{height}" fill="white"/>']
 
     def text(self, x, y, words, anchor="start", size=13, weight="normal"):
         words = words.replace("&", "&amp;").replace("<", "&lt;")
@@ -93,12 +94,12 @@ def draw_ratios(canvas, peers, ratios, left, top, width, height):
                             scale.at(row["goal"]), INK, 2.5)
 
 
-def draw_growth(canvas, title, lines, left, top, width, height):
+def draw_growth(canvas, title, lines, left, top, width, height, unit="ns a call; solid: pack, dashed: read"):
     places = [x for points in lines.values() for x, _ in points]
     across = LogScale(min(places), max(places), left, left + width)
     up = LogScale(*decades(y for points in lines.values() for _, y in points), top + height, top)
     canvas.text(left, top - 30, title, size=15, weight="bold")
-    canvas.text(left, top - 12, "ns a call; solid: pack, dashed: read", size=12)
+    canvas.text(left, top - 12, unit, size=12)
     for tick in up.ticks():
         canvas.line(left, up.at(tick), left + width, up.at(tick), FAINT)
         canvas.text(left - 6, up.at(tick) + 4, short(tick), "end", 12)
@@ -107,7 +108,7 @@ def draw_growth(canvas, title, lines, left, top, width, height):
         canvas.text(across.at(x), top + height + 20, short(x), "middle", 12)
     for name, points in lines.items():
         peer, call = name.split()
-        canvas.path([(across.at(x), up.at(y)) for x, y in points], COLOURS[peer], "" if call == "pack" else "6 4")
+        canvas.path([(across.at(x), up.at(y)) for x, y in points], COLOURS[peer], DASHES[call])
 
 
 def draw_crowd(canvas, names, crowd, left, top, width, height):
@@ -125,17 +126,34 @@ def draw_crowd(canvas, names, crowd, left, top, width, height):
     canvas.line(left, top, left, top + height)
 
 
-def main():
-    kept, target = sys.argv[1:]
-    with open(kept, encoding="utf-8") as file:
-        results = json.load(file)
-    canvas = Canvas()
+def draw_main(results):
+    canvas = Canvas(WIDTH, HEIGHT)
     draw_legend(canvas, results["peers"], 28)
     draw_ratios(canvas, results["peers"], results["ratios"], 70, 72, 1020, 330)
     draw_growth(canvas, "Growth by fields of c", results["growth"]["f"], 70, 510, 270, 300)
-    draw_growth(canvas, "Growth by bytes of an s field", results["growth"]["b"], 430, 510, 270, 300)
+    draw_growth(canvas, "Growth by bytes of an s field", results["growth"]["s"], 430, 510, 270, 300)
     draw_crowd(canvas, dict(results["peers"]), results["crowd"], 850, 510, 250, 300)
-    canvas.save(target)
+    return canvas
+
+
+def draw_strips(results):
+    canvas = Canvas(WIDTH, STRIPS_HEIGHT)
+    times = results["growth"]["b"]
+    own = {name: points for name, points in times.items() if name.startswith("ours ")}
+    draw_legend(canvas, results["peers"] + [["steps", "step bound, n/8 + 7"]], 28)
+    draw_growth(canvas, "One field of b, by its n binary digits", times, 70, 100, 450, 320)
+    draw_growth(canvas, "Our time, and the steps that are proved to be enough",
+                {**own, "steps bound": results["bound"]}, 620, 100, 450, 320,
+                "ns a call; solid: pack, dashed: read; dotted: steps at most")
+    return canvas
+
+
+def main():
+    kept, target, strips = sys.argv[1:]
+    with open(kept, encoding="utf-8") as file:
+        results = json.load(file)
+    draw_main(results).save(target)
+    draw_strips(results).save(strips)
 
 
 main()

@@ -5,6 +5,7 @@ import struct
 
 FIELD_COUNTS = (1, 2, 4, 8, 16, 32, 64)
 BYTE_COUNTS = (16, 64, 256, 1024, 4096)
+DIGIT_COUNTS = tuple(2 ** k for k in range(3, 13))
 CALLS = ("pack", "read")
 SHEET_CALLS = ("sheet-write", "sheet-read")
 PAIR_CALLS = ("compare",)
@@ -57,6 +58,11 @@ def pack_digits(digits, size):
     return int(digits[::-1], 2).to_bytes(size, "little")
 
 
+def step_bound(digits):
+    """How many steps storing or reading out this many binary digits takes at most."""
+    return digits // 8 + 7
+
+
 def main_workloads():
     dice = random.Random(417)
     strip = "".join(dice.choice("01") for _ in range(4096))
@@ -78,8 +84,11 @@ def growth_workloads():
         yield Work(f"f{count}", "c" * count, [[dice.randint(-128, 127)] for _ in range(count)], "c" * count, "b" * count)
     for size in BYTE_COUNTS:
         items = size // 2
-        yield Work(f"b{size}", f"s{items}", [[dice.randint(-32768, 32767) for _ in range(items)]],
+        yield Work(f"s{size}", f"s{items}", [[dice.randint(-32768, 32767) for _ in range(items)]],
                    f"s<{items}", f"<{items}h")
+    for count in DIGIT_COUNTS:
+        strip = "".join(dice.choice("01") for _ in range(count))
+        yield Work(f"b{count}", f"b{count}", [strip], f"b{count}", record=pack_digits(strip, count // 8))
 
 
 def workloads():
