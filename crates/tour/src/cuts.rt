@@ -1,6 +1,6 @@
 // Demand 3, run: a record packed by an old layout, and one by a new layout that has fields added at its end; each is cut at every place and read by both layouts.
-use super::print;
-use super::values;
+use tour_text::print;
+use tour_text::values;
 
 // The layout that packs, where its record is cut, and the layout that reads.
 fn told(writer: &[u8], cut: usize, reader: &[u8]) {

@@ -1,24 +1,8 @@
 // Lists of examples, one a line: `p`, a layout, a bar and the arguments to pack; or the number of slots, a layout, a bar and the record to read.
 // A line with no bar is no example.
-ghost use Prim.Native.Nat.{_≤_};
-ghost use lib.ListN.{length};
 use super::packing;
 use super::reading;
-
-// The first place of a byte from a place on, or the text's end.
-fn find(text: &[u8], at: usize, b: u8) -> usize
-    requires { ⌜ at ≤ length (now text) ⌝ }
-    ensures { λ r. ⌜ (at ≤ r) × (r ≤ length (now (text .entry))) ⌝ }
-{
-    let mut i = at;
-    while i < text.len() {
-        if text[i] == b {
-            return i;
-        }
-        i += 1;
-    }
-    i
-}
+use tour_text::lines;
 
 fn example(kind: u8, layout: &[u8], rest: &[u8], record: &mut [u8; 4096]) {
     match kind {
@@ -32,7 +16,7 @@ fn line(text: &[u8], record: &mut [u8; 4096]) {
     if text.len() < 2 {
         return;
     }
-    let bar = find(text, 2, b'|');
+    let bar = lines::find(text, 2, b'|');
     if bar < text.len() {
         let rest = bar + 1;
         example(text[0], &text[2..bar], &text[rest..], record);
@@ -42,7 +26,7 @@ fn line(text: &[u8], record: &mut [u8; 4096]) {
 fn run(list: &[u8], record: &mut [u8; 4096]) {
     let mut at = 0;
     while at < list.len() {
-        let end = find(list, at, b'\n');
+        let end = lines::find(list, at, b'\n');
         line(&list[at..end], record);
         at = end + 1;
     }

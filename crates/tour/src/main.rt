@@ -1,17 +1,10 @@
 // The run-through program: the examples of the manual pages and the edges of document 01, a line for each call.
 mod cuts;
 mod examples;
-mod notation;
 mod packing;
-mod print;
 mod reading;
-mod values;
 
-// A line of its own.
-fn heading(title: &[u8]) {
-    print::text(title);
-    print::text(b"\n");
-}
+use tour_text::print::heading;
 
 fn pack_examples(record: &mut [u8; 4096]) {
     heading(b"Packing: layout, arguments -> number, first, second: bytes of the result");

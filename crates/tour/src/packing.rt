@@ -1,19 +1,7 @@
 // Packing: a line for each call, with the layout, what it is lent, the answer's three numbers and the bytes of the result.
-use super::notation;
-use super::print;
-use super::print::Style;
-
-// The bytes of an accepted packing.
-fn result(number: u32, length: usize, record: &[u8]) {
-    if number != 0 {
-        return;
-    }
-    if record.len() < length {
-        return;
-    }
-    print::text(b":");
-    print::shortened(&record[0..length], Style::Hex);
-}
+use tour_text::notation;
+use tour_text::print;
+use tour_text::print::Style;
 
 // Packs, and prints the line; `told` names what is lent.
 fn show(layout: &[u8], told: &[u8], slots: &[u32], area: &[u8], record: &mut [u8]) {
@@ -21,7 +9,7 @@ fn show(layout: &[u8], told: &[u8], slots: &[u32], area: &[u8], record: &mut [u8
     print::call(b"pack", layout);
     print::lent(told);
     print::answer(a.number, a.first, a.second);
-    result(a.number, a.first as usize, record);
+    print::result(a.number, a.first as usize, record);
     print::text(b"\n");
 }
 
@@ -44,31 +32,18 @@ pub fn kept() {
     whole(b"a2xz");
 }
 
-// Lends the parts of the slots and of the area that are in use.
-fn show_used(
-    layout: &[u8],
-    told: &[u8],
-    slots: &[u32],
-    n: usize,
-    area: &[u8],
-    m: usize,
-    record: &mut [u8],
-) {
-    if slots.len() < n {
-        return;
-    }
-    if area.len() < m {
-        return;
-    }
-    show(layout, told, &slots[0..n], &area[0..m], record);
-}
-
 // Packs the arguments that a text names.
 pub fn example(layout: &[u8], told: &[u8], record: &mut [u8; 4096]) {
     let mut slots = [0u32; 192];
     let mut area = [0u8; 256];
     let used = notation::parse(told, &mut slots, &mut area);
-    show_used(layout, told, &slots, used.slots, &area, used.area, record);
+    show(
+        layout,
+        told,
+        notation::slots(&slots, used),
+        notation::area(&area, used),
+        record,
+    );
 }
 
 // Packs a slot that no text names, over an area of two bytes.

@@ -1,15 +1,7 @@
 // Reading: a line for each call, with the layout, the record, the answer's three numbers and the values that the slots then show.
-use super::print;
-use super::print::Style;
-use super::values;
-
-fn result(number: u32, slots: &[u32], area: &[u8]) {
-    if number != 0 {
-        return;
-    }
-    print::text(b": ");
-    values::table(slots, area);
-}
+use tour_text::print;
+use tour_text::print::Style;
+use tour_text::values;
 
 // Reads, and prints the line; `told` names what is lent besides.
 fn show(
@@ -25,7 +17,7 @@ fn show(
     print::shortened(record, Style::Hex);
     print::lent(told);
     print::answer(a.number, a.first, a.second);
-    result(a.number, slots, area);
+    values::result(a.number, slots, area);
     print::text(b"\n");
 }
 
@@ -37,10 +29,7 @@ fn whole(layout: &[u8]) {
     print::call(b"read", layout);
     print::lent(b"78 79 into slots of 9, eight bytes aa, mark 1");
     print::answer(a.number, a.first, a.second);
-    print::text(b"; slots");
-    print::numbers(&slots);
-    print::text(b"; area");
-    print::bytes(&area, Style::Hex);
+    values::whole(&slots, &area);
     print::text(b"\n");
 }
 
