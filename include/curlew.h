@@ -91,6 +91,11 @@
  * records can be read by the new layout and new records by the old one. A record may also lose its end: what is
  * left of it gives the values of the fields that are still whole.
  *
+ * Reading loses nothing where every byte of the record belongs to a value and every bit of it is shown: a layout of
+ * `a` and integers, counted or not, `b B` with counts that 8 divides and `h H` with even counts, and a record of just
+ * the length that its fields fill. Read such a record and pack the slots by the same layout, and you have it back;
+ * two of them that show the same values are the same bytes.
+ *
  *
  * SHEETS: A TABLE KEPT IN A FILE
  *

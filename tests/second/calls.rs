@@ -205,6 +205,17 @@ fn random_pack(dice: &mut Dice, scratch: &mut Scratch) -> Call {
     call
 }
 
+/// Bytes of which some are those at the edges of types.
+pub fn random_bytes(dice: &mut Dice, len: usize) -> Vec<u8> {
+    let mut bytes = dice.bytes(len);
+    for byte in bytes.iter_mut() {
+        if dice.once_in(4) {
+            *byte = dice.pick(&[0, b' ', 0x7f, 0x80, 0xff]);
+        }
+    }
+    bytes
+}
+
 /// A record that some layout packed, or just bytes.
 pub fn random_record(dice: &mut Dice, specs: &[Spec], scratch: &mut Scratch) -> Vec<u8> {
     let mut specs: Vec<Spec> = specs.to_vec();
@@ -221,13 +232,7 @@ pub fn random_record(dice: &mut Dice, specs: &[Spec], scratch: &mut Scratch) -> 
         1..=4 => dice.below(300),
         _ => dice.below(40),
     };
-    let mut bytes = dice.bytes(len);
-    for byte in bytes.iter_mut() {
-        if dice.once_in(4) {
-            *byte = dice.pick(&[0, b' ', 0x7f, 0x80, 0xff]);
-        }
-    }
-    bytes
+    random_bytes(dice, len)
 }
 
 /// A mark and an area length around what the values need.

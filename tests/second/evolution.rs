@@ -10,7 +10,7 @@ use crate::limits::{AREA_MAX, RECORD_MAX, REPLY_BYTES, SLOTS_MAX, SLOT_BYTES};
 use crate::values::{table, Value};
 
 /// How many bytes a plain field fills in packing.
-fn fills(spec: &Spec) -> usize {
+pub fn fills(spec: &Spec) -> usize {
     let count = spec.or_all(0);
     match spec.letter {
         b'b' | b'B' => (count + 7) / 8,
@@ -19,7 +19,7 @@ fn fills(spec: &Spec) -> usize {
     }
 }
 
-fn total(specs: &[Spec]) -> usize {
+pub fn total(specs: &[Spec]) -> usize {
     specs.iter().map(fills).sum()
 }
 
@@ -113,7 +113,7 @@ fn packing(dice: &mut Dice, layout: Vec<u8>, arguments: &[Value], room: usize) -
     call
 }
 
-fn reading(dice: &mut Dice, layout: &[u8], record: &[u8], slots: usize, need: usize) -> Call {
+pub fn reading(dice: &mut Dice, layout: &[u8], record: &[u8], slots: usize, need: usize) -> Call {
     let mark = dice.pick(&[0, 0, 1, 7, 30]);
     let rest = dice.pick(&[0, 0, 1, 9]);
     let runs = Runs {
@@ -162,9 +162,9 @@ fn cuts(dice: &mut Dice, specs: &[Spec], len: usize) -> Vec<usize> {
 }
 
 /// A layout's fields and its text.
-struct Layout {
-    specs: Vec<Spec>,
-    text: Vec<u8>,
+pub struct Layout {
+    pub specs: Vec<Spec>,
+    pub text: Vec<u8>,
 }
 
 /// Both layouts, spelled apart from each other; none if the old one's text got too long.

@@ -12,6 +12,7 @@ mod fixed;
 mod layouts;
 mod library;
 mod limits;
+mod lossless;
 mod mean;
 mod mean_calls;
 mod perl;
@@ -58,6 +59,7 @@ fn main() {
     compare_calls::run(&mut tally);
     mean_calls::run(&mut tally);
     perl_calls::run(&mut tally);
+    lossless::run(&mut tally);
     println!(
         "fixed calls: {} passed, {} failed",
         tally.passed, tally.failed
@@ -71,6 +73,7 @@ fn main() {
         compare_calls::round(&mut dice, &mut scratch, &mut tally);
         mean_calls::round(&mut dice, &mut tally);
         perl_calls::round(&mut dice, &mut tally);
+        lossless::round(&mut dice, &mut tally);
     }
     tally.print();
     exit((tally.failed > 0) as i32);
