@@ -1,4 +1,4 @@
-"""Both calls from Python, by ctypes, over a shared object made from the archive: shared.py libcurlew.so"""
+"""Every call from Python, by ctypes, over a shared object made from the archive: shared.py libcurlew.so"""
 import ctypes
 import struct
 import sys
@@ -12,7 +12,13 @@ def load(path):
     lib = ctypes.CDLL(path)
     lib.curlew_pack.argtypes = RUN + RUN + RUN + OWN + OWN
     lib.curlew_read.argtypes = RUN + RUN + OWN + OWN + [SIZE] + OWN
-    lib.curlew_pack.restype = lib.curlew_read.restype = ctypes.c_uint32
+    lib.curlew_sheet_write.argtypes = RUN + RUN + OWN + OWN
+    lib.curlew_sheet_read.argtypes = RUN + OWN + OWN + [SIZE] + OWN
+    lib.curlew_compare.argtypes = RUN + RUN + RUN + OWN * 6
+    lib.curlew_mean.argtypes = RUN + RUN + OWN
+    lib.curlew_from_perl.argtypes = RUN + OWN + OWN
+    for name in ("pack", "read", "sheet_write", "sheet_read", "compare", "mean", "from_perl"):
+        getattr(lib, "curlew_" + name).restype = ctypes.c_uint32
     return lib
 
 
@@ -21,10 +27,12 @@ def lent(data):
 
 
 def table(values):
-    """Slots and area of a list of values: bytes, or lists of integers."""
+    """Slots and area of a list of values: bytes, lists of integers, or None where there is none."""
     slots = area = b""
     for value in values:
-        if isinstance(value, bytes):
+        if value is None:
+            slots += bytes(12)
+        elif isinstance(value, bytes):
             slots += struct.pack(">3I", 1, len(area), len(value))
             area += value
         else:
@@ -60,6 +68,46 @@ def read(lib, layout, record, slots, room=65536):
     return answer, [shown(slot, area.raw) for slot in struct.iter_unpack(">3I", lent_slots.raw)]
 
 
+def own(size):
+    """A run that a call may write, and its size."""
+    run = ctypes.create_string_buffer(size)
+    return run, (run, size)
+
+
+def sheet_write(lib, values):
+    slots, area = table(values)
+    (sheet, sheet_run), (reply, reply_run) = own(200), own(12)
+    number = lib.curlew_sheet_write(*lent(slots), *lent(area), *sheet_run, *reply_run)
+    return number, sheet.raw[:struct.unpack(">3I", reply.raw)[1]]
+
+
+def sheet_read(lib, sheet, count):
+    (slots, slots_run), (area, area_run), (reply, reply_run) = own(12 * count), own(200), own(12)
+    lib.curlew_sheet_read(*lent(sheet), *slots_run, *area_run, 0, *reply_run)
+    return struct.unpack(">3I", reply.raw), [shown(slot, area.raw) for slot in struct.iter_unpack(">3I", slots.raw)]
+
+
+def compare(lib, layout, first, second, fields):
+    (report, report_run), (reply, reply_run) = own(12 * fields), own(12)
+    tables = [own(size)[1] for size in (12 * fields, 200, 12 * fields, 200)]
+    lib.curlew_compare(*lent(layout), *lent(first), *lent(second), *(part for run in tables for part in run), *report_run, *reply_run)
+    return struct.unpack(">3I", reply.raw), list(struct.iter_unpack(">3I", report.raw))
+
+
+def mean(lib, values):
+    slots, area = table(values)
+    reply, reply_run = own(24)
+    lib.curlew_mean(*lent(slots), *lent(area), *reply_run)
+    return struct.unpack(">4Id", reply.raw)
+
+
+def from_perl(lib, template):
+    (layout, layout_run), (reply, reply_run) = own(100), own(12)
+    lib.curlew_from_perl(*lent(template), *layout_run, *reply_run)
+    answer = struct.unpack(">3I", reply.raw)
+    return answer, layout.raw[:answer[1]] if answer[0] == 0 else None
+
+
 def equal(got, expected):
     if got != expected:
         sys.exit(f"failed: got {got}, expected {expected}")
@@ -83,6 +131,15 @@ def main():
     equal(pack(lib, b"a9", [b""], 8)[0], (11, 0, 0))
     equal(read(lib, b"c4097", b"", 1)[0], (3, 1, 0))
     equal(pack(lib, b"", []), ((0, 0, 0), b""))
+    sheet = bytes.fromhex("010013 000100 0003014f4b 000902fffffffffffffffe")
+    equal(sheet_write(lib, [None, b"OK", [-2]]), (0, sheet))
+    equal(sheet_read(lib, sheet, 4), ((0, 3, 10), [None, b"OK", [-2], None]))
+    equal(sheet_read(lib, sheet[:-1], 4), ((12, 0, 0), [None] * 4))
+    equal(compare(lib, b"a2 c S", b"ab\5\0\1", b"ab\7", 3), ((0, 3, 0), [(0, 0, 0), (4, 7, 1), (1, 0, 0)]))
+    equal(mean(lib, [[0], None, [61]]), (0, 1, 0, 1, 30.5))
+    equal(mean(lib, [None, None]), (0, 2, 0, 0, 0.0))
+    equal(from_perl(lib, b"(n2a3)2 C"), ((0, 12, 0), b"Su2a3Su2a3cu"))
+    equal(from_perl(lib, b"(a) 2"), ((15, 4, 0), None))
     equal(lib.curlew_pack(None, 0, None, 0, None, 0, None, 0, None, 0), 1)
 
 
