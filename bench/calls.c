@@ -95,7 +95,7 @@ static void show_table(size_t count)
 
 static uint32_t pack_once(const struct library *lib, const struct work *w)
 {
-    return lib->pack((const uint8_t *)w->pack_layout.text, w->pack_layout.length, w->slots,
+    return lib->pack(w->pack_layout.text, w->pack_layout.length, w->slots,
                      w->count * CURLEW_SLOT_SIZE, w->area, w->used, out.bytes, CURLEW_MAX_RECORD,
                      packed, sizeof packed);
 }
@@ -103,7 +103,7 @@ static uint32_t pack_once(const struct library *lib, const struct work *w)
 static uint32_t read_into(struct table *t, const struct library *lib, const struct work *w,
                           const uint8_t *record, size_t record_len)
 {
-    return lib->read((const uint8_t *)w->read_layout.text, w->read_layout.length, record, record_len,
+    return lib->read(w->read_layout.text, w->read_layout.length, record, record_len,
                      t->slots, w->count * CURLEW_SLOT_SIZE, t->area, sizeof t->area, 0, reply, sizeof reply);
 }
 
@@ -157,7 +157,7 @@ static void show_sheet_read(const struct library *lib, const struct work *w)
 
 static uint32_t compare_once(const struct library *lib, const struct work *w)
 {
-    return lib->compare((const uint8_t *)w->read_layout.text, w->read_layout.length,
+    return lib->compare(w->read_layout.text, w->read_layout.length,
                         w->record, w->record_len, w->second, w->second_len,
                         table.slots, w->count * CURLEW_SLOT_SIZE, table.area, sizeof table.area,
                         second_table.slots, w->count * CURLEW_SLOT_SIZE, second_table.area, sizeof second_table.area,

@@ -72,7 +72,7 @@ static void library_pack(void *state, size_t from, size_t to, uint8_t *records)
         crowd_number(s->area, i);
         curlew_put_uint(s->area + 28, crowd_mark(i));
         curlew_put_uint(s->area + 36, i);
-        if (s->lib->pack((const uint8_t *)CROWD_LAYOUT, sizeof CROWD_LAYOUT - 1, s->slots, sizeof s->slots,
+        if (s->lib->pack(CROWD_LAYOUT, sizeof CROWD_LAYOUT - 1, s->slots, sizeof s->slots,
                          s->area, 112, records + i * CROWD_RECORD, CROWD_RECORD, reply, sizeof reply) != CURLEW_OK)
             stop("a candidate was refused");
     }
@@ -87,7 +87,7 @@ static uint64_t library_read(void *state, size_t from, size_t to, const uint8_t 
 
     for (i = from; i < to; i++) {
         memset(s->slots, 0, sizeof s->slots);
-        if (s->lib->read((const uint8_t *)CROWD_LAYOUT, sizeof CROWD_LAYOUT - 1, records + i * CROWD_RECORD,
+        if (s->lib->read(CROWD_LAYOUT, sizeof CROWD_LAYOUT - 1, records + i * CROWD_RECORD,
                          CROWD_RECORD, s->slots, sizeof s->slots, s->area, sizeof s->area, 0,
                          reply, sizeof reply) != CURLEW_OK)
             stop("a record was refused");

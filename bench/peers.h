@@ -9,15 +9,15 @@
 #include <string.h>
 #include <time.h>
 
-typedef uint32_t pack_call(const uint8_t *, size_t, const uint8_t *, size_t, const uint8_t *, size_t,
+typedef uint32_t pack_call(const void *, size_t, const uint8_t *, size_t, const uint8_t *, size_t,
                            uint8_t *, size_t, uint8_t *, size_t);
-typedef uint32_t read_call(const uint8_t *, size_t, const uint8_t *, size_t, uint8_t *, size_t,
+typedef uint32_t read_call(const void *, size_t, const uint8_t *, size_t, uint8_t *, size_t,
                            uint8_t *, size_t, size_t, uint8_t *, size_t);
 typedef uint32_t sheet_write_call(const uint8_t *, size_t, const uint8_t *, size_t, uint8_t *, size_t,
                                   uint8_t *, size_t);
 typedef uint32_t sheet_read_call(const uint8_t *, size_t, uint8_t *, size_t, uint8_t *, size_t, size_t,
                                  uint8_t *, size_t);
-typedef uint32_t compare_call(const uint8_t *, size_t, const uint8_t *, size_t, const uint8_t *, size_t,
+typedef uint32_t compare_call(const void *, size_t, const uint8_t *, size_t, const uint8_t *, size_t,
                               uint8_t *, size_t, uint8_t *, size_t, uint8_t *, size_t, uint8_t *, size_t,
                               uint8_t *, size_t, uint8_t *, size_t);
 

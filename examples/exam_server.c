@@ -109,7 +109,7 @@ static void print_place(const char *layout, struct curlew_answer answer)
 static int pack(const char *layout, const struct table *table, struct record *record)
 {
     uint8_t reply[CURLEW_PACK_REPLY];
-    uint32_t number = curlew_pack((const uint8_t *)layout, strlen(layout),
+    uint32_t number = curlew_pack(layout, strlen(layout),
                                   table->slots, table->count * CURLEW_SLOT_SIZE, table->area, table->used,
                                   record->bytes, sizeof record->bytes, reply, sizeof reply);
     struct curlew_answer answer = curlew_get_answer(reply);
@@ -130,7 +130,7 @@ static int read_record(const char *layout, const struct record *record, struct t
     uint32_t number;
 
     clear(table);
-    number = curlew_read((const uint8_t *)layout, strlen(layout), record->bytes, record->length,
+    number = curlew_read(layout, strlen(layout), record->bytes, record->length,
                          table->slots, sizeof table->slots, table->area, sizeof table->area, 0,
                          reply, sizeof reply);
     if (number != CURLEW_OK) {
@@ -354,7 +354,7 @@ static void show_differences(void)
     if (!pack(new_layout, &one, &first) || !pack(new_layout, &two, &second))
         return;
     second.length = 24;
-    if (curlew_compare((const uint8_t *)new_layout, strlen(new_layout), first.bytes, first.length,
+    if (curlew_compare(new_layout, strlen(new_layout), first.bytes, first.length,
                        second.bytes, second.length, one.slots, sizeof one.slots, one.area, sizeof one.area,
                        two.slots, sizeof two.slots, two.area, sizeof two.area,
                        report, sizeof report, reply, sizeof reply) != CURLEW_OK) {
@@ -380,7 +380,7 @@ static void show_partner(void)
     uint8_t reply[CURLEW_PERL_REPLY];
 
     printf("\nthe partner college's template %s\n", partner);
-    if (curlew_from_perl((const uint8_t *)partner, strlen(partner), (uint8_t *)layout, sizeof layout,
+    if (curlew_from_perl(partner, strlen(partner), layout, sizeof layout,
                          reply, sizeof reply) != CURLEW_OK) {
         print_refusal(curlew_get_answer(reply));
         return;

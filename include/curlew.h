@@ -9,7 +9,41 @@
  * that are not set. curlew_compare reads two copies of one record and says what differs. curlew_mean gives the
  * mean of a candidate's marks. curlew_from_perl turns a pack template of Perl into a layout.
  *
- * Link with libcurlew.a; no other library is needed. The header serves C99 and C++.
+ * Link with libcurlew.a or libcurlew.so. The header serves C99 and C++, the library x86-64. Of other libraries it
+ * needs memcpy, memmove and memset alone, which every C library has. It allocates nothing, keeps no state and does no
+ * input or output, and a call takes less than CURLEW_STACK bytes of stack (measured). The calls are proved to do what
+ * is said here; the helpers at the end of this header are plain C.
+ *
+ * No text ends in a zero byte here: a layout, a template, a string and a record have just the length that is given.
+ *
+ *
+ * FIVE MISTAKES THAT ARE EASILY MADE
+ *
+ * The length of a record is its own and not that of its buffer. The bytes behind the record would be read too, and
+ * zero bytes are marks of 0. The reply of packing has the length; write
+ *
+ *   curlew_read(layout, strlen(layout), record, curlew_get_answer(packed).first,    and not sizeof record
+ *
+ * A reading sets some slots and leaves the others as they were. Clear the table before it, or ask the reply how many
+ * it set: a slot from there on still shows what was in it before.
+ *
+ *   memset(slots, 0, sizeof slots);                                  before curlew_read
+ *   marked = leg < curlew_get_answer(reply).first;                   or this after it
+ *
+ * A slot that is not set cannot be packed (number 6): in a record every byte is a value, and a leg that nobody marked
+ * would be a 0. Leave such legs out at the end, or keep the table as a sheet, which has a place for them anywhere.
+ *
+ *   curlew_sheet_write(slots, sizeof slots, area, used, sheet, sizeof sheet, reply, sizeof reply);
+ *
+ * The zero byte at the end of a C string is none of the layout's: with it the layout has an unknown type at its end
+ * (number 2).
+ *
+ *   curlew_pack(layout, strlen(layout),                              and not sizeof layout
+ *
+ * A run that is larger than its limit is refused (number 1), also one that is only to be written: packing wants no more
+ * room than a record may have. Give it a part of a larger run.
+ *
+ *   out, room < CURLEW_MAX_RECORD ? room : CURLEW_MAX_RECORD,        and not out, room
  *
  *
  * VALUES: SLOTS AND THE AREA
@@ -84,8 +118,10 @@
  * as the mark of the next.
  *
  * Where the record has too few bytes left for a field, the reading ends there: that field's slot, and the slots
- * of the fields behind it, stay as they were. It is no error. Clear the slots before you read, and a slot that is still CURLEW_UNSET
- * afterwards was not in the record. It never becomes a 0. Slots beyond those of the layout stay as well.
+ * of the fields behind it, stay as they were. It is no error. Clear the slots before you read, and a slot that is
+ * still CURLEW_UNSET afterwards was not in the record. It never becomes a 0. Slots beyond those of the layout stay
+ * as well. A record can only lose its tail, so "not set" comes back for the fields behind its end: every field before
+ * one that is set is set, too.
  *
  * A layout without X, @, `*` and counts of 0 may therefore grow: put new fields behind the old ones, and old
  * records can be read by the new layout and new records by the old one. A record may also lose its end: what is
@@ -189,11 +225,12 @@
  *   refused         the number of the refusal, the place of the fault, 0
  *
  *   no.  constant            refused because                                        place
- *    1   CURLEW_BAD_SIZE     a run is over its size, the slots are no multiple      0
- *                            of CURLEW_SLOT_SIZE, or the mark lies above the
- *                            area's length
+ *    1   CURLEW_BAD_SIZE     a run is larger than its limit (see SIZES; also a run  0
+ *                            that is only written), the slots are no multiple of
+ *                            CURLEW_SLOT_SIZE, or the mark lies above the area's
+ *                            length
  *    2   CURLEW_BAD_TYPE     the layout has an unknown type                         its byte in the layout
- *    3   CURLEW_BAD_COUNT    a count is over CURLEW_MAX_COUNT                       byte of its first digit
+ *    3   CURLEW_BAD_COUNT    a count is larger than CURLEW_MAX_COUNT                byte of its first digit
  *    4   CURLEW_BAD_MOVE     `@` has no count, or packing met `x*`                  byte of the type character
  *    5   CURLEW_BAD_SLOTS    packing: not one slot for each field that takes one;   0
  *                            reading a record or a sheet: too few slots
@@ -223,8 +260,10 @@
  * then 5; then 6 to 10 for each slot in turn, the lower number first; then 11. Writing a sheet: 1; 7 for each
  * slot in turn; 11. Reading a sheet: 1; 13; 12; 5; 11. Comparing: all of reading the first copy, then all of
  * reading the second, then 11 for the report. Mean: 1; then 7, 8, 9 and 14 for each slot in turn. From Perl: 1;
- * 15; 11. No byte is written before the last of them: a refusal writes the reply and nothing else. A reply of a wrong size makes the call return 1 and write nothing
- * at all.
+ * 15; 11.
+ *
+ * No byte is written before the last of them: a refusal writes the reply and nothing else. A reply of a wrong size
+ * makes the call return 1 and write nothing at all.
  *
  * After a packing that was accepted, the bytes of the output run behind the result stay as they were.
  *
@@ -241,8 +280,9 @@
  *   reply                   exactly CURLEW_PACK_REPLY, CURLEW_READ_REPLY, CURLEW_SHEET_REPLY,
  *                           CURLEW_COMPARE_REPLY, CURLEW_MEAN_REPLY or CURLEW_PERL_REPLY bytes
  *
- * The limits are on the lengths that you give to a call. The output run must be no larger than a record may
- * be, even where the result is short. A run of length 0 may be a null pointer.
+ * Number 1 compares the lengths that you give to a call with these limits. The output run must be no larger than a
+ * record may be, even where the result is short, and so must the run for a sheet. The report of curlew_compare and the
+ * run for a layout from Perl may have any length. A run of length 0 may be a null pointer.
  *
  *
  * YOUR DUTY
@@ -284,12 +324,12 @@
  *       curlew_put_int(area + 11, 0);
  *       curlew_put_slot(slots, 0, CURLEW_STRING, 0, 3);
  *       curlew_put_slot(slots, 1, CURLEW_SIGNED, 3, 2);
- *       if (curlew_pack((const uint8_t *)old_layout, strlen(old_layout), slots, 2 * CURLEW_SLOT_SIZE,
+ *       if (curlew_pack(old_layout, strlen(old_layout), slots, 2 * CURLEW_SLOT_SIZE,
  *                       area, sizeof area, record, sizeof record, packed, sizeof packed) != CURLEW_OK)
  *           return 1;
  *
  *       memset(slots, 0, sizeof slots);
- *       if (curlew_read((const uint8_t *)new_layout, strlen(new_layout),
+ *       if (curlew_read(new_layout, strlen(new_layout),
  *                       record, curlew_get_answer(packed).first, slots, sizeof slots,
  *                       area, sizeof area, 0, reply, sizeof reply) != CURLEW_OK)
  *           return 1;
@@ -309,6 +349,13 @@
 #include <stddef.h>
 #include <stdint.h>
 #include <string.h>
+
+/* The version of this header and of its library; the number is 1,000 times the first part plus the second. */
+#define CURLEW_VERSION "1.1"
+#define CURLEW_VERSION_NUMBER 1001
+
+/* A call takes less stack than this, in bytes. */
+#define CURLEW_STACK 8192
 
 /* Sizes in bytes of the things that have a fixed size. */
 #define CURLEW_SLOT_SIZE 12
@@ -367,14 +414,14 @@ extern "C" {
 #endif
 
 /* Packs the values in slots and area by the layout into out. Writes out and reply. */
-uint32_t curlew_pack(const uint8_t *layout, size_t layout_len,
+uint32_t curlew_pack(const void *layout, size_t layout_len,
                      const uint8_t *slots, size_t slots_len,
                      const uint8_t *area, size_t area_len,
                      uint8_t *out, size_t out_len,
                      uint8_t *reply, size_t reply_len);
 
 /* Reads the record by the layout into slots and, from the mark on, into area. Writes slots, area and reply. */
-uint32_t curlew_read(const uint8_t *layout, size_t layout_len,
+uint32_t curlew_read(const void *layout, size_t layout_len,
                      const uint8_t *record, size_t record_len,
                      uint8_t *slots, size_t slots_len,
                      uint8_t *area, size_t area_len,
@@ -395,7 +442,7 @@ uint32_t curlew_sheet_read(const uint8_t *sheet, size_t sheet_len,
                            uint8_t *reply, size_t reply_len);
 
 /* Compares two copies of a record by the layout. Writes both tables, both areas, report and reply. */
-uint32_t curlew_compare(const uint8_t *layout, size_t layout_len,
+uint32_t curlew_compare(const void *layout, size_t layout_len,
                         const uint8_t *first, size_t first_len,
                         const uint8_t *second, size_t second_len,
                         uint8_t *first_slots, size_t first_slots_len,
@@ -411,8 +458,8 @@ uint32_t curlew_mean(const uint8_t *slots, size_t slots_len,
                      uint8_t *reply, size_t reply_len);
 
 /* Writes the layout that a pack template of Perl stands for. Writes layout and reply. */
-uint32_t curlew_from_perl(const uint8_t *perl_template, size_t perl_template_len,
-                          uint8_t *layout, size_t layout_len,
+uint32_t curlew_from_perl(const void *perl_template, size_t perl_template_len,
+                          void *layout, size_t layout_len,
                           uint8_t *reply, size_t reply_len);
 
 #ifdef __cplusplus
@@ -440,38 +487,46 @@ struct curlew_answer {
     uint32_t second;
 };
 
+/* A cast in the form that each of the two languages likes. */
+#ifdef __cplusplus
+#define CURLEW_CAST(type, value) static_cast<type>(value)
+#else
+#define CURLEW_CAST(type, value) ((type)(value))
+#endif
+
 /* Puts a big-endian 32-bit number at `to`. */
 static inline void curlew_put_number(uint8_t *to, uint32_t number)
 {
-    to[0] = (uint8_t)(number >> 24);
-    to[1] = (uint8_t)(number >> 16 & 255);
-    to[2] = (uint8_t)(number >> 8 & 255);
-    to[3] = (uint8_t)(number & 255);
+    to[0] = CURLEW_CAST(uint8_t, number >> 24);
+    to[1] = CURLEW_CAST(uint8_t, number >> 16 & 255);
+    to[2] = CURLEW_CAST(uint8_t, number >> 8 & 255);
+    to[3] = CURLEW_CAST(uint8_t, number & 255);
 }
 
 /* The big-endian 32-bit number at `from`. */
 static inline uint32_t curlew_get_number(const uint8_t *from)
 {
-    return (uint32_t)from[0] << 24 | (uint32_t)from[1] << 16 | (uint32_t)from[2] << 8 | (uint32_t)from[3];
+    return CURLEW_CAST(uint32_t, from[0]) << 24 | CURLEW_CAST(uint32_t, from[1]) << 16 |
+           CURLEW_CAST(uint32_t, from[2]) << 8 | from[3];
 }
 
 /* Puts an unsigned integer, 8 bytes big-endian, at `to`. */
 static inline void curlew_put_uint(uint8_t *to, uint64_t value)
 {
-    curlew_put_number(to, (uint32_t)(value >> 32));
-    curlew_put_number(to + 4, (uint32_t)(value & 0xffffffffu));
+    curlew_put_number(to, CURLEW_CAST(uint32_t, value >> 32));
+    curlew_put_number(to + 4, CURLEW_CAST(uint32_t, value & 0xffffffffu));
 }
 
 /* The unsigned integer, 8 bytes big-endian, at `from`. */
 static inline uint64_t curlew_get_uint(const uint8_t *from)
 {
-    return (uint64_t)curlew_get_number(from) << 32 | curlew_get_number(from + 4);
+    return CURLEW_CAST(uint64_t, curlew_get_number(from)) << 32 | curlew_get_number(from + 4);
 }
 
 /* Puts a signed integer, 8 bytes big-endian in two's complement, at `to`. */
 static inline void curlew_put_int(uint8_t *to, int64_t value)
 {
-    curlew_put_uint(to, (uint64_t)value);
+    curlew_put_uint(to, CURLEW_CAST(uint64_t, value));
 }
 
 /* The signed integer, 8 bytes big-endian in two's complement, at `from`. */
@@ -479,7 +534,7 @@ static inline int64_t curlew_get_int(const uint8_t *from)
 {
     uint64_t value = curlew_get_uint(from);
 
-    return value >> 63 ? -(int64_t)~value - 1 : (int64_t)value;
+    return value >> 63 ? -CURLEW_CAST(int64_t, ~value) - 1 : CURLEW_CAST(int64_t, value);
 }
 
 /* Puts the three numbers of slot `index` of a run of slots. */
@@ -543,7 +598,7 @@ static inline const char *curlew_refusal(uint32_t number)
 {
     switch (number) {
     case CURLEW_OK: return "accepted";
-    case CURLEW_BAD_SIZE: return "a run has a wrong size, or the mark lies above the area";
+    case CURLEW_BAD_SIZE: return "a run is larger than its limit or no whole number of slots, or the mark lies above the area";
     case CURLEW_BAD_TYPE: return "the layout has an unknown type";
     case CURLEW_BAD_COUNT: return "a count in the layout is too large";
     case CURLEW_BAD_MOVE: return "the layout has an @ without a count, or an x* in packing";
@@ -573,14 +628,14 @@ static inline const char *curlew_refusal(uint32_t number)
  */
 static inline size_t curlew_point(const void *layout, size_t layout_len, size_t place, char *to, size_t to_len)
 {
-    const uint8_t *bytes = (const uint8_t *)layout;
+    const uint8_t *bytes = CURLEW_CAST(const uint8_t *, layout);
     size_t at = place < layout_len ? place : layout_len;
     size_t length = layout_len + 1 + at + 1;
     size_t i;
 
     for (i = 0; i < length && i + 1 < to_len; i++) {
         if (i < layout_len)
-            to[i] = bytes[i] >= 32 && bytes[i] < 127 ? (char)bytes[i] : '.';
+            to[i] = bytes[i] >= 32 && bytes[i] < 127 ? CURLEW_CAST(char, bytes[i]) : '.';
         else if (i == layout_len)
             to[i] = '\n';
         else
@@ -590,5 +645,7 @@ static inline size_t curlew_point(const void *layout, size_t layout_len, size_t 
         to[i] = '\0';
     return length;
 }
+
+#undef CURLEW_CAST
 
 #endif

@@ -1,0 +1,172 @@
+/*
+ * The stack that each call takes: the stack below the caller is painted, the call is made, and the lowest byte that
+ * changed tells how deep it went. None may reach CURLEW_STACK.
+ */
+#ifndef _DEFAULT_SOURCE
+#define _DEFAULT_SOURCE
+#endif
+#include "curlew.h"
+
+#include <pthread.h>
+#include <stdio.h>
+#include <stdlib.h>
+
+#define STACK (256 * 1024)
+#define NEAR 512 /* bytes below the caller's frame that are left unpainted: what is there counts as used */
+#define PAINT 0xa5
+
+#define EVERY_TYPE "a4 A4 b9 B9 h3 H3 c3 s2 S2 i2 I2 w2 W2 x2 X @30 a* c*"
+#define SLOTS 15
+
+static uint8_t slots[SLOTS * CURLEW_SLOT_SIZE], other_slots[SLOTS * CURLEW_SLOT_SIZE];
+static uint8_t area[1024], other_area[1024], record[256], sheet[2048], report[SLOTS * CURLEW_FINDING_SIZE];
+static size_t record_len, sheet_len;
+static uint8_t *low;
+
+static void fill_table(void)
+{
+    static const char strings[] = "aAbBhHa";
+    size_t i, used = 0;
+
+    for (i = 0; i < SLOTS; i++) {
+        if (i < 6 || i == SLOTS - 2) {
+            memset(area + used, strings[i < 6 ? i : 6] == 'a' ? 'v' : '1', 9);
+            curlew_put_slot(slots, i, CURLEW_STRING, (uint32_t)used, 9);
+            used += 9;
+        } else {
+            memset(area + used, (int)i, 3 * CURLEW_ITEM_SIZE);
+            curlew_put_slot(slots, i, CURLEW_SIGNED, (uint32_t)used, 3);
+            used += 3 * CURLEW_ITEM_SIZE;
+        }
+    }
+}
+
+static uint32_t pack(void)
+{
+    uint8_t reply[CURLEW_PACK_REPLY];
+    uint32_t number;
+
+    fill_table();
+    number = curlew_pack(EVERY_TYPE, sizeof EVERY_TYPE - 1, slots, sizeof slots, area, sizeof area,
+                         record, sizeof record, reply, sizeof reply);
+    record_len = curlew_get_answer(reply).first;
+    return number;
+}
+
+static uint32_t read_record(void)
+{
+    uint8_t reply[CURLEW_READ_REPLY];
+
+    return curlew_read(EVERY_TYPE, sizeof EVERY_TYPE - 1, record, record_len, slots, sizeof slots,
+                       area, sizeof area, 0, reply, sizeof reply);
+}
+
+static uint32_t sheet_write(void)
+{
+    uint8_t reply[CURLEW_SHEET_REPLY];
+    uint32_t number = curlew_sheet_write(slots, sizeof slots, area, sizeof area, sheet, sizeof sheet,
+                                         reply, sizeof reply);
+
+    sheet_len = curlew_get_answer(reply).first;
+    return number;
+}
+
+static uint32_t sheet_read(void)
+{
+    uint8_t reply[CURLEW_SHEET_REPLY];
+
+    return curlew_sheet_read(sheet, sheet_len, slots, sizeof slots, area, sizeof area, 0, reply, sizeof reply);
+}
+
+static uint32_t compare(void)
+{
+    uint8_t reply[CURLEW_COMPARE_REPLY], second[sizeof record];
+
+    memcpy(second, record, record_len);
+    second[1] ^= 1;
+    return curlew_compare(EVERY_TYPE, sizeof EVERY_TYPE - 1, record, record_len, second, record_len,
+                          slots, sizeof slots, area, sizeof area, other_slots, sizeof other_slots,
+                          other_area, sizeof other_area, report, sizeof report, reply, sizeof reply);
+}
+
+static uint32_t mean(void)
+{
+    uint8_t reply[CURLEW_MEAN_REPLY], legs[3 * CURLEW_SLOT_SIZE], marks[2 * CURLEW_ITEM_SIZE];
+
+    curlew_put_int(marks, 61);
+    curlew_put_int(marks + CURLEW_ITEM_SIZE, 0);
+    memset(legs, 0, sizeof legs);
+    curlew_put_slot(legs, 0, CURLEW_SIGNED, 0, 1);
+    curlew_put_slot(legs, 2, CURLEW_UNSIGNED, CURLEW_ITEM_SIZE, 1);
+    return curlew_mean(legs, sizeof legs, marks, sizeof marks, reply, sizeof reply);
+}
+
+static uint32_t from_perl(void)
+{
+    static const char deep[] = "((((((((n2 C a3 x)2 b4)) H2)1) V))2)2";
+    uint8_t reply[CURLEW_PERL_REPLY];
+    char layout[CURLEW_MAX_LAYOUT];
+
+    return curlew_from_perl(deep, sizeof deep - 1, layout, sizeof layout, reply, sizeof reply);
+}
+
+struct call {
+    const char *name;
+    uint32_t (*make)(void);
+};
+
+static const struct call calls[] = {
+    {"curlew_pack", pack}, {"curlew_read", read_record}, {"curlew_sheet_write", sheet_write},
+    {"curlew_sheet_read", sheet_read}, {"curlew_compare", compare}, {"curlew_mean", mean},
+    {"curlew_from_perl", from_perl},
+};
+
+/* How many bytes of stack below this function's frame the call used. */
+static size_t depth(const struct call *call)
+{
+    volatile uint8_t here = 0;
+    size_t top = (size_t)((uintptr_t)&here - (uintptr_t)low), at;
+    uint32_t number;
+
+    memset(low, PAINT, top - NEAR);
+    number = call->make();
+    for (at = 0; at < top - NEAR && low[at] == PAINT; at++)
+        ;
+    if (number != CURLEW_OK) {
+        printf("%s refused: number %u\n", call->name, (unsigned)number);
+        exit(1);
+    }
+    return top - at;
+}
+
+static void *measure(void *failures)
+{
+    size_t i, used;
+
+    for (i = 0; i < sizeof calls / sizeof calls[0]; i++) {
+        depth(&calls[i]); /* once before, so that the names that it needs are bound */
+        used = depth(&calls[i]);
+        printf("%-20s %5u bytes of stack\n", calls[i].name, (unsigned)used);
+        if (used >= CURLEW_STACK)
+            ++*(int *)failures;
+    }
+    return NULL;
+}
+
+int main(void)
+{
+    pthread_attr_t attributes;
+    pthread_t thread;
+    int failures = 0;
+    void *stack;
+
+    if (posix_memalign(&stack, 4096, STACK) != 0 || pthread_attr_init(&attributes) != 0)
+        return 2;
+    low = (uint8_t *)stack;
+    if (pthread_attr_setstack(&attributes, stack, STACK) != 0 ||
+        pthread_create(&thread, &attributes, measure, &failures) != 0 || pthread_join(thread, NULL) != 0)
+        return 2;
+    if (failures > 0)
+        printf("CURLEW_STACK says %d\n", CURLEW_STACK);
+    return failures == 0 ? 0 : 1;
+}
