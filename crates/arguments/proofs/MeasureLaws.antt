@@ -17,7 +17,7 @@ use Rattle.layout.specs.declared.Refusal.{Refusal}
 use Rattle.layout.specs.declared.Refusal.the-variants.{NotSet, BadSlot, WrongKind, WrongAmount, BadDigit}
 use Rattle.layout.specs.Refusals.{if_then_else_, Result, ok, refused, _>>=_, demand}
 use Rattle.layout.specs.Layout.{slotCount, takesSlot, toNat}
-use Rattle.layout.specs.Words.{lastData, shapeNumbered, countFrom, slotsTaken, fieldOf, decoded, FieldOf}
+use Rattle.layout.specs.Words.{lastData, shapeNumbered, countFrom, slotsTaken, fieldOf, decoded, FieldOf, flagUnit, countUnit}
 use Rattle.layout.proofs.Laws.{bound, ok-inj}
 use Rattle.layout.proofs.Decoded.{word-shape, word-count, next-field, no-field}
 use Rattle.record.specs.declared.Cursor.{Cursor}
@@ -60,17 +60,17 @@ module _ (area : List ℕ) (k : ℕ) (t : Slot) (c : Cursor) (s : Shape) (n : Co
 -- a word's field by the number of its type
 
 module _ (ns : List ℕ) (k w : ℕ) (c : Cursor) where
-  pub ready-data : Ready ns k c (fieldOf w .code) (fieldOf w .count) → w % 256 ≤ lastData → Ready ns k c (Data (shapeNumbered (w % 256))) (countFrom (w / 512))
+  pub ready-data : Ready ns k c (fieldOf w .code) (fieldOf w .count) → w % flagUnit ≤ lastData → Ready ns k c (Data (shapeNumbered (w % flagUnit))) (countFrom (w / countUnit))
   ready-data r h = rw (word-shape w h, word-count w) at r
 
   -- an argument that passes the quick test is refused by no line
-  pub quick-next : (area : List ℕ) → w % 256 ≤ lastData → (a : Slot) → a ≡ slotAt ns k → (n : Count) → n ≡ countFrom (w / 512)
-      → (t : Bool) → Sound t area (shapeNumbered (w % 256)) n a → t ≡ true
-      → (items : ℕ) → items ≡ amount n (a .len) → (bytes : ℕ) → bytes ≡ bytesFor (shapeNumbered (w % 256)) items → (r : Cursor) → r ≡ past c bytes
+  pub quick-next : (area : List ℕ) → w % flagUnit ≤ lastData → (a : Slot) → a ≡ slotAt ns k → (n : Count) → n ≡ countFrom (w / countUnit)
+      → (t : Bool) → Sound t area (shapeNumbered (w % flagUnit)) n a → t ≡ true
+      → (items : ℕ) → items ≡ amount n (a .len) → (bytes : ℕ) → bytes ≡ bytesFor (shapeNumbered (w % flagUnit)) items → (r : Cursor) → r ≡ past c bytes
       → Next r ≡ steppedOf (stepped area k (slotAt ns k) c (fieldOf w .code) (fieldOf w .count))
   quick-next area h a same n e t s p items i bytes b r q =
       rw (word-shape w h, word-count w, ← e, ← same)
-      (ap Next (q ∙ rw (b, i)) ∙ step-next area k a c (shapeNumbered (w % 256)) n (sym (ap verdictOf (s .fits p k))))
+      (ap Next (q ∙ rw (b, i)) ∙ step-next area k a c (shapeNumbered (w % flagUnit)) n (sym (ap verdictOf (s .fits p k))))
 
 -- what an answer says of the step
 pub turn-next : (o : Result Cursor) (d : Cursor) → Next d ≡ steppedOf o → o ≡ ok d

@@ -66,10 +66,10 @@ fn step(word: u32, slots: &[u32], area: &[u8], k: usize, c: Cursor) -> Stepped
     requires { ⌜ Ready (now slots) k c (fieldOf word .code) (fieldOf word .count) ⌝ }
     ensures { λ r. ⌜ r ≡ steppedOf (stepped (now (area .entry)) k (slotAt (now (slots .entry)) k) c (fieldOf word .code) (fieldOf word .count)) ⌝ }
 {
-    let d = word % 256;
+    let d = word % layout::FLAG_UNIT;
     if d <= layout::LAST_DATA {
         let a = record::slots::slot_at(slots, k);
-        let n = layout::count_from(word / 512);
+        let n = layout::count_from(word / layout::COUNT_UNIT);
         if check::serves(d, n, a, area) {
             let bytes = record::bytes_numbered(d, record::amount(n, a.len));
             return Stepped::Next(c.store(bytes));

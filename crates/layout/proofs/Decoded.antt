@@ -14,7 +14,7 @@ use Rattle.layout.specs.declared.Parsed.{Parsed}
 use Rattle.layout.specs.declared.Parsed.the-variants.{Fields, Refused}
 use Rattle.layout.specs.Refusals.{if_then_else_, Result, ok, refused}
 use Rattle.layout.specs.Layout.{maxLayout, takesSlot, toNat, slotCount}
-use Rattle.layout.specs.Words.{lastData, shapeNumbered, countFrom, fieldOf, decoded, Parses, slotsTaken}
+use Rattle.layout.specs.Words.{lastData, shapeNumbered, countFrom, fieldOf, decoded, Parses, slotsTaken, flagUnit, countUnit}
 use Rattle.layout.proofs.Steps.{bit-le}
 use Rattle.layout.proofs.Numbered.{data-code, move-code}
 
@@ -47,20 +47,20 @@ slots-le f = bit-le (takesSlot (f .code))
 -- ---- a word's field by the number of its type
 
 module _ (w : ℕ) where
-  pub word-count : fieldOf w .count ≡ countFrom (w / 512)
+  pub word-count : fieldOf w .count ≡ countFrom (w / countUnit)
   unfolding fieldOf
   word-count = refl
 
-  pub word-shape : w % 256 ≤ lastData → fieldOf w .code ≡ Data (shapeNumbered (w % 256))
+  pub word-shape : w % flagUnit ≤ lastData → fieldOf w .code ≡ Data (shapeNumbered (w % flagUnit))
   unfolding fieldOf
-  word-shape h = data-code (w % 256) h
+  word-shape h = data-code (w % flagUnit) h
 
-  pub word-slot : w % 256 ≤ lastData → slotsTaken (fieldOf w) ≡ 1
+  pub word-slot : w % flagUnit ≤ lastData → slotsTaken (fieldOf w) ≡ 1
   word-slot h = rw (word-shape h)
 
-  pub word-slotless : lastData < w % 256 → slotsTaken (fieldOf w) ≡ 0
+  pub word-slotless : lastData < w % flagUnit → slotsTaken (fieldOf w) ≡ 0
   unfolding fieldOf
-  word-slotless h = rw (move-code (w % 256) h)
+  word-slotless h = rw (move-code (w % flagUnit) h)
 
 -- the fields from the i-th on
 module _ (n : ℕ) (ws : List ℕ) (h : n ≤ length ws) where

@@ -24,7 +24,7 @@ use Rattle.layout.specs.Refusals.{if_then_else_, refused}
 use Rattle.layout.specs.Layout.{maxCount, isDecimal, digitRun, decimal, typeOf, flagged, countOf, countLength, inLimit, hasMeaning, toNat, takesSlot, field, bad, fieldAfter, fieldAt, stepOf}
 use Rattle.layout.proofs.Laws.{FitType, fit-either, decimal-held}
 use Rattle.layout.specs.declared.Found.the-variants.{Item, Bad}
-use Rattle.layout.specs.Words.{lastText, lastDigits, lastData, skipNumber, backNumber, gotoNumber, lastType, typeNumbered, countFrom, known, HasType, fieldOf, wordOf, overCount, heldNumber, NumberAt, CountAt, TailAt, FitCode, FitCount, FieldOf, FoundAs}
+use Rattle.layout.specs.Words.{lastText, lastDigits, lastData, skipNumber, backNumber, gotoNumber, lastType, typeNumbered, countFrom, known, HasType, fieldOf, wordOf, overCount, heldNumber, NumberAt, CountAt, TailAt, FitCode, FitCount, FieldOf, FoundAs, flagUnit, countUnit}
 
 -- ---- a decimal number from the place i on
 
@@ -142,10 +142,10 @@ pub word-field : (c : ℕ) (u : Bool) (n : ℕ) → c < 256 → fieldOf (wordOf 
 unfolding fieldOf
 word-field c u n h =
     let small : toNat u ≤ 1 = bit-le u in
-    let low : wordOf c u n % 256 ≡ c = omega arith in
-    let upper : wordOf c u n / 256 ≡ toNat u + 2 * n = omega arith in
+    let low : wordOf c u n % flagUnit ≡ c = omega arith in
+    let upper : wordOf c u n / flagUnit ≡ toNat u + 2 * n = omega arith in
     let flag : (toNat u + 2 * n) % 2 ≡ toNat u = omega arith in
-    let high : wordOf c u n / 512 ≡ n = omega arith in
+    let high : wordOf c u n / countUnit ≡ n = omega arith in
     rw (low, upper, flag, high, bit-of u)
 
 width-fits : (a b c : Bool) → (0 < (if a then 1 else if b then 2 else if c then 4 else 8)) × ((if a then 1 else if b then 2 else if c then 4 else 8) ≤ 8)
@@ -176,7 +176,7 @@ count-fits (suc (suc n)) h = omega arith
 pub field-fits : (w : ℕ) (f : Field) → w < 2 ^ 32 → f ≡ fieldOf w → FieldOf w f
 unfolding fieldOf
 field-fits w f h e =
-    record { same = e; code = rw e (known-fits (typeNumbered (w % 256)) (type-fits (w % 256))); count = rw e (count-fits (w / 512) (omega arith)) }
+    record { same = e; code = rw e (known-fits (typeNumbered (w % flagUnit)) (type-fits (w % flagUnit))); count = rw e (count-fits (w / countUnit) (omega arith)) }
 
 -- ---- the field at a type character
 
@@ -302,9 +302,9 @@ module _ (packing : Bool) (text : List ℕ) (p d b v e : ℕ) (s : Seen text p d
       omega (arith, s .tail .1 .1, bit, s .start)
 
   pub read-item : v ≤ lastCount → hasMeaning packing k (countFrom v) ≡ true → (t : ℕ) → t ≡ toNat (takesSlot k)
-      → FoundAs packing text p (Item (d + 256 * b + 512 * v) (e - (p + 1)) t)
+      → FoundAs packing text p (Item (d + flagUnit * b + countUnit * v) (e - (p + 1)) t)
   read-item h m t slot =
-      let w : d + 256 * b + 512 * v ≡ wordOf d u v = ap (λ (x : ℕ). d + 256 * x + 512 * v) bit in
+      let w : d + flagUnit * b + countUnit * v ≡ wordOf d u v = ap (λ (x : ℕ). d + flagUnit * x + countUnit * v) bit in
       let small : d < 256 = omega (arith, s .low) in
       record {
         step = rw (w, more) (step-field packing p _ _ (s .no-space) k typed u refl v number h d small numbered m);

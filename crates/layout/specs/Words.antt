@@ -64,7 +64,13 @@ typeNumbered k =
     else if eqb k gotoNumber then Known (Move Goto)
     else Unknown
 
--- ---- a word: the number of the type, 256 for the flag, 512 for each unit of the count's number
+-- ---- a word: the number of the type, one unit for the flag, and a unit for each of the count's number
+
+abbrev pub flagUnit : ℕ
+flagUnit = 256
+
+abbrev pub countUnit : ℕ
+countUnit = 2 * flagUnit
 
 -- a count as a number: 0 for none, 1 for a star, n + 2 for n
 abbrev pub countFrom : ℕ → Count
@@ -93,7 +99,7 @@ shapeNumbered d = shapeOf (known (typeNumbered d))
 
 unfoldable pub fieldOf : ℕ → Field
 unfolding typeNumbered
-fieldOf w = record { code = known (typeNumbered (w % 256)); unsigned = eqb (w / 256 % 2) 1; count = countFrom (w / 512) }
+fieldOf w = record { code = known (typeNumbered (w % flagUnit)); unsigned = eqb (w / flagUnit % 2) 1; count = countFrom (w / countUnit) }
 
 -- what every word's field keeps to: an integer has 1 to 8 bytes, and a count is below what a word of 32 bits can hold
 abbrev pub FitCode : Code → Type 0
@@ -113,7 +119,7 @@ pub record FieldOf (w : ℕ) (f : Field) : Type 0 where
   pub count : FitCount (f .count)
 
 abbrev pub wordOf : ℕ → Bool → ℕ → ℕ
-wordOf c u n = c + 256 * toNat u + 512 * n
+wordOf c u n = c + flagUnit * toNat u + countUnit * n
 
 -- the fields in the first n words
 unfoldable pub decoded : ℕ → List ℕ → List Field

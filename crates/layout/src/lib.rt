@@ -34,6 +34,11 @@ const GOTO: u32 = 26;
 
 const LAST_TYPE: u32 = GOTO;
 
+// A word: the number of the type, one unit for the flag, and a unit for each of the count's number.
+pub const FLAG_UNIT: u32 = 256;
+
+pub const COUNT_UNIT: u32 = 2 * FLAG_UNIT;
+
 // The form of a value that takes a slot.
 pub enum Shape {
     // a A: a string; the byte that pads it
@@ -351,7 +356,7 @@ fn read_field(text: &[u8], packing: bool, p: usize) -> Found
     if !has_meaning(packing, d, v) {
         return Found::Bad(Refusal::CountMisused, p);
     }
-    let word = d + 256 * t.flag + 512 * v;
+    let word = d + FLAG_UNIT * t.flag + COUNT_UNIT * v;
     let more = t.next - (p + 1);
     Found::Item(word, more, bit(d <= LAST_DATA))
 }
@@ -411,11 +416,11 @@ fn code_numbered(k: u32) -> Code
 pub fn field_of(word: u32) -> Field
     ensures { λ r. ⌜ FieldOf word r ⌝ }
 {
-    let n = count_from(word / 512);
-    let k = code_numbered(word % 256);
+    let n = count_from(word / COUNT_UNIT);
+    let k = code_numbered(word % FLAG_UNIT);
     Field {
         code: k,
-        unsigned: word / 256 % 2 == 1,
+        unsigned: word / FLAG_UNIT % 2 == 1,
         count: n,
     }
 }
@@ -424,5 +429,5 @@ pub fn field_of(word: u32) -> Field
 pub fn slots_in(word: u32) -> usize
     ensures { λ r. ⌜ SlotsIn word r ⌝ }
 {
-    if word % 256 <= LAST_DATA { 1 } else { 0 }
+    if word % FLAG_UNIT <= LAST_DATA { 1 } else { 0 }
 }

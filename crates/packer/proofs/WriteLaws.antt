@@ -13,7 +13,7 @@ use Rattle.layout.specs.declared.Count.{Count}
 use Rattle.layout.specs.declared.Field.{Field}
 use Rattle.layout.specs.Refusals.{ok, _>>=_}
 use Rattle.layout.specs.Layout.{takesSlot, toNat}
-use Rattle.layout.specs.Words.{lastData, shapeNumbered, countFrom, fieldOf, slotsTaken, decoded, FieldOf}
+use Rattle.layout.specs.Words.{lastData, shapeNumbered, countFrom, fieldOf, slotsTaken, decoded, FieldOf, flagUnit, countUnit}
 use Rattle.layout.proofs.Laws.{bound, ok-inj}
 use Rattle.layout.proofs.Decoded.{word-shape, word-count, word-slotless, no-field}
 use Rattle.record.specs.declared.Cursor.{Cursor}
@@ -36,11 +36,11 @@ use Rattle.packer.proofs.RunLaws.{room-ok, room-step, room-end}
 -- ---- one field
 
 -- a word's field by the number of its type
-pub puttable-data : (area ns : List ℕ) (k w : ℕ) (c : Cursor) (size : ℕ) → Puttable area ns k c (fieldOf w .code) (fieldOf w .count) size → w % 256 ≤ lastData
-    → Puttable area ns k c (Data (shapeNumbered (w % 256))) (countFrom (w / 512)) size
+pub puttable-data : (area ns : List ℕ) (k w : ℕ) (c : Cursor) (size : ℕ) → Puttable area ns k c (fieldOf w .code) (fieldOf w .count) size → w % flagUnit ≤ lastData
+    → Puttable area ns k c (Data (shapeNumbered (w % flagUnit))) (countFrom (w / countUnit)) size
 puttable-data area ns k w c size p h = rw (word-shape w h, word-count w) at p
 
-pub no-value : (w : ℕ) (f : Field) (s : Shape) → f ≡ fieldOf w → lastData < w % 256 → f .code ≡ Data s → ⊥
+pub no-value : (w : ℕ) (f : Field) (s : Shape) → f ≡ fieldOf w → lastData < w % flagUnit → f .code ≡ Data s → ⊥
 no-value w f s e h q =
     let none : slotsTaken f ≡ 0 = rw e (word-slotless w h) in
     let one : slotsTaken f ≡ 1 = rw q in

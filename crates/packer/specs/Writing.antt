@@ -12,13 +12,13 @@ use Rattle.layout.specs.declared.Shape.{Shape}
 use Rattle.layout.specs.declared.Shape.the-variants.{Text, Digits, Integers}
 use Rattle.layout.specs.declared.Count.{Count}
 use Rattle.layout.specs.declared.Field.{Field}
-use Rattle.layout.specs.Words.{slotsTaken, decoded, FitCode}
+use Rattle.layout.specs.Words.{slotsTaken, decoded, fieldOf, FitCode}
 use Rattle.record.specs.declared.Cursor.{Cursor}
 use Rattle.record.specs.Bytes.{storeAt}
 use Rattle.record.specs.declared.slots.Slot.{Slot}
 use Rattle.record.specs.Table.{slotsOf, shown, maxRecord}
 use Rattle.record.specs.Geometry.{amount, bytesFor, gotoIn}
-use Rattle.record.specs.Packing.{stored, nextSlot, kindFits, digitsFit, insideArea}
+use Rattle.record.specs.Packing.{stored, nextSlot, kindFits, digitsFit, insideArea, finished, Packed, packEffect}
 use Rattle.record.specs.Slots.{slotAt}
 use Rattle.record.specs.Cursor.{origin, moved}
 use Rattle.arguments.specs.Measure.{advance, stepped, checked, HasRoom, Ready, Prepared}
@@ -39,11 +39,19 @@ unfolding stored shown
 put area t out c (Data s) n = storeAt out (c .at) (stored s (amount n (t .len)) (shown area t .items))
 put area t out c (Move m) n = putMove out c m n
 
+-- the field of a word is put into the buffer, and r is the cursor behind it
+abbrev pub Puts : ℕ → List ℕ → Slot → Cursor → List ℕ → Cursor → List ℕ → Type 0
+Puts word area t c out r out′ = (r ≡ advance c (fieldOf word .code) (fieldOf word .count) (t .len)) × (out′ ≡ put area t out c (fieldOf word .code) (fieldOf word .count))
+
 unfoldable pub written : List ℕ → List Slot → List Field → Cursor → List ℕ → List ℕ
 unfolding put
 written area ts [] c out = out
 written area ts (f ∷ fs) c out =
     written area (drop (slotsTaken f) ts) fs (advance c (f .code) (f .count) (nextSlot ts .len)) (put area (nextSlot ts) out c (f .code) (f .count))
+
+-- what a call leaves, once there is a slot for each of the fields in the first n words that takes one
+abbrev pub finishes : List ℕ → ℕ → List ℕ → List ℕ → List ℕ → Packed
+finishes words n slots area output = packEffect output (finished area (slotsOf slots) (decoded n words) output)
 
 -- ---- what the code relies on
 

@@ -3,10 +3,11 @@
 ghost use mathlib.Core.Path.{_≡_};
 ghost use Prim.Native.Nat.{_≤_};
 ghost use lib.ListN.{length};
-ghost use Rattle.layout.specs.Words.{decoded};
-ghost use Rattle.record.specs.Table.{slotsOf, maxRecord};
-ghost use Rattle.record.specs.Packing.{finished, packEffect, pack};
+ghost use Rattle.layout.specs.Lent.{before, after};
+ghost use Rattle.record.specs.Table.{maxRecord};
+ghost use Rattle.record.specs.Packing.{pack};
 ghost use Rattle.arguments.specs.Measure.{Prepared};
+ghost use Rattle.packer.specs.Writing.{finishes};
 use arguments::Measured;
 use layout::Parsed;
 use layout::Refusal;
@@ -23,7 +24,7 @@ fn finish(
     output: &mut [u8],
 ) -> Answer
     requires { ⌜ Prepared n (now words) (now slots) × (length (now output) ≤ maxRecord) ⌝ }
-    ensures { λ r. ⌜ record { answer = r; output = now (output .exit) } ≡ packEffect (now (output .entry)) (finished (now (area .entry)) (slotsOf (now (slots .entry))) (decoded n (now (words .entry))) (now (output .entry))) ⌝ }
+    ensures { λ r. ⌜ record { answer = r; output = after output } ≡ finishes (before words) n (before slots) (before area) (before output) ⌝ }
 {
     let m = arguments::measure(words, n, slots, area);
     match m {
@@ -40,7 +41,7 @@ fn finish(
 
 // Packs the arguments into the output by the layout. A refusal changes nothing.
 pub fn pack(layout: &[u8], slots: &[u32], area: &[u8], output: &mut [u8]) -> Answer
-    ensures { λ r. ⌜ record { answer = r; output = now (output .exit) } ≡ pack (now (layout .entry)) (now (slots .entry)) (now (area .entry)) (now (output .entry)) ⌝ }
+    ensures { λ r. ⌜ record { answer = r; output = after output } ≡ pack (before layout) (before slots) (before area) (before output) ⌝ }
 {
     if !record::lengths_fit(layout.len(), slots.len(), output.len(), area.len()) {
         return Answer::refused(Refusal::BadSize, 0);

@@ -5,6 +5,7 @@ ghost use Prim.Native.Nat.{_+_, _≤_, _<_};
 ghost use lib.ListN.{length};
 ghost use Rattle.layout.specs.declared.Shape.the-variants.{Text, Digits, Integers};
 ghost use Rattle.layout.specs.Words.{lastData, decoded, fieldOf, shapeNumbered};
+ghost use Rattle.layout.specs.Lent.{before, after};
 ghost use Rattle.record.specs.Bytes.{storeAt};
 ghost use Rattle.record.specs.Table.{slotsOf, shown};
 ghost use Rattle.record.specs.Packing.{stored};
@@ -12,7 +13,7 @@ ghost use Rattle.record.specs.Slots.{slotAt};
 ghost use Rattle.record.specs.Cursor.{origin, moved};
 ghost use Rattle.digits.specs.Steps.{binarySteps, binaryBudget};
 ghost use Rattle.arguments.specs.Measure.{advance};
-ghost use Rattle.packer.specs.Writing.{putMove, put, written, StoredAs, Storable, Movable, Puttable, Writable};
+ghost use Rattle.packer.specs.Writing.{putMove, written, StoredAs, Puts, Storable, Movable, Puttable, Writable};
 use layout::Code;
 use layout::Count;
 use layout::Motion;
@@ -123,12 +124,12 @@ fn put_move(m: Motion, n: Count, c: Cursor, out: &mut [u8]) -> Cursor
 // One field of the pass.
 fn put(word: u32, slots: &[u32], area: &[u8], k: usize, c: Cursor, out: &mut [u8]) -> Cursor
     requires { ⌜ Puttable (now area) (now slots) k c (fieldOf word .code) (fieldOf word .count) (length (now out)) ⌝ }
-    ensures { λ r. ⌜ (r ≡ advance c (fieldOf word .code) (fieldOf word .count) (slotAt (now (slots .entry)) k .len)) × (now (out .exit) ≡ put (now (area .entry)) (slotAt (now (slots .entry)) k) (now (out .entry)) c (fieldOf word .code) (fieldOf word .count)) ⌝ }
+    ensures { λ r. ⌜ Puts word (before area) (slotAt (before slots) k) c (before out) r (after out) ⌝ }
 {
-    let d = word % 256;
+    let d = word % layout::FLAG_UNIT;
     if d <= layout::LAST_DATA {
         let a = record::slots::slot_at(slots, k);
-        let n = layout::count_from(word / 512);
+        let n = layout::count_from(word / layout::COUNT_UNIT);
         let bytes = store_value(d, record::amount(n, a.len), a, area, out, c.at);
         return c.store(bytes);
     }
@@ -150,7 +151,7 @@ pub fn write(
     out: &mut [u8],
 )
     requires { ⌜ Writable (now area) n (now words) (now slots) (length (now out)) ⌝ }
-    ensures { λ _. ⌜ now (out .exit) ≡ written (now (area .entry)) (slotsOf (now (slots .entry))) (decoded n (now (words .entry))) origin (now (out .entry)) ⌝ }
+    ensures { λ _. ⌜ after out ≡ written (before area) (slotsOf (before slots)) (decoded n (before words)) origin (before out) ⌝ }
 {
     let mut c = Cursor::new(0);
     let mut k: usize = 0;

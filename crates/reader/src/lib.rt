@@ -4,10 +4,11 @@ ghost use mathlib.Core.Path.{_≡_};
 ghost use Prim.Native.Nat.{_*_, _≤_};
 ghost use lib.ListN.{length};
 ghost use Rattle.layout.specs.Layout.{maxLayout};
-ghost use Rattle.layout.specs.Words.{decoded};
+ghost use Rattle.layout.specs.Lent.{before, after};
 ghost use Rattle.record.specs.Table.{slotWidth, maxSlots, maxRecord, valueBytes};
-ghost use Rattle.record.specs.Reading.{valuesFrom, read};
+ghost use Rattle.record.specs.Reading.{read};
 ghost use Rattle.reader.specs.Sizes.{lentFits};
+ghost use Rattle.reader.specs.Tables.{valuesOf};
 ghost use Rattle.reader.specs.Checks.{checked, fitting};
 use layout::Parsed;
 use layout::Refusal;
@@ -38,7 +39,7 @@ fn fits(
     room: usize,
 ) -> Answer
     requires { ⌜ (n ≤ length (now words)) × (length (now words) ≡ maxLayout) × (length (now bytes) ≤ maxRecord) × (slots ≤ slotWidth * maxSlots) ⌝ }
-    ensures { λ r. ⌜ r ≡ fitting slots taken room (length (valueBytes (valuesFrom (now (bytes .entry)) 0 (decoded n (now (words .entry)))))) ⌝ }
+    ensures { λ r. ⌜ r ≡ fitting slots taken room (length (valueBytes (valuesOf n (before words) (before bytes)))) ⌝ }
 {
     if slots / record::SLOT_WIDTH < taken {
         return Answer::refused(Refusal::WrongSlots, 0);
@@ -52,7 +53,7 @@ fn fits(
 
 // Whether `read` would refuse, and how; else 0, the fields that take a slot, and 0. Nothing is written.
 pub fn check(layout: &[u8], bytes: &[u8], slots: &[u32], area: &[u8], mark: usize) -> Answer
-    ensures { λ r. ⌜ r ≡ checked (now (layout .entry)) (now (bytes .entry)) (now (slots .entry)) (now (area .entry)) mark ⌝ }
+    ensures { λ r. ⌜ r ≡ checked (before layout) (before bytes) (before slots) (before area) mark ⌝ }
 {
     if !sizes_fit(layout.len(), slots.len(), bytes.len(), area.len(), mark) {
         return Answer::refused(Refusal::BadSize, 0);
@@ -70,7 +71,7 @@ pub fn check(layout: &[u8], bytes: &[u8], slots: &[u32], area: &[u8], mark: usiz
 // Reads a record by a layout: sets slots from the first on, and puts their values into the area from the mark on. A refusal changes nothing.
 // (It checks as `check` does and does not call it: the words stay here, and a call that fills them for its caller costs more than the checks.)
 pub fn read(layout: &[u8], bytes: &[u8], slots: &mut [u32], area: &mut [u8], mark: usize) -> Answer
-    ensures { λ r. ⌜ record { answer = r; slots = now (slots .exit); area = now (area .exit) } ≡ read (now (layout .entry)) (now (bytes .entry)) (now (slots .entry)) (now (area .entry)) mark ⌝ }
+    ensures { λ r. ⌜ record { answer = r; slots = after slots; area = after area } ≡ read (before layout) (before bytes) (before slots) (before area) mark ⌝ }
 {
     if !sizes_fit(layout.len(), slots.len(), bytes.len(), area.len(), mark) {
         return Answer::refused(Refusal::BadSize, 0);

@@ -3,7 +3,7 @@ use native.Mathlib.Omega.{arith}
 use Rattle.record.specs.Geometry.{itemsLimit}
 use Prim.Native.Nat.{_/_, _%_, _<_}
 use Rattle.layout.specs.declared.Code.the-variants.{Data}
-use Rattle.layout.specs.Words.{shapeNumbered, countFrom}
+use Rattle.layout.specs.Words.{shapeNumbered, countFrom, flagUnit, countUnit}
 use Rattle.record.proofs.Moves.{amount-small}
 use Rattle.record.proofs.Bounds.{bytes-small}
 use Rattle.arguments.specs.Measure.{Ready}
@@ -13,7 +13,7 @@ use Rattle.arguments.proofs.step.Statement.{statement}
 use Rattle.arguments.proofs.step.Tie as tie
 
 ready : (c : tie.Then1)
-    → Ready (c .before .before .before .args .slots .now) (c .before .before .before .args .k) (c .before .before .before .args .c) (Data (shapeNumbered (c .before .before .before .args .word % 256))) (countFrom (c .before .before .before .args .word / 512))
+    → Ready (c .before .before .before .args .slots .now) (c .before .before .before .args .k) (c .before .before .before .args .c) (Data (shapeNumbered (c .before .before .before .args .word % flagUnit))) (countFrom (c .before .before .before .args .word / countUnit))
 ready c = ready-data _ _ _ _ (c .before .before .before .pre) (c .if1 .taken)
 
 items : (c : tie.After-amount) → c .amount .result < itemsLimit
@@ -40,7 +40,7 @@ bytes-numbered-requires c κs = (items c, omega (arith, c .before .before .befor
 store-requires : tie.Need-store-requires
 store-requires c κs =
     let r = ready (c .before .before .before .before .before .before) in
-    omega (arith, c .bytes-numbered .ensures, items (c .before), bytes-small (shapeNumbered (c .before .before .before .before .before .before .before .before .before .args .word % 256)) (c .before .amount .result) (r .codeFits), r .near)
+    omega (arith, c .bytes-numbered .ensures, items (c .before), bytes-small (shapeNumbered (c .before .before .before .before .before .before .before .before .before .args .word % flagUnit)) (c .before .amount .result) (r .codeFits), r .near)
 
 returns : tie.Need-returns
 returns c =

@@ -4,7 +4,7 @@ use Prim.Native.Nat.{_/_, _%_}
 use mathlib.Core.Path.{_≡_, _∙_}
 use lib.ListN.{length}
 use Rattle.layout.specs.declared.Code.the-variants.{Data, Move}
-use Rattle.layout.specs.Words.{shapeNumbered, countFrom}
+use Rattle.layout.specs.Words.{shapeNumbered, countFrom, flagUnit, countUnit}
 use Rattle.layout.proofs.Decoded.{word-shape, word-count}
 use Rattle.record.specs.Geometry.{amount}
 use Rattle.packer.specs.Writing.{put, Puttable, Storable}
@@ -14,14 +14,14 @@ use Rattle.packer.proofs.write.put.Statement.{statement}
 use Rattle.packer.proofs.write.put.Tie as tie
 
 as-data : (c : tie.Then1)
-    → Puttable (c .before .before .before .before .args .area .now) (c .before .before .before .before .args .slots .now) (c .before .before .before .before .args .k) (c .before .before .before .before .args .c) (Data (shapeNumbered (c .before .before .before .before .args .word % 256))) (countFrom (c .before .before .before .before .args .word / 512)) (length (c .before .before .before .before .args .out .now))
+    → Puttable (c .before .before .before .before .args .area .now) (c .before .before .before .before .args .slots .now) (c .before .before .before .before .args .k) (c .before .before .before .before .args .c) (Data (shapeNumbered (c .before .before .before .before .args .word % flagUnit))) (countFrom (c .before .before .before .before .args .word / countUnit)) (length (c .before .before .before .before .args .out .now))
 as-data c = puttable-data _ _ _ _ _ _ (c .before .before .before .before .pre) (c .if1 .taken)
 
-asked : (c : tie.After-amount) → c .amount .result ≡ amount (countFrom (c .before .before .before .before .before .before .before .args .word / 512)) (c .before .before .slot-at .result .len)
+asked : (c : tie.After-amount) → c .amount .result ≡ amount (countFrom (c .before .before .before .before .before .before .before .args .word / countUnit)) (c .before .before .slot-at .result .len)
 asked c = c .amount .ensures ∙ rw (c .before .count-from .ensures)
 
 stored-value : (c : tie.After-amount)
-    → Storable (c .before .before .before .before .before .before .before .args .area .now) (shapeNumbered (c .before .before .before .before .before .before .before .args .word % 256)) (c .amount .result) (c .before .before .slot-at .result) (c .before .before .before .before .before .before .before .args .c .at) (length (c .before .before .before .before .before .before .before .args .out .now))
+    → Storable (c .before .before .before .before .before .before .before .args .area .now) (shapeNumbered (c .before .before .before .before .before .before .before .args .word % flagUnit)) (c .amount .result) (c .before .before .slot-at .result) (c .before .before .before .before .before .before .before .args .c .at) (length (c .before .before .before .before .before .before .before .args .out .now))
 stored-value c = storable _ _ _ _ _ _ _ (as-data (c .before .before .before)) _ (c .before .before .slot-at .ensures .same) _ (asked c)
 
 as-move : (c : tie.After-known-told)
