@@ -1,5 +1,6 @@
 -- Two copies of one record compared, value field by value field (02, M-102): THE EFFECT OF A CALL is `compare`, at the end.
 use Prim.Native.Nat.{ℕ, zero, suc, _+_, _*_}
+use mathlib.Core.Path.{_≡_}
 use mathlib.Core.Bool.{Bool, true, false, _&&_}
 use mathlib.Core.List.{List, [], _∷_, _++_, map}
 use lib.ListN.{length, drop}
@@ -7,6 +8,7 @@ use lib.Dec.{eqb, leb}
 use Rattle.layout.specs.declared.Refusal.the-variants.{NoRoom}
 use Rattle.layout.specs.Refusals.{if_then_else_, Result, ok, refused, _>>=_, demand}
 use Rattle.layout.specs.Layout.{fieldsOf, slotCount}
+use Rattle.layout.specs.Lent.{Lent, before, after}
 use Rattle.record.specs.declared.Answer.{Answer}
 use Rattle.record.specs.Bytes.{join, digits}
 use Rattle.record.specs.Table.{Value, areaBytes}
@@ -143,3 +145,16 @@ unfoldable pub compare : List ℕ → List ℕ → List ℕ → List ℕ → Lis
 unfolding compares compareEffect
 compare layout first second firstSlots firstArea secondSlots secondArea report =
     compareEffect firstSlots firstArea secondSlots secondArea report (compares layout first second firstSlots firstArea secondSlots secondArea report)
+
+-- what a call promises that answered r
+abbrev pub Compares : Lent → Lent → Lent → Lent → Lent → Lent → Lent → Lent → Answer → Type 0
+Compares layout first second firstSlots firstArea secondSlots secondArea report r =
+    record {
+      answer = r;
+      firstSlots = after firstSlots;
+      firstArea = after firstArea;
+      secondSlots = after secondSlots;
+      secondArea = after secondArea;
+      report = after report;
+    }
+    ≡ compare (before layout) (before first) (before second) (before firstSlots) (before firstArea) (before secondSlots) (before secondArea) (before report)

@@ -2,11 +2,13 @@
 use Prim.Native.Nat.{ℕ, _*_, _≤_, _<_}
 use mathlib.Core.List.{List, [], _∷_, map}
 use lib.ListN.{length, take, drop}
+use Rattle.layout.specs.Lent.{Lent, before}
 use Rattle.record.specs.Bytes.{part}
 use Rattle.record.specs.declared.slots.Slot.{Slot}
 use Rattle.record.specs.Table.{slotWidth, maxArea, slotsOf, itemSize}
 use Rattle.record.specs.Packing.{nextSlot}
 use Rattle.record.specs.Slots.{slotAt, valueEnd}
+use Rattle.compare.specs.Comparing.{row}
 use Rattle.compare.specs.declared.report.Span.{Span}
 use Rattle.compare.specs.declared.value.Row.{Row}
 
@@ -28,6 +30,13 @@ bytesOf area s = part area (s .start) (sizeOf s)
 unfoldable pub shownBytes : List ℕ → List ℕ → ℕ → List (List ℕ)
 unfolding slotsOf
 shownBytes slots area n = map (bytesOf area) (take n (slotsOf slots))
+
+-- the same of a table and an area that are lent to a call, and the row of field i
+abbrev pub shownBy : Lent → Lent → ℕ → List (List ℕ)
+shownBy slots area n = shownBytes (before slots) (before area) n
+
+abbrev pub rowAt : ℕ → List (List ℕ) → List (List ℕ) → List ℕ
+rowAt i first second = row (drop i first) (drop i second)
 
 -- the first n slots are there, and their values lie in the area
 pub record Holds (slots area : List ℕ) (n : ℕ) : Type 0 where

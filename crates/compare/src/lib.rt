@@ -1,7 +1,6 @@
 // Two copies of one record compared by their layout: for each value field whether both show the same value, and if not where and how far they differ.
 // Both readings are checked before anything is written.
-ghost use mathlib.Core.Path.{_≡_};
-ghost use Rattle.compare.specs.Comparing.{compare};
+ghost use Rattle.compare.specs.Comparing.{Compares};
 use layout::Refusal;
 use record::Answer;
 
@@ -22,7 +21,7 @@ pub fn compare(
     second_area: &mut [u8],
     report: &mut [u32],
 ) -> Answer
-    ensures { λ r. ⌜ record { answer = r; firstSlots = now («first_slots» .exit); firstArea = now («first_area» .exit); secondSlots = now («second_slots» .exit); secondArea = now («second_area» .exit); report = now (report .exit) } ≡ compare (now (layout .entry)) (now (first .entry)) (now (second .entry)) (now («first_slots» .entry)) (now («first_area» .entry)) (now («second_slots» .entry)) (now («second_area» .entry)) (now (report .entry)) ⌝ }
+    ensures { λ r. ⌜ Compares layout first second «first_slots» «first_area» «second_slots» «second_area» report r ⌝ }
 {
     let a = reader::check(layout, first, first_slots, first_area, 0);
     if a.number != 0 {

@@ -1,11 +1,12 @@
 // The report: a row for each value field, by what the two readings left in their tables and areas.
 ghost use mathlib.Core.Path.{_≡_};
 ghost use Prim.Native.Nat.{_+_, _*_, _≤_};
-ghost use lib.ListN.{length, drop};
+ghost use lib.ListN.{length};
+ghost use Rattle.layout.specs.Lent.{before, after};
 ghost use Rattle.record.specs.Bytes.{storeAt};
 ghost use Rattle.record.specs.Table.{slotWidth};
-ghost use Rattle.compare.specs.Comparing.{reportWidth, row, rows};
-ghost use Rattle.compare.specs.Shown.{numbers, spanAt, shownBytes, Holds};
+ghost use Rattle.compare.specs.Comparing.{reportWidth, rows};
+ghost use Rattle.compare.specs.Shown.{numbers, spanAt, shownBy, rowAt, Holds};
 use super::REPORT_WIDTH;
 use super::value;
 use super::value::Row;
@@ -39,7 +40,7 @@ fn field_row(
     m: usize,
 ) -> Row
     requires { ⌜ Holds (now «first_slots») (now «first_area») n × Holds (now «second_slots») (now «second_area») m ⌝ }
-    ensures { λ r. ⌜ numbers r ≡ row (drop i (shownBytes (now («first_slots» .entry)) (now («first_area» .entry)) n)) (drop i (shownBytes (now («second_slots» .entry)) (now («second_area» .entry)) m)) ⌝ }
+    ensures { λ r. ⌜ numbers r ≡ rowAt i (shownBy «first_slots» «first_area» n) (shownBy «second_slots» «second_area» m) ⌝ }
 {
     if i < n {
         if i < m {
@@ -78,7 +79,7 @@ pub fn write(
 )
     requires { ⌜ reportWidth * fields ≤ length (now report) ⌝ }
     requires { ⌜ Holds (now «first_slots») (now «first_area») n × Holds (now «second_slots») (now «second_area») m ⌝ }
-    ensures { λ _. ⌜ now (report .exit) ≡ storeAt (now (report .entry)) 0 (rows fields (shownBytes (now («first_slots» .entry)) (now («first_area» .entry)) n) (shownBytes (now («second_slots» .entry)) (now («second_area» .entry)) m)) ⌝ }
+    ensures { λ _. ⌜ after report ≡ storeAt (before report) 0 (rows fields (shownBy «first_slots» «first_area» n) (shownBy «second_slots» «second_area» m)) ⌝ }
 {
     let mut i: usize = 0;
     while i < fields {

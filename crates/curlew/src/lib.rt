@@ -1,10 +1,9 @@
 // The calls that a C host links to, each under its C name: the crates host_* hold what they do.
-ghost use mathlib.Core.Path.{_≡_};
-ghost use Rattle.host_record.specs.Calls.{curlewPack, curlewRead};
-ghost use Rattle.host_sheet.specs.Calls.{curlewSheetWrite, curlewSheetRead};
-ghost use Rattle.host_compare.specs.Calls.{curlewCompare};
-ghost use Rattle.host_mean.specs.Calls.{curlewMean};
-ghost use Rattle.host_perl.specs.Calls.{curlewFromPerl};
+ghost use Rattle.host_record.specs.Calls.{HostPacks, HostReads};
+ghost use Rattle.host_sheet.specs.Calls.{HostWritesSheet, HostReadsSheet};
+ghost use Rattle.host_compare.specs.Calls.{HostCompares};
+ghost use Rattle.host_mean.specs.Calls.{HostMeans};
+ghost use Rattle.host_perl.specs.Calls.{HostConverts};
 
 // Packs the arguments into `out` by the layout (Tcl's `binary format`).
 #[no_mangle]
@@ -15,7 +14,7 @@ pub extern "C" fn curlew_pack(
     out: &mut [u8],
     reply: &mut [u8],
 ) -> u32
-    ensures { λ r. ⌜ record { returned = r; output = now (out .exit); reply = now (reply .exit) } ≡ curlewPack (now (layout .entry)) (now (slots .entry)) (now (area .entry)) (now (out .entry)) (now (reply .entry)) ⌝ }
+    ensures { λ r. ⌜ HostPacks layout slots area out reply r ⌝ }
 {
     host_record::pack(layout, slots, area, out, reply)
 }
@@ -30,7 +29,7 @@ pub extern "C" fn curlew_read(
     mark: usize,
     reply: &mut [u8],
 ) -> u32
-    ensures { λ r. ⌜ record { returned = r; slots = now (slots .exit); area = now (area .exit); reply = now (reply .exit) } ≡ curlewRead (now (layout .entry)) (now (bytes .entry)) (now (slots .entry)) (now (area .entry)) mark (now (reply .entry)) ⌝ }
+    ensures { λ r. ⌜ HostReads layout bytes slots area mark reply r ⌝ }
 {
     host_record::read(layout, bytes, slots, area, mark, reply)
 }
@@ -43,7 +42,7 @@ pub extern "C" fn curlew_sheet_write(
     sheet: &mut [u8],
     reply: &mut [u8],
 ) -> u32
-    ensures { λ r. ⌜ record { returned = r; output = now (sheet .exit); reply = now (reply .exit) } ≡ curlewSheetWrite (now (slots .entry)) (now (area .entry)) (now (sheet .entry)) (now (reply .entry)) ⌝ }
+    ensures { λ r. ⌜ HostWritesSheet slots area sheet reply r ⌝ }
 {
     host_sheet::write(slots, area, sheet, reply)
 }
@@ -57,7 +56,7 @@ pub extern "C" fn curlew_sheet_read(
     mark: usize,
     reply: &mut [u8],
 ) -> u32
-    ensures { λ r. ⌜ record { returned = r; slots = now (slots .exit); area = now (area .exit); reply = now (reply .exit) } ≡ curlewSheetRead (now (sheet .entry)) (now (slots .entry)) (now (area .entry)) mark (now (reply .entry)) ⌝ }
+    ensures { λ r. ⌜ HostReadsSheet sheet slots area mark reply r ⌝ }
 {
     host_sheet::read(sheet, slots, area, mark, reply)
 }
@@ -75,7 +74,7 @@ pub extern "C" fn curlew_compare(
     report: &mut [u8],
     reply: &mut [u8],
 ) -> u32
-    ensures { λ r. ⌜ record { returned = r; firstSlots = now («first_slots» .exit); firstArea = now («first_area» .exit); secondSlots = now («second_slots» .exit); secondArea = now («second_area» .exit); report = now (report .exit); reply = now (reply .exit) } ≡ curlewCompare (now (layout .entry)) (now (first .entry)) (now (second .entry)) (now («first_slots» .entry)) (now («first_area» .entry)) (now («second_slots» .entry)) (now («second_area» .entry)) (now (report .entry)) (now (reply .entry)) ⌝ }
+    ensures { λ r. ⌜ HostCompares layout first second «first_slots» «first_area» «second_slots» «second_area» report reply r ⌝ }
 {
     host_compare::compare(
         layout,
@@ -93,7 +92,7 @@ pub extern "C" fn curlew_compare(
 // The mean of the marked legs of a table, and how many of its slots are not set.
 #[no_mangle]
 pub extern "C" fn curlew_mean(slots: &[u8], area: &[u8], reply: &mut [u8]) -> u32
-    ensures { λ r. ⌜ record { returned = r; reply = now (reply .exit) } ≡ curlewMean (now (slots .entry)) (now (area .entry)) (now (reply .entry)) ⌝ }
+    ensures { λ r. ⌜ HostMeans slots area reply r ⌝ }
 {
     host_mean::mean(slots, area, reply)
 }
@@ -101,7 +100,7 @@ pub extern "C" fn curlew_mean(slots: &[u8], area: &[u8], reply: &mut [u8]) -> u3
 // Writes the layout that a Perl template stands for.
 #[no_mangle]
 pub extern "C" fn curlew_from_perl(template: &[u8], layout: &mut [u8], reply: &mut [u8]) -> u32
-    ensures { λ r. ⌜ record { returned = r; layout = now (layout .exit); reply = now (reply .exit) } ≡ curlewFromPerl (now (template .entry)) (now (layout .entry)) (now (reply .entry)) ⌝ }
+    ensures { λ r. ⌜ HostConverts template layout reply r ⌝ }
 {
     host_perl::from_perl(template, layout, reply)
 }

@@ -1,13 +1,15 @@
 -- Comparing two copies of a record for a C host (02, M-102; 01, Slot tables). THE EFFECT OF A CALL is `curlewCompare`, at the end.
 use Prim.Native.Nat.{ℕ, _*_, _%_}
+use mathlib.Core.Path.{_≡_}
 use mathlib.Core.Bool.{Bool}
 use mathlib.Core.List.{List, _++_}
 use lib.Dec.{eqb}
 use lib.ListN.{length, take, drop}
 use Rattle.layout.specs.declared.Refusal.the-variants.{BadSize}
 use Rattle.layout.specs.Refusals.{if_then_else_, numberOf, Result, ok, refused, _>>=_, demand}
+use Rattle.layout.specs.Lent.{Lent, before, after}
 use Rattle.record.specs.Reading.{reads}
-use Rattle.compare.specs.Comparing.{reportWidth, Shown, compares, compareEffect, Compared}
+use Rattle.compare.specs.Comparing.{reportWidth, Shown, compares, compareEffect, Compared, compare}
 use Rattle.host.specs.Host.{numberSize, slotSize, replySize, numbersIn, bytesOf, replyOf}
 
 -- the bytes of a row of the report
@@ -70,3 +72,28 @@ curlewCompare layout first second firstSlots firstArea secondSlots secondArea re
       report = report;
       reply = reply;
     }
+
+-- what a call left that returned r
+abbrev pub leftBy : Lent → Lent → Lent → Lent → Lent → Lent → ℕ → CompareCall
+leftBy firstSlots firstArea secondSlots secondArea report reply r =
+    record {
+      returned = r;
+      firstSlots = after firstSlots;
+      firstArea = after firstArea;
+      secondSlots = after secondSlots;
+      secondArea = after secondArea;
+      report = after report;
+      reply = after reply;
+    }
+
+-- what it promises; and the same where the reply is written and the slots are whole
+abbrev pub HostCompares : Lent → Lent → Lent → Lent → Lent → Lent → Lent → Lent → Lent → ℕ → Type 0
+HostCompares layout first second firstSlots firstArea secondSlots secondArea report reply r =
+    leftBy firstSlots firstArea secondSlots secondArea report reply r
+    ≡ curlewCompare (before layout) (before first) (before second) (before firstSlots) (before firstArea) (before secondSlots) (before secondArea) (before report) (before reply)
+
+abbrev pub CompareServed : Lent → Lent → Lent → Lent → Lent → Lent → Lent → Lent → Lent → ℕ → Type 0
+CompareServed layout first second firstSlots firstArea secondSlots secondArea report reply r =
+    leftBy firstSlots firstArea secondSlots secondArea report reply r
+    ≡ compareCall (before firstSlots) (before secondSlots) (before report)
+    (compare (before layout) (before first) (before second) (numbersIn (before firstSlots)) (before firstArea) (numbersIn (before secondSlots)) (before secondArea) (numbersIn (before report)))

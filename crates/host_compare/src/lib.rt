@@ -3,11 +3,10 @@ ghost use mathlib.Core.Path.{_≡_};
 ghost use Prim.Native.Nat.{_*_, _/_, _%_, min};
 ghost use lib.ListN.{length};
 ghost use Rattle.record.specs.Table.{slotWidth, maxSlots};
-ghost use Rattle.host.specs.Host.{numberSize, replySize, numbersIn, replyOf};
-ghost use Rattle.reader.specs.Checks.{checked};
-ghost use Rattle.compare.specs.Comparing.{reportWidth, compare};
-ghost use Rattle.host_compare.specs.Calls.{compareCall, curlewCompare};
-ghost use Rattle.host_compare.specs.Steps.{secondCut};
+ghost use Rattle.host.specs.Host.{numberSize, replySize};
+ghost use Rattle.compare.specs.Comparing.{reportWidth};
+ghost use Rattle.host_compare.specs.Calls.{CompareServed, HostCompares};
+ghost use Rattle.host_compare.specs.Steps.{SecondRefused};
 use host::numbers;
 use layout::Refusal;
 use record::Answer;
@@ -18,7 +17,7 @@ const MAX_REPORT: usize = compare::REPORT_WIDTH * record::MAX_SLOTS;
 // The second table is cut or too long: the answer to the first reading's refusals, and else 1.
 fn refuse_second(layout: &[u8], first: &[u8], slots: &[u32], area: &[u8], reply: &mut [u8]) -> u32
     requires { ⌜ length (now reply) ≡ replySize ⌝ }
-    ensures { λ r. ⌜ (r ≡ secondCut (checked (now (layout .entry)) (now (first .entry)) (now (slots .entry)) (now (area .entry)) 0) .number) × (now (reply .exit) ≡ replyOf (secondCut (checked (now (layout .entry)) (now (first .entry)) (now (slots .entry)) (now (area .entry)) 0))) ⌝ }
+    ensures { λ r. ⌜ SecondRefused layout first slots area reply r ⌝ }
 {
     let a = reader::check(layout, first, slots, area, 0);
     if a.number != 0 {
@@ -45,7 +44,7 @@ fn compare_by(
     requires { ⌜ (length (now reply) ≡ replySize) × (length (now rows) ≡ min (length (now report) / numberSize) (reportWidth * maxSlots)) ⌝ }
     requires { ⌜ (length (now «first_slots») ≡ length (now «first_room») * numberSize) × (length (now «first_room») % slotWidth ≡ 0) ⌝ }
     requires { ⌜ (length (now «second_slots») ≡ length (now «second_room») * numberSize) × (length (now «second_room») % slotWidth ≡ 0) ⌝ }
-    ensures { λ r. ⌜ record { returned = r; firstSlots = now («first_slots» .exit); firstArea = now («first_area» .exit); secondSlots = now («second_slots» .exit); secondArea = now («second_area» .exit); report = now (report .exit); reply = now (reply .exit) } ≡ compareCall (now («first_slots» .entry)) (now («second_slots» .entry)) (now (report .entry)) (compare (now (layout .entry)) (now (first .entry)) (now (second .entry)) (numbersIn (now («first_slots» .entry))) (now («first_area» .entry)) (numbersIn (now («second_slots» .entry))) (now («second_area» .entry)) (numbersIn (now (report .entry)))) ⌝ }
+    ensures { λ r. ⌜ CompareServed layout first second «first_slots» «first_area» «second_slots» «second_area» report reply r ⌝ }
 {
     numbers::decode(first_slots, first_room);
     numbers::decode(second_slots, second_room);
@@ -81,7 +80,7 @@ pub fn compare(
     report: &mut [u8],
     reply: &mut [u8],
 ) -> u32
-    ensures { λ r. ⌜ record { returned = r; firstSlots = now («first_slots» .exit); firstArea = now («first_area» .exit); secondSlots = now («second_slots» .exit); secondArea = now («second_area» .exit); report = now (report .exit); reply = now (reply .exit) } ≡ curlewCompare (now (layout .entry)) (now (first .entry)) (now (second .entry)) (now («first_slots» .entry)) (now («first_area» .entry)) (now («second_slots» .entry)) (now («second_area» .entry)) (now (report .entry)) (now (reply .entry)) ⌝ }
+    ensures { λ r. ⌜ HostCompares layout first second «first_slots» «first_area» «second_slots» «second_area» report reply r ⌝ }
 {
     if !host::reply_fits(reply.len()) {
         return 1;

@@ -1,9 +1,11 @@
 -- The mean of the marked legs for a C host (02, M-104; 01, Slot tables). THE EFFECT OF A CALL is `curlewMean`, at the end.
 use Prim.Native.Nat.{ℕ, _+_, _*_}
+use mathlib.Core.Path.{_≡_}
 use mathlib.Core.List.{List, [], _∷_, _++_}
 use lib.Ieee.{binary64, toBits}
 use Rattle.layout.specs.declared.Refusal.the-variants.{BadSize}
 use Rattle.layout.specs.Refusals.{numberOf}
+use Rattle.layout.specs.Lent.{Lent, before, after}
 use Rattle.record.specs.Bytes.{numberBytes}
 use Rattle.record.specs.Table.{integerSize}
 use Rattle.record.specs.Packing.{refusal}
@@ -53,3 +55,10 @@ curlewMean slots area reply =
     (record { returned = numberOf BadSize; reply = reply })
     (meanCall (record { answer = refusal BadSize 0; mean = Unmarked }))
     (meanCall (mean (numbersIn slots) area))
+
+-- what a call promises that returned r; and the same where the reply is written and the slots are whole
+abbrev pub HostMeans : Lent → Lent → Lent → ℕ → Type 0
+HostMeans slots area reply r = record { returned = r; reply = after reply } ≡ curlewMean (before slots) (before area) (before reply)
+
+abbrev pub MeanServed : Lent → Lent → Lent → ℕ → Type 0
+MeanServed slots area reply r = record { returned = r; reply = after reply } ≡ meanCall (mean (numbersIn (before slots)) (before area))

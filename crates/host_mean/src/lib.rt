@@ -4,10 +4,9 @@ ghost use Prim.Native.Nat.{_*_, _%_};
 ghost use lib.Dec.{eqb};
 ghost use lib.ListN.{length};
 ghost use Rattle.record.specs.Table.{slotWidth};
-ghost use Rattle.host.specs.Host.{numberSize, numbersIn};
-ghost use Rattle.mean.specs.Mean.{mean};
+ghost use Rattle.host.specs.Host.{numberSize};
 ghost use Rattle.mean.specs.Claims.{Numeric};
-ghost use Rattle.host_mean.specs.Calls.{meanReplySize, follows, pattern, meanReply, meanCall, curlewMean};
+ghost use Rattle.host_mean.specs.Calls.{meanReplySize, follows, pattern, meanReply, MeanServed, HostMeans};
 use layout::Refusal;
 use mean::LegMean;
 use mean::Marks;
@@ -63,7 +62,7 @@ fn reply_with(reply: &mut [u8], r: Marks) -> u32
 // The mean, with room lent for the slots' numbers.
 fn mean_by(slots: &[u8], area: &[u8], reply: &mut [u8], room: &mut [u32]) -> u32
     requires { ⌜ (length (now reply) ≡ meanReplySize) × (length (now slots) ≡ length (now room) * numberSize) × (length (now room) % slotWidth ≡ 0) ⌝ }
-    ensures { λ r. ⌜ record { returned = r; reply = now (reply .exit) } ≡ meanCall (mean (numbersIn (now (slots .entry))) (now (area .entry))) ⌝ }
+    ensures { λ r. ⌜ MeanServed slots area reply r ⌝ }
 {
     host::numbers::decode(slots, room);
     let r = mean::mean(room, area);
@@ -72,7 +71,7 @@ fn mean_by(slots: &[u8], area: &[u8], reply: &mut [u8], room: &mut [u32]) -> u32
 
 // The mean of the marks in a table, and how many of its slots are not set.
 pub fn mean(slots: &[u8], area: &[u8], reply: &mut [u8]) -> u32
-    ensures { λ r. ⌜ record { returned = r; reply = now (reply .exit) } ≡ curlewMean (now (slots .entry)) (now (area .entry)) (now (reply .entry)) ⌝ }
+    ensures { λ r. ⌜ HostMeans slots area reply r ⌝ }
 {
     if !reply_fits(reply.len()) {
         return 1;

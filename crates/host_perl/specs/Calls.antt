@@ -1,10 +1,12 @@
 -- Perl templates for a C host (document 02, M-105; document 01, Slot tables). THE EFFECT OF A CALL is `curlewFromPerl`.
 use Prim.Native.Nat.{ℕ}
+use mathlib.Core.Path.{_≡_}
 use mathlib.Core.List.{List}
 use lib.Dec.{eqb}
 use lib.ListN.{length}
 use Rattle.layout.specs.declared.Refusal.the-variants.{BadSize}
 use Rattle.layout.specs.Refusals.{if_then_else_, numberOf}
+use Rattle.layout.specs.Lent.{Lent, before, after}
 use Rattle.host.specs.Host.{replySize, replyOf}
 use Rattle.perl.specs.Conversion.{Converted, fromPerl}
 
@@ -25,3 +27,8 @@ unfolding perlCall fromPerl
 curlewFromPerl template layout reply =
     if eqb (length reply) replySize then perlCall (fromPerl template layout)
     else record { returned = numberOf BadSize; layout = layout; reply = reply }
+
+-- what a call promises that returned r
+abbrev pub HostConverts : Lent → Lent → Lent → ℕ → Type 0
+HostConverts template layout reply r =
+    record { returned = r; layout = after layout; reply = after reply } ≡ curlewFromPerl (before template) (before layout) (before reply)

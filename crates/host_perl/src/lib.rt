@@ -1,10 +1,9 @@
 // Perl templates for a C host.
-ghost use mathlib.Core.Path.{_≡_};
-ghost use Rattle.host_perl.specs.Calls.{curlewFromPerl};
+ghost use Rattle.host_perl.specs.Calls.{HostConverts};
 
 // Writes the layout that a Perl template stands for.
 pub fn from_perl(template: &[u8], layout: &mut [u8], reply: &mut [u8]) -> u32
-    ensures { λ r. ⌜ record { returned = r; layout = now (layout .exit); reply = now (reply .exit) } ≡ curlewFromPerl (now (template .entry)) (now (layout .entry)) (now (reply .entry)) ⌝ }
+    ensures { λ r. ⌜ HostConverts template layout reply r ⌝ }
 {
     if !host::reply_fits(reply.len()) {
         return 1;

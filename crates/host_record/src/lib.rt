@@ -3,10 +3,8 @@ ghost use mathlib.Core.Path.{_≡_};
 ghost use Prim.Native.Nat.{_*_, _%_};
 ghost use lib.ListN.{length};
 ghost use Rattle.record.specs.Table.{slotWidth};
-ghost use Rattle.record.specs.Packing.{pack};
-ghost use Rattle.record.specs.Reading.{read};
-ghost use Rattle.host.specs.Host.{numberSize, replySize, numbersIn, packCall, readCall};
-ghost use Rattle.host_record.specs.Calls.{curlewPack, curlewRead};
+ghost use Rattle.host.specs.Host.{numberSize, replySize};
+ghost use Rattle.host_record.specs.Calls.{PackServed, ReadServed, HostPacks, HostReads};
 use layout::Refusal;
 use record::Answer;
 
@@ -20,7 +18,7 @@ fn pack_by(
     room: &mut [u32],
 ) -> u32
     requires { ⌜ (length (now reply) ≡ replySize) × (length (now slots) ≡ length (now room) * numberSize) × (length (now room) % slotWidth ≡ 0) ⌝ }
-    ensures { λ r. ⌜ record { returned = r; output = now (out .exit); reply = now (reply .exit) } ≡ packCall (pack (now (layout .entry)) (numbersIn (now (slots .entry))) (now (area .entry)) (now (out .entry))) ⌝ }
+    ensures { λ r. ⌜ PackServed layout slots area out reply r ⌝ }
 {
     host::numbers::decode(slots, room);
     let a = packer::pack(layout, room, area, out);
@@ -38,7 +36,7 @@ fn read_by(
     room: &mut [u32],
 ) -> u32
     requires { ⌜ (length (now reply) ≡ replySize) × (length (now slots) ≡ length (now room) * numberSize) ⌝ }
-    ensures { λ r. ⌜ record { returned = r; slots = now (slots .exit); area = now (area .exit); reply = now (reply .exit) } ≡ readCall (now (slots .entry)) (read (now (layout .entry)) (now (bytes .entry)) (numbersIn (now (slots .entry))) (now (area .entry)) mark) ⌝ }
+    ensures { λ r. ⌜ ReadServed layout bytes slots area mark reply r ⌝ }
 {
     let a = reader::read(layout, bytes, room, area, mark);
     if a.number != 0 {
@@ -50,7 +48,7 @@ fn read_by(
 
 // Packs the arguments into `out` by the layout (Tcl's `binary format`).
 pub fn pack(layout: &[u8], slots: &[u8], area: &[u8], out: &mut [u8], reply: &mut [u8]) -> u32
-    ensures { λ r. ⌜ record { returned = r; output = now (out .exit); reply = now (reply .exit) } ≡ curlewPack (now (layout .entry)) (now (slots .entry)) (now (area .entry)) (now (out .entry)) (now (reply .entry)) ⌝ }
+    ensures { λ r. ⌜ HostPacks layout slots area out reply r ⌝ }
 {
     if !host::reply_fits(reply.len()) {
         return 1;
@@ -72,7 +70,7 @@ pub fn read(
     mark: usize,
     reply: &mut [u8],
 ) -> u32
-    ensures { λ r. ⌜ record { returned = r; slots = now (slots .exit); area = now (area .exit); reply = now (reply .exit) } ≡ curlewRead (now (layout .entry)) (now (bytes .entry)) (now (slots .entry)) (now (area .entry)) mark (now (reply .entry)) ⌝ }
+    ensures { λ r. ⌜ HostReads layout bytes slots area mark reply r ⌝ }
 {
     if !host::reply_fits(reply.len()) {
         return 1;

@@ -3,16 +3,15 @@ ghost use mathlib.Core.Path.{_≡_};
 ghost use Prim.Native.Nat.{_*_, _%_};
 ghost use lib.ListN.{length};
 ghost use Rattle.record.specs.Table.{slotWidth};
-ghost use Rattle.host.specs.Host.{numberSize, replySize, numbersIn, packCall, readCall};
-ghost use Rattle.sheet.specs.Sheet.{write, read};
-ghost use Rattle.host_sheet.specs.Calls.{curlewSheetWrite, curlewSheetRead};
+ghost use Rattle.host.specs.Host.{numberSize, replySize};
+ghost use Rattle.host_sheet.specs.Calls.{WriteServed, ReadServed, HostWritesSheet, HostReadsSheet};
 use layout::Refusal;
 use record::Answer;
 
 // Writes a sheet, with room lent for the slots' numbers.
 fn write_by(slots: &[u8], area: &[u8], sheet: &mut [u8], reply: &mut [u8], room: &mut [u32]) -> u32
     requires { ⌜ (length (now reply) ≡ replySize) × (length (now slots) ≡ length (now room) * numberSize) × (length (now room) % slotWidth ≡ 0) ⌝ }
-    ensures { λ r. ⌜ record { returned = r; output = now (sheet .exit); reply = now (reply .exit) } ≡ packCall (write (numbersIn (now (slots .entry))) (now (area .entry)) (now (sheet .entry))) ⌝ }
+    ensures { λ r. ⌜ WriteServed slots area sheet reply r ⌝ }
 {
     host::numbers::decode(slots, room);
     let a = sheet::write(room, area, sheet);
@@ -29,7 +28,7 @@ fn read_by(
     room: &mut [u32],
 ) -> u32
     requires { ⌜ (length (now reply) ≡ replySize) × (length (now slots) ≡ length (now room) * numberSize) ⌝ }
-    ensures { λ r. ⌜ record { returned = r; slots = now (slots .exit); area = now (area .exit); reply = now (reply .exit) } ≡ readCall (now (slots .entry)) (read (now (sheet .entry)) (numbersIn (now (slots .entry))) (now (area .entry)) mark) ⌝ }
+    ensures { λ r. ⌜ ReadServed sheet slots area mark reply r ⌝ }
 {
     let a = sheet::read(sheet, room, area, mark);
     if a.number != 0 {
@@ -41,7 +40,7 @@ fn read_by(
 
 // Writes a table of slots as a sheet at the front of the buffer.
 pub fn write(slots: &[u8], area: &[u8], sheet: &mut [u8], reply: &mut [u8]) -> u32
-    ensures { λ r. ⌜ record { returned = r; output = now (sheet .exit); reply = now (reply .exit) } ≡ curlewSheetWrite (now (slots .entry)) (now (area .entry)) (now (sheet .entry)) (now (reply .entry)) ⌝ }
+    ensures { λ r. ⌜ HostWritesSheet slots area sheet reply r ⌝ }
 {
     if !host::reply_fits(reply.len()) {
         return 1;
@@ -56,7 +55,7 @@ pub fn write(slots: &[u8], area: &[u8], sheet: &mut [u8], reply: &mut [u8]) -> u
 
 // Reads a sheet, and sets slots and area.
 pub fn read(sheet: &[u8], slots: &mut [u8], area: &mut [u8], mark: usize, reply: &mut [u8]) -> u32
-    ensures { λ r. ⌜ record { returned = r; slots = now (slots .exit); area = now (area .exit); reply = now (reply .exit) } ≡ curlewSheetRead (now (sheet .entry)) (now (slots .entry)) (now (area .entry)) mark (now (reply .entry)) ⌝ }
+    ensures { λ r. ⌜ HostReadsSheet sheet slots area mark reply r ⌝ }
 {
     if !host::reply_fits(reply.len()) {
         return 1;
