@@ -1,15 +1,18 @@
 -- Packing and reading over a slice of slot records (01, Slot tables): THE EFFECT OF A CALL is `pack` of the slots' numbers, and `readSlots`.
 use Prim.Native.Nat.{ℕ, suc, _+_, _*_}
+use mathlib.Core.Path.{_≡_}
 use mathlib.Core.List.{List, [], _∷_, _++_}
 use lib.ListN.{getD, set, take, drop}
 use lib.Dec.{leb}
 use Rattle.layout.specs.declared.Refusal.the-variants.{BadSize}
 use Rattle.layout.specs.Refusals.{if_then_else_, refused}
+use Rattle.layout.specs.Lent.{Lent, before, after}
 use Rattle.record.specs.declared.Answer.{Answer}
 use Rattle.record.specs.Table.{maxSlots, slotWidth}
 use Rattle.record.specs.Packing.{Packed, pack, packEffect}
 use Rattle.record.specs.Reading.{Read, read, readEffect}
 use Rattle.slots.specs.declared.Slot.{Slot}
+use Rattle.slots.specs.declared.Outcome.{Outcome}
 
 -- ---- slots and numbers
 
@@ -79,3 +82,13 @@ packFirst layout ns n area output = if leb n maxSlots then pack layout (take (n 
 unfoldable pub readFirst : List ℕ → List ℕ → List ℕ → ℕ → List ℕ → ℕ → Read
 unfolding read
 readFirst layout bs ns n area mark = if leb n maxSlots then read layout bs (take (n * slotWidth) ns) area mark else readEffect (take (n * slotWidth) ns) area mark (refused BadSize 0)
+
+-- the answer r, the numbers of the first n slots and the area are what the reader leaves
+abbrev pub ReadsFirst : Lent → Lent → Lent → ℕ → Lent → ℕ → Answer → Type 0
+ReadsFirst layout bytes numbers n area mark r =
+    record { answer = r; slots = take (n * slotWidth) (after numbers); area = after area } ≡ readFirst (before layout) (before bytes) (before numbers) n (before area) mark
+
+-- what `readPart` leaves, as an outcome and the area
+abbrev pub ReadsRows : Lent → Lent → List Slot → ℕ → Lent → ℕ → Outcome → Type 0
+ReadsRows layout bytes slots n area mark r =
+    record { answer = r .answer; slots = r .slots; area = after area } ≡ readPart (before layout) (before bytes) slots n (before area) mark

@@ -2,14 +2,17 @@
 // and after a reading the slots are put together again. The functions over slots are few and thin: proved by hand.
 ghost use mathlib.Core.Path.{_≡_};
 ghost use mathlib.Core.List.{_++_};
-ghost use Prim.Native.Nat.{_+_, _*_, _≤_};
+ghost use Prim.Native.Nat.{_+_, _*_, _≤_, min};
 ghost use lib.ListN.{length, take, drop};
+ghost use Rattle.layout.specs.Lent.{before, after};
 ghost use Rattle.record.specs.Table.{slotWidth};
 ghost use Rattle.record.specs.Packing.{pack};
-ghost use Rattle.slots.specs.Slots.{maxNumbers, numbersOf, slotsFrom, slotFrom, putAt, taken, packFirst, readFirst, readSlots, readPart, rows};
+ghost use Rattle.slots.specs.Slots.{maxNumbers, numbersOf, slotsFrom, slotFrom, putAt, taken, packFirst, ReadsFirst, readSlots, rows, ReadsRows};
 use layout::Refusal;
 use record::Answer;
 
+// A slot as a caller lends it: 12 bytes, three numbers of 32 bits. (`record::slots::Slot` holds the same three as numbers that code counts with; it is
+// read out of a run of numbers and never lent.)
 pub struct Slot {
     pub kind: u32,
     pub start: u32,
@@ -19,7 +22,7 @@ pub struct Slot {
 // The slot that three numbers make.
 fn slot_from(numbers: &[u32], at: usize) -> Slot
     requires { ⌜ at + slotWidth ≤ length (now numbers) ⌝ }
-    ensures { λ r. ⌜ r ≡ slotFrom (now (numbers .entry)) at ⌝ }
+    ensures { λ r. ⌜ r ≡ slotFrom (before numbers) at ⌝ }
 {
     let kind = numbers[at];
     let start = numbers[at + 1];
@@ -34,7 +37,7 @@ fn slot_from(numbers: &[u32], at: usize) -> Slot
 // The three numbers of a slot.
 fn put_slot(numbers: &mut [u32], at: usize, slot: Slot)
     requires { ⌜ at + slotWidth ≤ length (now numbers) ⌝ }
-    ensures { λ _. ⌜ now (numbers .exit) ≡ putAt (now (numbers .entry)) at slot ⌝ }
+    ensures { λ _. ⌜ after numbers ≡ putAt (before numbers) at slot ⌝ }
 {
     numbers[at] = slot.kind;
     numbers[at + 1] = slot.start;
@@ -51,7 +54,7 @@ fn taken(count: usize) -> usize
 // Takes the slots apart into numbers, and tells how many.
 fn load(slots: &[Slot], numbers: &mut [u32]) -> usize
     requires { ⌜ maxNumbers ≤ length (now numbers) ⌝ }
-    ensures { λ r. ⌜ (r ≡ taken (length (now (slots .entry)))) × (now (numbers .exit) ≡ numbersOf (take r (now (slots .entry))) ++ drop (r * slotWidth) (now (numbers .entry))) ⌝ }
+    ensures { λ r. ⌜ (r ≡ taken (length (before slots))) × (after numbers ≡ numbersOf (take r (before slots)) ++ drop (r * slotWidth) (before numbers)) ⌝ }
 {
     let count = taken(slots.len());
     let mut i = 0;
@@ -65,7 +68,7 @@ fn load(slots: &[Slot], numbers: &mut [u32]) -> usize
 // Puts so many slots together out of their numbers.
 fn save(slots: &mut [Slot], numbers: &[u32], count: usize)
     requires { ⌜ (count ≤ length (now slots)) × (count * slotWidth ≤ length (now numbers)) ⌝ }
-    ensures { λ _. ⌜ now (slots .exit) ≡ slotsFrom (take (count * slotWidth) (now (numbers .entry))) ++ drop count (now (slots .entry)) ⌝ }
+    ensures { λ _. ⌜ after slots ≡ slotsFrom (take (count * slotWidth) (before numbers)) ++ drop count (before slots) ⌝ }
 {
     let mut i = 0;
     while i < count {
@@ -83,7 +86,7 @@ fn pack_first(
     output: &mut [u8],
 ) -> Answer
     requires { ⌜ maxNumbers ≤ length (now numbers) ⌝ }
-    ensures { λ r. ⌜ record { answer = r; output = now (output .exit) } ≡ packFirst (now (layout .entry)) (now (numbers .entry)) count (now (area .entry)) (now (output .entry)) ⌝ }
+    ensures { λ r. ⌜ record { answer = r; output = after output } ≡ packFirst (before layout) (before numbers) count (before area) (before output) ⌝ }
 {
     if record::MAX_SLOTS < count {
         return Answer::refused(Refusal::BadSize, 0);
@@ -102,7 +105,7 @@ fn read_first(
     mark: usize,
 ) -> Answer
     requires { ⌜ maxNumbers ≤ length (now numbers) ⌝ }
-    ensures { λ r. ⌜ record { answer = r; slots = take (count * slotWidth) (now (numbers .exit)); area = now (area .exit) } ≡ readFirst (now (layout .entry)) (now (bytes .entry)) (now (numbers .entry)) count (now (area .entry)) mark ⌝ }
+    ensures { λ r. ⌜ ReadsFirst layout bytes numbers count area mark r ⌝ }
 {
     if record::MAX_SLOTS < count {
         return Answer::refused(Refusal::BadSize, 0);
@@ -113,7 +116,7 @@ fn read_first(
 
 // Packs the arguments into the output by the layout. A refusal changes nothing.
 pub fn pack_slots(layout: &[u8], slots: &[Slot], area: &[u8], output: &mut [u8]) -> Answer
-    ensures { λ r. ⌜ record { answer = r; output = now (output .exit) } ≡ pack (now (layout .entry)) (numbersOf (now (slots .entry))) (now (area .entry)) (now (output .entry)) ⌝ }
+    ensures { λ r. ⌜ record { answer = r; output = after output } ≡ pack (before layout) (numbersOf (before slots)) (before area) (before output) ⌝ }
 {
     let mut numbers = [0; record::MAX_NUMBERS];
     load(slots, &mut numbers);
@@ -128,7 +131,7 @@ pub fn read_slots(
     area: &mut [u8],
     mark: usize,
 ) -> Answer
-    ensures { λ r. ⌜ record { answer = r; slots = now (slots .exit); area = now (area .exit) } ≡ readSlots (now (layout .entry)) (now (bytes .entry)) (now (slots .entry)) (now (area .entry)) mark ⌝ }
+    ensures { λ r. ⌜ record { answer = r; slots = after slots; area = after area } ≡ readSlots (before layout) (before bytes) (before slots) (before area) mark ⌝ }
 {
     let mut numbers = [0; record::MAX_NUMBERS];
     let count = load(slots, &mut numbers);
@@ -154,7 +157,8 @@ fn together(answer: Answer, slots: [Slot; ROWS]) -> Outcome
     }
 }
 
-pub fn pack_some(
+// Packs the first so many of the rows.
+fn pack_rows(
     layout: &[u8],
     slots: [Slot; ROWS],
     count: usize,
@@ -162,13 +166,14 @@ pub fn pack_some(
     output: &mut [u8],
 ) -> Answer
     requires { ⌜ count ≤ rows ⌝ }
-    ensures { λ r. ⌜ record { answer = r; output = now (output .exit) } ≡ pack (now (layout .entry)) (numbersOf (take count slots)) (now (area .entry)) (now (output .entry)) ⌝ }
+    ensures { λ r. ⌜ record { answer = r; output = after output } ≡ pack (before layout) (numbersOf (take count slots)) (before area) (before output) ⌝ }
 {
     let table = slots;
     pack_slots(layout, &table[..count], area, output)
 }
 
-pub fn read_some(
+// Reads into the first so many of the rows.
+fn read_rows(
     layout: &[u8],
     bytes: &[u8],
     slots: [Slot; ROWS],
@@ -177,9 +182,36 @@ pub fn read_some(
     mark: usize,
 ) -> Outcome
     requires { ⌜ count ≤ rows ⌝ }
-    ensures { λ r. ⌜ record { answer = r .answer; slots = r .slots; area = now (area .exit) } ≡ readPart (now (layout .entry)) (now (bytes .entry)) slots count (now (area .entry)) mark ⌝ }
+    ensures { λ r. ⌜ ReadsRows layout bytes slots count area mark r ⌝ }
 {
     let mut table = slots;
     let answer = read_slots(layout, bytes, &mut table[..count], area, mark);
     together(answer, table)
+}
+
+// `pack_slots` on the first so many rows; a count above the rows lends all, one more than a table may have.
+pub fn pack_some(
+    layout: &[u8],
+    slots: [Slot; ROWS],
+    count: usize,
+    area: &[u8],
+    output: &mut [u8],
+) -> Answer
+    ensures { λ r. ⌜ record { answer = r; output = after output } ≡ pack (before layout) (numbersOf (take (min count rows) slots)) (before area) (before output) ⌝ }
+{
+    pack_rows(layout, slots, record::least(count, ROWS), area, output)
+}
+
+// `read_slots` on the first so many rows, or on all.
+pub fn read_some(
+    layout: &[u8],
+    bytes: &[u8],
+    slots: [Slot; ROWS],
+    count: usize,
+    area: &mut [u8],
+    mark: usize,
+) -> Outcome
+    ensures { λ r. ⌜ ReadsRows layout bytes slots (min count rows) area mark r ⌝ }
+{
+    read_rows(layout, bytes, slots, record::least(count, ROWS), area, mark)
 }
