@@ -1,22 +1,53 @@
-# make demo      builds the proved library and runs the exam-server example
-# make test      proves everything from nothing and runs all tests; the last line is 'N passed, 0 failed'
-# make bench     compares the speed with Tcl, Perl, Python and an unproved twin, and draws docs/bench.svg and docs/strips.svg
-# make install   installs header, archive and pkg-config file under PREFIX
+# make                 proves the library and writes target/staticlib/libcurlew.a and the manual page target/curlew.3
+# make demo            the same, and runs the exam-server example
+# make test            proves everything from nothing and runs all tests; the last line is 'N passed, 0 failed'
+# make shared          writes target/shared/libcurlew.so, for Python and others that load a library
+# make install         header, archive, pkg-config file and manual page under prefix (or PREFIX), below DESTDIR
+# make install-shared  the shared object
+# make uninstall       removes what both installed
+# make bench           compares the speed with Tcl, Perl, Python and an unproved twin; numbers and plots in target/bench
+# make bench-publish   puts the plots of the last comparison into docs
+# make clean           removes target
 
 PREFIX ?= /usr/local
-VERSION := 1.0
+prefix = $(PREFIX)
+exec_prefix = $(prefix)
+includedir = $(prefix)/include
+libdir = $(exec_prefix)/lib
+datarootdir = $(prefix)/share
+mandir = $(datarootdir)/man
+man3dir = $(mandir)/man3
+pkgconfigdir = $(libdir)/pkgconfig
+INSTALL = install
+INSTALL_DATA = $(INSTALL) -m 644
+INSTALL_PROGRAM = $(INSTALL)
+
+# The version is said once, in the header; the day of it in docs/CHANGES.md.
+VERSION := $(shell sed -n 's/^.define CURLEW_VERSION "\(.*\)"$$/\1/p' include/curlew.h)
+DAY := $(shell sed -n 's/^.. $(VERSION) (\(.*\))$$/\1/p' docs/CHANGES.md)
+CALLS := $(shell sed -n 's/^uint32_t \(curlew_[a-z_]*\).*/\1/p' include/curlew.h)
+
 ARCHIVE := target/staticlib/libcurlew.a
+SONAME := libcurlew.so.$(firstword $(subst ., ,$(VERSION)))
+OBJECT := libcurlew.so.$(VERSION)
+SHARED := target/shared/$(OBJECT)
+PAGE := target/curlew.3
 COMPARE := target/compare
 CRATES := $(shell find crates crates.txt -type f)
 TWIN := $(wildcard tests/second/*.rs) tests/second/build.sh
 
-.PHONY: demo test bench install
+.PHONY: all demo test check shared install install-shared uninstall bench bench-publish clean
+
+all: $(ARCHIVE) $(PAGE)
 
 $(ARCHIVE): $(CRATES)
 	@command -v rt >/dev/null || { echo "rt not found: install the Rattle kit, or put its bin folder on PATH"; exit 2; }
 	@echo "proving and building $(ARCHIVE) (about two minutes from nothing)"
+	@tools/progress target/staticlib.out rt staticlib curlew
+
+$(PAGE): include/curlew.h docs/CHANGES.md tools/man.awk
 	@mkdir -p target
-	@rt staticlib curlew > target/staticlib.out 2>&1 || { tail -n 40 target/staticlib.out; echo "not proved: target/staticlib.out has all of it"; exit 1; }
+	@awk -f tools/man.awk -v version="$(VERSION)" -v date="$(DAY)" include/curlew.h > $@.new && mv $@.new $@
 
 target/demo/exam_server: examples/exam_server.c include/curlew.h $(ARCHIVE)
 	@command -v $(CC) >/dev/null || { echo "$(CC) not found: install gcc (Debian's package gcc), or say CC=.."; exit 2; }
@@ -26,7 +57,15 @@ target/demo/exam_server: examples/exam_server.c include/curlew.h $(ARCHIVE)
 demo: target/demo/exam_server
 	@target/demo/exam_server
 
-test:
+$(SHARED): $(ARCHIVE) tools/curlew.map
+	@mkdir -p target/shared
+	$(CC) $(LDFLAGS) -shared -Wl,-soname,$(SONAME) -Wl,--version-script=tools/curlew.map -Wl,-z,defs,-z,relro,-z,now \
+		-Wl,--whole-archive $(ARCHIVE) -Wl,--no-whole-archive -o $@
+	@ln -sf $(OBJECT) target/shared/$(SONAME) && ln -sf $(SONAME) target/shared/libcurlew.so
+
+shared: $(SHARED)
+
+test check:
 	@tests/run
 
 $(COMPARE)/second: $(ARCHIVE) $(TWIN)
@@ -41,8 +80,33 @@ $(COMPARE)/perl: $(ARCHIVE) $(TWIN) tests/perl/main.rs tests/perl/build.sh
 bench: $(ARCHIVE)
 	@bench/run
 
-install: $(ARCHIVE)
-	install -d "$(DESTDIR)$(PREFIX)/include" "$(DESTDIR)$(PREFIX)/lib/pkgconfig"
-	install -m 644 include/curlew.h "$(DESTDIR)$(PREFIX)/include/curlew.h"
-	install -m 644 $(ARCHIVE) "$(DESTDIR)$(PREFIX)/lib/libcurlew.a"
-	sed -e 's|@PREFIX@|$(PREFIX)|' -e 's|@VERSION@|$(VERSION)|' curlew.pc.in > "$(DESTDIR)$(PREFIX)/lib/pkgconfig/curlew.pc"
+target/bench/bench.svg: $(ARCHIVE)
+	@bench/run
+
+bench-publish: target/bench/bench.svg
+	cp target/bench/bench.svg target/bench/strips.svg docs
+
+install: all
+	$(INSTALL) -d "$(DESTDIR)$(includedir)" "$(DESTDIR)$(libdir)" "$(DESTDIR)$(pkgconfigdir)" "$(DESTDIR)$(man3dir)"
+	$(INSTALL_DATA) include/curlew.h "$(DESTDIR)$(includedir)/curlew.h"
+	$(INSTALL_DATA) $(ARCHIVE) "$(DESTDIR)$(libdir)/libcurlew.a"
+	sed -e 's|@prefix@|$(prefix)|' -e 's|@version@|$(VERSION)|' \
+		-e 's|@includedir@|$(patsubst $(prefix)/%,$${prefix}/%,$(includedir))|' \
+		-e 's|@libdir@|$(patsubst $(prefix)/%,$${prefix}/%,$(libdir))|' \
+		curlew.pc.in > "$(DESTDIR)$(pkgconfigdir)/curlew.pc"
+	$(INSTALL_DATA) $(PAGE) "$(DESTDIR)$(man3dir)/curlew.3"
+	@for call in $(CALLS); do echo '.so man3/curlew.3' > "$(DESTDIR)$(man3dir)/$$call.3" || exit 1; done
+
+install-shared: $(SHARED)
+	$(INSTALL) -d "$(DESTDIR)$(libdir)"
+	$(INSTALL_PROGRAM) $(SHARED) "$(DESTDIR)$(libdir)/$(OBJECT)"
+	ln -sf $(OBJECT) "$(DESTDIR)$(libdir)/$(SONAME)"
+	ln -sf $(SONAME) "$(DESTDIR)$(libdir)/libcurlew.so"
+
+uninstall:
+	rm -f "$(DESTDIR)$(includedir)/curlew.h" "$(DESTDIR)$(pkgconfigdir)/curlew.pc" "$(DESTDIR)$(libdir)/libcurlew.a" \
+		"$(DESTDIR)$(libdir)/libcurlew.so" "$(DESTDIR)$(libdir)/$(SONAME)" "$(DESTDIR)$(libdir)/$(OBJECT)"
+	@for page in curlew $(CALLS); do rm -f "$(DESTDIR)$(man3dir)/$$page.3"; done
+
+clean:
+	rm -rf target
