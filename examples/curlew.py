@@ -1,0 +1,221 @@
+"""Packed mark records from Python, over libcurlew.so: one file, nothing else needed.
+
+    >>> record = pack("A8 S2 b8", ["Ada", [61, 0], "1101"])
+    >>> record.hex()
+    '4164612020202020003d00000b'
+    >>> read("A8 S2 b8 S", record, text="ascii")
+    ['Ada', [61, 0], '11010000', None]
+
+A value is a str or bytes (a string), an int or a list of int (integers), or None: not marked. Reading gives bytes, or str
+where `text` names an encoding; lists of int; and None for every field that the record is too short for. A call that is
+refused raises Refused, with the number, the place and a text.
+
+    >>> pack("A8 S", ["Ada", None])
+    Traceback (most recent call last):
+    ...
+    curlew.Refused: the slot is not set (number 6, place 1)
+
+What a record has no place for, a sheet keeps:
+
+    >>> sheet_read(sheet_write(["Ada", None, [73]]))
+    [b'Ada', None, [73]]
+    >>> mean([61, None, 0])
+    Mean(mean=30.5, not_set=1)
+
+The header curlew.h is the manual of layouts and refusals. The library is $CURLEW_LIBRARY, or else the one that `make shared`
+built in the repository of this file, or else the installed one.
+"""
+import ctypes
+import os
+import struct
+from collections import namedtuple
+
+# As in the header.
+VERSION_NUMBER = 1001
+SLOT_SIZE = 12
+ITEM_SIZE = 8
+PACK_REPLY = 12
+READ_REPLY = 12
+SHEET_REPLY = 12
+COMPARE_REPLY = 12
+MEAN_REPLY = 24
+PERL_REPLY = 12
+FINDING_SIZE = 12
+MAX_LAYOUT = 256
+MAX_SLOTS = 64
+MAX_RECORD = 4096
+MAX_AREA = 65536
+MAX_SHEET = 65538
+UNSET, STRING, SIGNED, UNSIGNED = range(4)
+SAME, ONLY_FIRST, ONLY_SECOND, NEITHER, DIFFERENT = range(5)
+BAD_SLOTS = 5
+
+REFUSALS = {
+    1: "a run is larger than its limit or no whole number of slots, or the mark lies above the area",
+    2: "the layout has an unknown type",
+    3: "a count in the layout is too large",
+    4: "the layout has an @ without a count, or an x* in packing",
+    5: "the number of slots does not suit the layout",
+    6: "the slot is not set",
+    7: "the slot has an unknown kind, or its value lies outside the area",
+    8: "the slot holds a string and the field wants integers, or the other way round",
+    9: "the slot holds fewer integers than the count, or not one where there is no count",
+    10: "the slot's string has a character that is not a digit",
+    11: "the result does not fit the run that is to hold it",
+    12: "the sheet was cut, or one of its lengths or kinds is wrong",
+    13: "the sheet does not begin with a version that is known",
+    14: "the mark lies outside 0 to 1,000,000",
+    15: "the template cannot go on like this, or it ends inside a group",
+}
+
+# What differs in one field: a verdict, and for DIFFERENT the first byte and the number of bits.
+Finding = namedtuple("Finding", "verdict place bits")
+
+# The mean of the marked legs (None where there is none), and how many are not set.
+Mean = namedtuple("Mean", "mean not_set")
+
+
+class Refused(Exception):
+    """A call that was refused: its number, the place of the fault and a text."""
+
+    def __init__(self, number, place):
+        self.number, self.place = number, place
+        self.text = REFUSALS.get(number, "unknown number")
+        super().__init__(f"{self.text} (number {number}, place {place})")
+
+
+def _load():
+    name = f"libcurlew.so.{VERSION_NUMBER // 1000}"
+    built = os.path.join(os.path.dirname(os.path.abspath(__file__)), "..", "target", "shared", name)
+    return ctypes.CDLL(os.environ.get("CURLEW_LIBRARY") or (built if os.path.exists(built) else name))
+
+
+_library = _load()
+
+
+def _call(name, reply_size, *runs):
+    """Makes a call. A run is bytes that it reads, a buffer that it writes, or a plain number. Gives the reply's bytes."""
+    reply = ctypes.create_string_buffer(reply_size)
+    words = []
+    for run in (*runs, reply):
+        words += [ctypes.c_size_t(run)] if isinstance(run, int) else [run, ctypes.c_size_t(len(run))]
+    function = getattr(_library, "curlew_" + name)
+    function.restype = ctypes.c_uint32
+    number = function(*words)
+    if number != 0:
+        raise Refused(number, struct.unpack_from(">I", reply, 4)[0])
+    return reply.raw
+
+
+def _numbers(reply):
+    """The two numbers of an answer that was accepted."""
+    return struct.unpack_from(">2I", reply, 4)
+
+
+def _bytes(text):
+    return text.encode() if isinstance(text, str) else bytes(text)
+
+
+def _value(value):
+    """The kind, the length and the bytes of a value."""
+    if value is None:
+        return UNSET, 0, b""
+    if isinstance(value, (str, bytes, bytearray, memoryview)):
+        data = _bytes(value)
+        return STRING, len(data), data
+    items = [value] if isinstance(value, int) else list(value)
+    kind = UNSIGNED if any(item >= 2 ** 63 for item in items) else SIGNED
+    return kind, len(items), struct.pack(f">{len(items)}{'Q' if kind == UNSIGNED else 'q'}", *items)
+
+
+def _table(values):
+    """The slots and the area of a list of values."""
+    slots, area = bytearray(), bytearray()
+    for kind, length, data in map(_value, values):
+        slots += struct.pack(">3I", kind, len(area), length)
+        area += data
+    return bytes(slots), bytes(area)
+
+
+def _shown(slots, count, area, text):
+    """The values of the first slots of a table."""
+    for kind, start, length in list(struct.iter_unpack(">3I", slots))[:count]:
+        if kind == UNSET:
+            yield None
+        elif kind == STRING:
+            data = area[start:start + length]
+            yield data.decode(text) if text else data
+        else:
+            yield list(struct.unpack_from(f">{length}{'q' if kind == SIGNED else 'Q'}", area, start))
+
+
+def _own_table(count=MAX_SLOTS):
+    """A table with no slot set, for a call to write."""
+    return ctypes.create_string_buffer(count * SLOT_SIZE), ctypes.create_string_buffer(MAX_AREA)
+
+
+def _slots_of(layout):
+    """How many slots a layout takes: the fewest that are not too few."""
+    low, high = 0, MAX_SLOTS
+    while low < high:
+        middle = (low + high) // 2
+        try:
+            _call("read", READ_REPLY, layout, b"", *_own_table(middle), 0)
+            high = middle
+        except Refused as refused:
+            if refused.number != BAD_SLOTS:
+                raise
+            low = middle + 1
+    return low
+
+
+def pack(layout, values):
+    """The record of these values, one for each field of the layout that takes one."""
+    slots, area = _table(values)
+    out = ctypes.create_string_buffer(MAX_RECORD)
+    length, _ = _numbers(_call("pack", PACK_REPLY, _bytes(layout), slots, area, out))
+    return out[:length]
+
+
+def read(layout, record, text=None):
+    """The values of a record, one for each field of the layout that takes one; None where the record is too short."""
+    layout = _bytes(layout)
+    slots, area = _own_table()
+    _call("read", READ_REPLY, layout, _bytes(record), slots, area, 0)
+    return list(_shown(slots.raw, _slots_of(layout), area.raw, text))
+
+
+def sheet_write(values):
+    """The sheet of a table of values, None for those that are not set."""
+    slots, area = _table(values)
+    sheet = ctypes.create_string_buffer(MAX_SHEET)
+    length, _ = _numbers(_call("sheet_write", SHEET_REPLY, slots, area, sheet))
+    return sheet[:length]
+
+
+def sheet_read(sheet, text=None):
+    """The values of a sheet, None for those that are not set."""
+    slots, area = _own_table()
+    entries, _ = _numbers(_call("sheet_read", SHEET_REPLY, _bytes(sheet), slots, area, 0))
+    return list(_shown(slots.raw, entries, area.raw, text))
+
+
+def compare(layout, first, second):
+    """What differs between two copies of a record: a Finding for each field of the layout that takes a slot."""
+    report = ctypes.create_string_buffer(MAX_SLOTS * FINDING_SIZE)
+    reply = _call("compare", COMPARE_REPLY, _bytes(layout), _bytes(first), _bytes(second), *_own_table(), *_own_table(), report)
+    return [Finding(*numbers) for numbers in struct.iter_unpack(">3I", report.raw)][:_numbers(reply)[0]]
+
+
+def mean(legs):
+    """The mean of the legs that are marked, each an int from 0 to 1,000,000 or None."""
+    reply = _call("mean", MEAN_REPLY, *_table(legs))
+    there, value = struct.unpack_from(">Id", reply, 12)
+    return Mean(value if there else None, _numbers(reply)[0])
+
+
+def from_perl(template):
+    """The layout that a pack template of Perl stands for."""
+    layout = ctypes.create_string_buffer(MAX_LAYOUT)
+    length, _ = _numbers(_call("from_perl", PERL_REPLY, _bytes(template), layout))
+    return layout[:length].decode()
