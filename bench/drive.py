@@ -158,6 +158,11 @@ def run_rounds(serving):
     return times
 
 
+def crowd_records(peer):
+    """How many records a peer packs and reads: the slow ones fewer."""
+    return CROWD if peer in LIBRARIES else CROWD // 5 if peer == "tcl" else CROWD // 20
+
+
 def run_crowd(serving):
     """Records in a second, packed and read, for each peer and number of threads."""
     cores = len(os.sched_getaffinity(0))
@@ -166,7 +171,7 @@ def run_crowd(serving):
     rates = {case: ([], []) for case in todo}
     for _ in range(CROWD_ROUNDS):
         for peer, threads in todo:
-            records = CROWD if peer in LIBRARIES else CROWD // 5 if peer == "tcl" else CROWD // 20
+            records = crowd_records(peer)
             packing, reading, total = map(int, serving[peer].ask(f"crowd {peer} {threads} {records}").split())
             if total != crowd_sum(records):
                 sys.exit(f"{NAMES[peer]} read wrong marks")
@@ -257,14 +262,14 @@ def results(times, rates, peers):
     """What the plot needs."""
     return {
         "peers": [[peer, NAMES[peer]] for peer in peers],
-        "ratios": [{"name": f"{name} {call}", "goal": tcl_goal(name, call),
+        "ratios": [{"name": f"{name} {call}", "goals": {"tcl": tcl_goal(name, call), "twin": 1 / twin_goal(name)},
                     **{peer: ratio(times, peer, name, call) for peer in peers}}
                    for name, call in main_rows()],
         "growth": {letter: {f"{peer} {call}": [[size, median(times[peer, f"{letter}{size}", call])] for size in sizes]
                             for peer in peers for call in CALLS}
                    for letter, sizes in (("f", FIELD_COUNTS), ("s", BYTE_COUNTS), ("b", DIGIT_COUNTS))},
         "bound": [[count, step_bound(count)] for count in DIGIT_COUNTS],
-        "crowd": [[peer, threads, *both] for (peer, threads), both in rates.items()],
+        "crowd": [[peer, threads, crowd_records(peer), *both] for (peer, threads), both in rates.items()],
     }
 
 
