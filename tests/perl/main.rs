@@ -15,6 +15,8 @@ mod dice;
 #[allow(dead_code)]
 #[path = "../second/evolution.rs"]
 mod evolution;
+#[path = "../second/fields.rs"]
+mod fields;
 #[allow(dead_code)]
 #[path = "../second/fixed.rs"]
 mod fixed;
@@ -27,6 +29,8 @@ mod library;
 mod limits;
 #[path = "../second/mean.rs"]
 mod mean;
+#[path = "../second/packer.rs"]
+mod packer;
 #[path = "../second/peer.rs"]
 mod peer;
 #[path = "../second/perl.rs"]
@@ -34,12 +38,12 @@ mod perl;
 #[allow(dead_code)]
 #[path = "../second/perl_calls.rs"]
 mod perl_calls;
+#[path = "../second/reader.rs"]
+mod reader;
 #[path = "../second/sheet.rs"]
 mod sheet;
 #[path = "../second/slots.rs"]
 mod slots;
-#[path = "../second/twin.rs"]
-mod twin;
 #[allow(dead_code)]
 #[path = "../second/values.rs"]
 mod values;

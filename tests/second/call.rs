@@ -1,7 +1,7 @@
 //! A call with everything lent to it, and what is found after it.
 
 use crate::compare::{self, Side};
-use crate::{mean, perl, sheet, twin};
+use crate::{mean, packer, perl, reader, sheet};
 use std::ops::{Deref, DerefMut};
 
 #[derive(Clone, Copy, PartialEq, Eq, Debug)]
@@ -185,14 +185,14 @@ pub fn by_twin(call: &Call) -> After {
     let mut after = call.untouched(0);
     let runs = &mut after.runs;
     after.returned = match call.which {
-        Which::Pack => twin::pack_call(
+        Which::Pack => packer::pack_call(
             &call.layout,
             &call.slots,
             &call.area,
             &mut runs.record,
             &mut runs.reply,
         ),
-        Which::Read => twin::read_call(
+        Which::Read => reader::read_call(
             &call.layout,
             &call.record,
             &mut runs.slots,

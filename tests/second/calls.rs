@@ -8,8 +8,8 @@ use crate::limits::{
     AREA_MAX, COUNT_MAX, LAYOUT_MAX, RECORD_MAX, REPLY_BYTES, SLOTS_MAX, SLOT_BYTES, SLOT_NUMBERS,
     SLOT_RUN_MAX,
 };
-use crate::twin;
 use crate::values::{slot, Value};
+use crate::{packer, reader};
 
 /// Room in which a call is tried out to learn how much it needs.
 pub struct Scratch {
@@ -29,7 +29,7 @@ impl Scratch {
 
     /// The length of the packing's result; none if it is refused anyway.
     fn packed_length(&mut self, call: &Call) -> Option<usize> {
-        let answer = twin::pack(&call.layout, &call.slots, &call.area, &mut self.record);
+        let answer = packer::pack(&call.layout, &call.slots, &call.area, &mut self.record);
         if answer.number == 0 {
             Some(answer.first as usize)
         } else {
@@ -39,7 +39,7 @@ impl Scratch {
 
     /// The bytes of all values of the reading; none if it is refused anyway.
     fn value_bytes(&mut self, layout: &[u8], record: &[u8]) -> Option<usize> {
-        let answer = twin::read(layout, record, &mut self.slots, &mut self.area, 0);
+        let answer = reader::read(layout, record, &mut self.slots, &mut self.area, 0);
         if answer.number == 0 {
             Some(answer.second as usize)
         } else {
@@ -223,7 +223,7 @@ pub fn random_record(dice: &mut Dice, specs: &[Spec], scratch: &mut Scratch) -> 
     let layout = spelled(dice, &mut specs);
     let arguments = random_arguments(dice, &specs);
     let (slots, area) = scattered(dice, &arguments);
-    let answer = twin::pack(&layout, &slots, &area, &mut scratch.record);
+    let answer = packer::pack(&layout, &slots, &area, &mut scratch.record);
     if answer.number == 0 && !dice.once_in(5) {
         return scratch.record[..answer.first as usize].to_vec();
     }

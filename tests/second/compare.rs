@@ -1,8 +1,9 @@
 //! What differs between two copies of a record that one layout reads.
 
+use crate::fields::{Field, Fields, NO_FIELDS};
 use crate::limits::{REPLY_BYTES, REPORT_BYTES};
+use crate::reader::{decided, load_fields, Decided};
 use crate::slots::{accepted, put_numbers, refused, replied, slot_at, value_of, Answer};
-use crate::twin::{decided, load_fields, Decided, Field, Fields, NO_FIELDS};
 
 /// One side of a comparison: a copy of the record, and the table and area that it is read into.
 pub struct Side<'a> {

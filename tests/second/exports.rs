@@ -1,12 +1,14 @@
 //! The twin behind C entry points, as a library of its own.
 
 mod compare;
+mod fields;
 mod limits;
 mod mean;
+mod packer;
 mod perl;
+mod reader;
 mod sheet;
 mod slots;
-mod twin;
 
 use std::slice;
 
@@ -42,7 +44,7 @@ pub unsafe extern "C" fn twin_pack(
     reply: *mut u8,
     reply_len: usize,
 ) -> u32 {
-    twin::pack_call(
+    packer::pack_call(
         lent(layout, layout_len),
         lent(slots, slots_len),
         lent(area, area_len),
@@ -67,7 +69,7 @@ pub unsafe extern "C" fn twin_read(
     reply: *mut u8,
     reply_len: usize,
 ) -> u32 {
-    twin::read_call(
+    reader::read_call(
         lent(layout, layout_len),
         lent(record, record_len),
         lent_mut(slots, slots_len),
