@@ -37,6 +37,7 @@ ITEM_SIZE = 8
 PACK_REPLY = 12
 READ_REPLY = 12
 SHEET_REPLY = 12
+RESCUE_REPLY = 16
 COMPARE_REPLY = 12
 MEAN_REPLY = 24
 PERL_REPLY = 12
@@ -67,6 +68,9 @@ REFUSALS = {
     14: "the mark lies outside 0 to 1,000,000",
     15: "the template cannot go on like this, or it ends inside a group",
 }
+
+# What is left of a damaged sheet: the values, how many entries were kept, slots cleared and bytes dropped.
+Rescue = namedtuple("Rescue", "values kept cleared dropped")
 
 # What differs in one field: a verdict, and for DIFFERENT the first byte and the number of bits.
 Finding = namedtuple("Finding", "verdict place bits")
@@ -198,6 +202,14 @@ def sheet_read(sheet, text=None):
     slots, area = _own_table()
     entries, _ = _numbers(_call("sheet_read", SHEET_REPLY, _bytes(sheet), slots, area, 0))
     return list(_shown(slots.raw, entries, area.raw, text))
+
+
+def sheet_rescue(sheet, legs, text=None):
+    """What is whole at the front of a damaged sheet of so many legs; None for the legs that are lost."""
+    slots, area = _own_table()
+    reply = _call("sheet_rescue", RESCUE_REPLY, _bytes(sheet), legs, slots, area, 0)
+    kept, cleared, dropped = struct.unpack_from(">3I", reply, 4)
+    return Rescue(list(_shown(slots.raw, legs, area.raw, text)), kept, cleared, dropped)
 
 
 def compare(layout, first, second):

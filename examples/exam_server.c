@@ -3,7 +3,8 @@
  *
  * Last year a record held a number, a name and two legs. This year there is a third leg and an answer strip.
  * The office packs records by both layouts, gets one back from a laptop that lost its end, and reads all of
- * them by both layouts. Tables with a leg in the middle that nobody marked it keeps as sheets.
+ * them by both layouts. Tables with a leg in the middle that nobody marked it keeps as sheets, and from a sheet that
+ * was cut it takes what is whole.
  */
 #include <inttypes.h>
 #include <stdio.h>
@@ -302,6 +303,33 @@ static void show_sheets(void)
     }
 }
 
+/* A laptop died while it saved a sheet. What is whole at its front is kept; the legs that are lost are not marked. */
+static void show_rescue(void)
+{
+    uint8_t reply[CURLEW_RESCUE_REPLY];
+    struct table table;
+    struct record sheet;
+
+    fill_open(&table, 3);
+    if (!keep(&table, &sheet))
+        return;
+    printf("\na laptop died while it saved the sheet of %s: 50 of %u bytes are there\n",
+           candidates[3].number, (unsigned)sheet.length);
+    sheet.length = 50;
+    printf("read as it is:\n");
+    fetch(&sheet, &table);
+    clear(&table);
+    if (curlew_sheet_rescue(sheet.bytes, sheet.length, FIELDS, table.slots, sizeof table.slots,
+                            table.area, sizeof table.area, 0, reply, sizeof reply) != CURLEW_OK) {
+        print_refusal(curlew_get_answer(reply));
+        return;
+    }
+    printf("rescued: %" PRIu32 " entries kept, %" PRIu32 " slots cleared, %" PRIu32 " bytes dropped\n",
+           curlew_get_answer(reply).first, curlew_get_answer(reply).second, curlew_get_dropped(reply));
+    print_heads(FIELDS);
+    print_row(&table, FIELDS);
+}
+
 /* The legs are the three slots behind number and name. A leg that nobody marked leaves the mean as it is. */
 static void print_mean(const struct table *table)
 {
@@ -417,6 +445,7 @@ int main(void)
     print_table(old_layout, 4, records, CANDIDATES);
     print_table(new_layout, FIELDS, records, CANDIDATES);
     show_sheets();
+    show_rescue();
     show_means();
     show_differences();
     show_partner();

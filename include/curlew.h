@@ -6,8 +6,9 @@
  * of Tcl's `binary format` and `binary scan`, within the types listed below.
  *
  * curlew_sheet_write and curlew_sheet_read keep a whole table of values in a file, as a sheet, with the values
- * that are not set. curlew_compare reads two copies of one record and says what differs. curlew_mean gives the
- * mean of a candidate's marks. curlew_from_perl turns a pack template of Perl into a layout.
+ * that are not set; curlew_sheet_rescue keeps what is whole of a damaged one. curlew_compare reads two copies of
+ * one record and says what differs. curlew_mean gives the mean of a candidate's marks. curlew_from_perl turns a
+ * pack template of Perl into a layout.
  *
  * Link with libcurlew.a or libcurlew.so. The header serves C99 and C++, the library x86-64. Of other libraries it
  * needs memcpy, memmove and memset alone, which every C library has. It allocates nothing, keeps no state and does no
@@ -162,6 +163,23 @@
  * 0 or beyond the end, a kind above 3, a value behind CURLEW_UNSET, or integers that are no multiple of 8 bytes.
  *
  *
+ * A SHEET THAT WAS DAMAGED
+ *
+ * curlew_sheet_rescue takes what is left of a sheet, and the number of legs that it should have had. From the front it
+ * keeps each entry that is whole and right, as curlew_sheet_read would take it, until it has one for every leg or meets one
+ * that is wrong: nothing behind a wrong entry can be trusted. The kept entries go into slots and area as that call puts
+ * them, and the slots of the other legs are cleared to CURLEW_UNSET, start 0, length 0, so that a lost leg reads "not
+ * set" and never as a mark. Slots past the legs, and bytes of the area that no kept value covers, stay as they were.
+ * The length in the header is not looked at. The reply is CURLEW_RESCUE_REPLY (16) bytes, four numbers:
+ *
+ *   CURLEW_OK, entries kept, slots cleared, bytes dropped
+ *
+ * Kept and cleared add up to the legs. Dropped are the bytes that belong neither to the header nor to a kept entry; of a
+ * sheet shorter than its header that is every byte. A sheet that curlew_sheet_read accepts, with an entry for every leg,
+ * is rescued as it is read. A sheet that was cut keeps exactly the entries that end at or before the cut. Write the
+ * rescued slots again, and a rescue of that sheet keeps every leg, clears none and drops nothing.
+ *
+ *
  * COMPARING TWO COPIES OF A RECORD
  *
  * curlew_compare reads two records by one layout, each from mark 0 into a table and an area of its own, just as
@@ -219,6 +237,7 @@
  *   read            CURLEW_OK, how many slots were set, place in the area after the last value
  *   sheet written   CURLEW_OK, length of the sheet, 0
  *   sheet read      CURLEW_OK, how many entries there were, place in the area after the last value
+ *   sheet rescued   CURLEW_OK, entries kept, slots cleared (and the bytes dropped behind them)
  *   compared        CURLEW_OK, how many findings there are, 0
  *   mean            CURLEW_OK, how many slots are not set, 0 (and the mean behind them)
  *   from Perl       CURLEW_OK, length of the layout, 0
@@ -228,12 +247,13 @@
  *    1   CURLEW_BAD_SIZE     a run is larger than its limit (see SIZES; also a run  0
  *                            that is only written), the slots are no multiple of
  *                            CURLEW_SLOT_SIZE, or the mark lies above the area's
- *                            length
+ *                            length; rescue: more than CURLEW_MAX_SLOTS legs
  *    2   CURLEW_BAD_TYPE     the layout has an unknown type                         its byte in the layout
  *    3   CURLEW_BAD_COUNT    a count is larger than CURLEW_MAX_COUNT                byte of its first digit
  *    4   CURLEW_BAD_MOVE     `@` has no count, or packing met `x*`                  byte of the type character
  *    5   CURLEW_BAD_SLOTS    packing: not one slot for each field that takes one;   0
- *                            reading a record or a sheet: too few slots
+ *                            reading a record or a sheet: too few slots;
+ *                            rescue: fewer slots than legs
  *    6   CURLEW_NOT_SET      packing: the slot is not set                           the slot
  *    7   CURLEW_BAD_SLOT     packing, writing a sheet, mean: the slot's kind is     the slot
  *                            above 3, or its value does not lie inside the area
@@ -258,7 +278,7 @@
  *
  * The checks are made in this order. Packing and reading a record: 1; then 2, 3 and 4 for each field in turn;
  * then 5; then 6 to 10 for each slot in turn, the lower number first; then 11. Writing a sheet: 1; 7 for each
- * slot in turn; 11. Reading a sheet: 1; 13; 12; 5; 11. Comparing: all of reading the first copy, then all of
+ * slot in turn; 11. Reading a sheet: 1; 13; 12; 5; 11. Rescuing one: 1; 13; 5; 11. Comparing: all of reading the first copy, then all of
  * reading the second, then 11 for the report. Mean: 1; then 7, 8, 9 and 14 for each slot in turn. From Perl: 1;
  * 15; 11.
  *
@@ -277,7 +297,8 @@
  *   sheet, run for one      at most CURLEW_MAX_SHEET  65,538 bytes
  *   count in a layout       at most CURLEW_MAX_COUNT   4,096
  *   template of Perl        at most CURLEW_MAX_TEMPLATE  256 bytes
- *   reply                   exactly CURLEW_PACK_REPLY, CURLEW_READ_REPLY, CURLEW_SHEET_REPLY,
+ *   legs of a rescue        at most CURLEW_MAX_SLOTS      64
+ *   reply                   exactly CURLEW_PACK_REPLY, CURLEW_READ_REPLY, CURLEW_SHEET_REPLY, CURLEW_RESCUE_REPLY,
  *                           CURLEW_COMPARE_REPLY, CURLEW_MEAN_REPLY or CURLEW_PERL_REPLY bytes
  *
  * Number 1 compares the lengths that you give to a call with these limits. The output run must be no larger than a
@@ -363,6 +384,7 @@
 #define CURLEW_PACK_REPLY 12
 #define CURLEW_READ_REPLY 12
 #define CURLEW_SHEET_REPLY 12
+#define CURLEW_RESCUE_REPLY 16
 #define CURLEW_COMPARE_REPLY 12
 #define CURLEW_MEAN_REPLY 24
 #define CURLEW_PERL_REPLY 12
@@ -440,6 +462,14 @@ uint32_t curlew_sheet_read(const uint8_t *sheet, size_t sheet_len,
                            uint8_t *area, size_t area_len,
                            size_t mark,
                            uint8_t *reply, size_t reply_len);
+
+/* Keeps what is whole at the front of a damaged sheet of so many legs. Writes slots, area and reply. */
+uint32_t curlew_sheet_rescue(const uint8_t *sheet, size_t sheet_len,
+                             size_t legs,
+                             uint8_t *slots, size_t slots_len,
+                             uint8_t *area, size_t area_len,
+                             size_t mark,
+                             uint8_t *reply, size_t reply_len);
 
 /* Compares two copies of a record by the layout. Writes both tables, both areas, report and reply. */
 uint32_t curlew_compare(const void *layout, size_t layout_len,
@@ -580,6 +610,12 @@ static inline struct curlew_answer curlew_get_answer(const uint8_t *reply)
     answer.first = curlew_get_number(reply + 4);
     answer.second = curlew_get_number(reply + 8);
     return answer;
+}
+
+/* The bytes dropped, out of a reply of curlew_sheet_rescue. */
+static inline uint32_t curlew_get_dropped(const uint8_t *reply)
+{
+    return curlew_get_number(reply + 12);
 }
 
 /* Takes the mean out of a reply of curlew_mean. Returns 1, or 0 where no leg is marked: *mean stays as it was then. */

@@ -76,6 +76,10 @@ def other_calls():
     sheet = bytes.fromhex("010013 000100 0003014f4b 000902fffffffffffffffe")
     equal(curlew.sheet_write([None, "OK", -2]), sheet)
     equal(curlew.sheet_read(sheet, text="ascii"), [None, "OK", [-2]])
+    equal(curlew.sheet_rescue(sheet[:-1], 4), ([None, b"OK", None, None], 2, 2, 10))
+    equal(curlew.sheet_rescue(sheet, 3, text="ascii"), ([None, "OK", [-2]], 3, 0, 0))
+    refused(1, 0, curlew.sheet_rescue, sheet, 65)
+    refused(13, 0, curlew.sheet_rescue, b"\x07", 1)
     equal(curlew.sheet_write([]), b"\x01\x00\x00")
     equal(curlew.sheet_read(b"\x01\x00\x00"), [])
     equal(curlew.compare("a2 c S c", b"ab\5\0\1", b"ab\7"),

@@ -14,10 +14,11 @@ def load(path):
     lib.curlew_read.argtypes = RUN + RUN + OWN + OWN + [SIZE] + OWN
     lib.curlew_sheet_write.argtypes = RUN + RUN + OWN + OWN
     lib.curlew_sheet_read.argtypes = RUN + OWN + OWN + [SIZE] + OWN
+    lib.curlew_sheet_rescue.argtypes = RUN + [SIZE] + OWN + OWN + [SIZE] + OWN
     lib.curlew_compare.argtypes = RUN + RUN + RUN + OWN * 6
     lib.curlew_mean.argtypes = RUN + RUN + OWN
     lib.curlew_from_perl.argtypes = RUN + OWN + OWN
-    for name in ("pack", "read", "sheet_write", "sheet_read", "compare", "mean", "from_perl"):
+    for name in ("pack", "read", "sheet_write", "sheet_read", "sheet_rescue", "compare", "mean", "from_perl"):
         getattr(lib, "curlew_" + name).restype = ctypes.c_uint32
     return lib
 
@@ -87,6 +88,12 @@ def sheet_read(lib, sheet, count):
     return struct.unpack(">3I", reply.raw), [shown(slot, area.raw) for slot in struct.iter_unpack(">3I", slots.raw)]
 
 
+def sheet_rescue(lib, sheet, legs):
+    (slots, slots_run), (area, area_run), (reply, reply_run) = own(12 * 4), own(200), own(16)
+    lib.curlew_sheet_rescue(*lent(sheet), legs, *slots_run, *area_run, 0, *reply_run)
+    return struct.unpack(">4I", reply.raw), [shown(slot, area.raw) for slot in struct.iter_unpack(">3I", slots.raw)]
+
+
 def compare(lib, layout, first, second, fields):
     (report, report_run), (reply, reply_run) = own(12 * fields), own(12)
     tables = [own(size)[1] for size in (12 * fields, 200, 12 * fields, 200)]
@@ -135,6 +142,8 @@ def main():
     equal(sheet_write(lib, [None, b"OK", [-2]]), (0, sheet))
     equal(sheet_read(lib, sheet, 4), ((0, 3, 10), [None, b"OK", [-2], None]))
     equal(sheet_read(lib, sheet[:-1], 4), ((12, 0, 0), [None] * 4))
+    equal(sheet_rescue(lib, sheet[:-1], 3), ((0, 2, 1, 10), [None, b"OK", None, None]))
+    equal(sheet_rescue(lib, sheet, 2 ** 32 + 3)[0], (1, 0, 0, 0))
     equal(compare(lib, b"a2 c S", b"ab\5\0\1", b"ab\7", 3), ((0, 3, 0), [(0, 0, 0), (4, 7, 1), (1, 0, 0)]))
     equal(mean(lib, [[0], None, [61]]), (0, 1, 0, 1, 30.5))
     equal(mean(lib, [None, None]), (0, 2, 0, 0, 0.0))

@@ -3,23 +3,9 @@
  * Each case runs with every run at the low end of its open pages, at the high end, and with null pointers for empty
  * runs; after each call every byte of every run, and of what surrounds it, is compared with what it should be.
  */
-#include "harness.h"
+#include "sheet_runs.h"
 
-static struct run slots, area, sheet, reply;
-static struct run *const runs[] = {&slots, &area, &sheet, &reply};
-#define RUNS (sizeof runs / sizeof runs[0])
-
-static struct values given, wanted;
-static uint8_t answer[CURLEW_SHEET_REPLY];
-
-static void expect_answer(uint32_t number, uint32_t first, uint32_t second)
-{
-    curlew_put_number(answer, number);
-    curlew_put_number(answer + 4, first);
-    curlew_put_number(answer + 8, second);
-    if (reply.len == CURLEW_SHEET_REPLY)
-        expect_run(&reply, 0, answer, sizeof answer);
-}
+static struct values given;
 
 /* ---- writing ---- */
 
@@ -83,14 +69,6 @@ static void run_read(const char *name, size_t mark, uint32_t number)
     }
 }
 
-static void lend_sheet(const void *bytes, size_t len, size_t slot_bytes, size_t area_bytes)
-{
-    set_run(&sheet, bytes, len);
-    set_run(&slots, NULL, slot_bytes);
-    set_run(&area, NULL, area_bytes);
-    set_run(&reply, NULL, CURLEW_SHEET_REPLY);
-}
-
 /* What the reading should set is in `wanted`, which began at the mark. */
 static void reads(const char *name, const void *bytes, size_t len, size_t slot_count, size_t area_bytes, size_t mark)
 {
@@ -109,9 +87,6 @@ static void read_refused(const char *name, const void *bytes, size_t len, uint32
 }
 
 /* ---- the tests ---- */
-
-static const uint8_t three[] = {1, 0, 0x13, 0, 1, 0, 0, 3, 1, 'O', 'K', 0, 9, 2,
-                                0xff, 0xff, 0xff, 0xff, 0xff, 0xff, 0xff, 0xfe};
 
 static void test_three_values(void)
 {
@@ -277,10 +252,7 @@ static void test_reply_sizes(void)
 
 int main(void)
 {
-    open_run(&slots, "slots", 0);
-    open_run(&area, "area", 0);
-    open_run(&sheet, "sheet", 0);
-    open_run(&reply, "reply", 1);
+    open_sheets();
     test_three_values();
     test_no_values();
     test_write_refusals();

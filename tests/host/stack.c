@@ -78,6 +78,14 @@ static uint32_t sheet_read(void)
     return curlew_sheet_read(sheet, sheet_len, slots, sizeof slots, area, sizeof area, 0, reply, sizeof reply);
 }
 
+static uint32_t sheet_rescue(void)
+{
+    uint8_t reply[CURLEW_RESCUE_REPLY];
+
+    return curlew_sheet_rescue(sheet, sheet_len - 1, SLOTS, slots, sizeof slots, area, sizeof area, 0,
+                               reply, sizeof reply);
+}
+
 static uint32_t compare(void)
 {
     uint8_t reply[CURLEW_COMPARE_REPLY], second[sizeof record];
@@ -117,8 +125,8 @@ struct call {
 
 static const struct call calls[] = {
     {"curlew_pack", pack}, {"curlew_read", read_record}, {"curlew_sheet_write", sheet_write},
-    {"curlew_sheet_read", sheet_read}, {"curlew_compare", compare}, {"curlew_mean", mean},
-    {"curlew_from_perl", from_perl},
+    {"curlew_sheet_read", sheet_read}, {"curlew_sheet_rescue", sheet_rescue}, {"curlew_compare", compare},
+    {"curlew_mean", mean}, {"curlew_from_perl", from_perl},
 };
 
 /* How many bytes of stack below this function's frame the call used. */

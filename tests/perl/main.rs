@@ -40,6 +40,8 @@ mod perl;
 mod perl_calls;
 #[path = "../second/reader.rs"]
 mod reader;
+#[path = "../second/rescue.rs"]
+mod rescue;
 #[path = "../second/sheet.rs"]
 mod sheet;
 #[path = "../second/slots.rs"]

@@ -1,7 +1,7 @@
 //! A call with everything lent to it, and what is found after it.
 
 use crate::compare::{self, Side};
-use crate::{mean, packer, perl, reader, sheet};
+use crate::{mean, packer, perl, reader, rescue, sheet};
 use std::ops::{Deref, DerefMut};
 
 #[derive(Clone, Copy, PartialEq, Eq, Debug)]
@@ -10,16 +10,18 @@ pub enum Which {
     Read,
     SheetWrite,
     SheetRead,
+    SheetRescue,
     Compare,
     Mean,
     FromPerl,
 }
 
-pub const CALLS: [Which; 7] = [
+pub const CALLS: [Which; 8] = [
     Which::Pack,
     Which::Read,
     Which::SheetWrite,
     Which::SheetRead,
+    Which::SheetRescue,
     Which::Compare,
     Which::Mean,
     Which::FromPerl,
@@ -33,6 +35,7 @@ impl Which {
             Which::Read | Which::Compare => &[0, 1, 2, 3, 4, 5, 11],
             Which::SheetWrite => &[0, 1, 7, 11],
             Which::SheetRead => &[0, 1, 5, 11, 12, 13],
+            Which::SheetRescue => &[0, 1, 5, 11, 13],
             Which::Mean => &[0, 1, 7, 8, 9, 14],
             Which::FromPerl => &[0, 1, 11, 15],
         }
@@ -70,7 +73,7 @@ impl Runs {
             Which::Pack => vec![layout, slots, area, record, reply],
             Which::Read => vec![layout, record, slots, area, reply],
             Which::SheetWrite => vec![slots, area, sheet, reply],
-            Which::SheetRead => vec![sheet, slots, area, reply],
+            Which::SheetRead | Which::SheetRescue => vec![sheet, slots, area, reply],
             Which::Compare => vec![
                 layout,
                 record,
@@ -94,6 +97,8 @@ pub struct Call {
     pub which: Which,
     pub runs: Runs,
     pub mark: usize,
+    /// How many legs a rescue expects.
+    pub legs: usize,
     /// Lend empty runs as null pointers.
     pub null: bool,
 }
@@ -134,12 +139,13 @@ impl DerefMut for After {
 }
 
 impl Call {
-    /// A call with its mark at 0 and no null pointers.
+    /// A call with its mark at 0, no legs and no null pointers.
     pub fn new(which: Which, runs: Runs) -> Call {
         Call {
             which,
             runs,
             mark: 0,
+            legs: 0,
             null: false,
         }
     }
@@ -153,7 +159,7 @@ impl Call {
     }
 
     /// The state with only the reply written.
-    pub fn answered(&self, numbers: [u32; 3]) -> After {
+    pub fn answered<const N: usize>(&self, numbers: [u32; N]) -> After {
         let mut after = self.untouched(numbers[0]);
         after.reply = words(&numbers);
         after
@@ -205,6 +211,14 @@ pub fn by_twin(call: &Call) -> After {
         }
         Which::SheetRead => sheet::read_call(
             &call.sheet,
+            &mut runs.slots,
+            &mut runs.area,
+            call.mark,
+            &mut runs.reply,
+        ),
+        Which::SheetRescue => rescue::rescue_call(
+            &call.sheet,
+            call.legs,
             &mut runs.slots,
             &mut runs.area,
             call.mark,

@@ -7,6 +7,7 @@ mod mean;
 mod packer;
 mod perl;
 mod reader;
+mod rescue;
 mod sheet;
 mod slots;
 
@@ -116,6 +117,31 @@ pub unsafe extern "C" fn twin_sheet_read(
 ) -> u32 {
     sheet::read_call(
         lent(sheet, sheet_len),
+        lent_mut(slots, slots_len),
+        lent_mut(area, area_len),
+        mark,
+        lent_mut(reply, reply_len),
+    )
+}
+
+/// # Safety
+/// Each pointer leads to a run of its length; `slots`, `area` and `reply` overlap no other run.
+#[no_mangle]
+pub unsafe extern "C" fn twin_sheet_rescue(
+    sheet: *const u8,
+    sheet_len: usize,
+    legs: usize,
+    slots: *mut u8,
+    slots_len: usize,
+    area: *mut u8,
+    area_len: usize,
+    mark: usize,
+    reply: *mut u8,
+    reply_len: usize,
+) -> u32 {
+    rescue::rescue_call(
+        lent(sheet, sheet_len),
+        legs,
         lent_mut(slots, slots_len),
         lent_mut(area, area_len),
         mark,

@@ -50,6 +50,18 @@ extern "C" {
         reply: *mut u8,
         reply_len: usize,
     ) -> u32;
+    fn curlew_sheet_rescue(
+        sheet: *const u8,
+        sheet_len: usize,
+        legs: usize,
+        slots: *mut u8,
+        slots_len: usize,
+        area: *mut u8,
+        area_len: usize,
+        mark: usize,
+        reply: *mut u8,
+        reply_len: usize,
+    ) -> u32;
     fn curlew_compare(
         layout: *const u8,
         layout_len: usize,
@@ -161,6 +173,9 @@ pub fn by_library(call: &Call) -> (After, Vec<&'static str>) {
             }
             Which::SheetRead => curlew_sheet_read(
                 at[0], len[0], at[1], len[1], at[2], len[2], call.mark, at[3], len[3],
+            ),
+            Which::SheetRescue => curlew_sheet_rescue(
+                at[0], len[0], call.legs, at[1], len[1], at[2], len[2], call.mark, at[3], len[3],
             ),
             Which::Compare => curlew_compare(
                 at[0], len[0], at[1], len[1], at[2], len[2], at[3], len[3], at[4], len[4], at[5],

@@ -26,7 +26,12 @@ pub const TEMPLATE_COUNT_MAX: usize = 4096;
 pub const TEMPLATE_REPEAT_MAX: usize = 64;
 pub const TEMPLATE_DEPTH_MAX: usize = 8;
 
+/// The most legs that a rescue may expect.
+pub const LEGS_MAX: usize = SLOTS_MAX;
+
 pub const REPLY_BYTES: usize = 12;
+/// The reply of a rescue: four numbers.
+pub const RESCUE_REPLY_BYTES: usize = 16;
 /// The reply of a mean: three numbers, whether there is a mean, and the mean.
 pub const MEAN_REPLY_BYTES: usize = 24;
 /// The bytes that a comparison reports on each value field.

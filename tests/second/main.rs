@@ -20,6 +20,8 @@ mod packer;
 mod perl;
 mod perl_calls;
 mod reader;
+mod rescue;
+mod rescue_calls;
 mod sheet;
 mod sheet_calls;
 mod slots;
@@ -58,6 +60,7 @@ fn main() {
     };
     fixed::run(&mut tally);
     sheet_calls::run(&mut tally);
+    rescue_calls::run(&mut tally);
     compare_calls::run(&mut tally);
     mean_calls::run(&mut tally);
     perl_calls::run(&mut tally);
@@ -72,6 +75,7 @@ fn main() {
     while begin.elapsed() < Duration::from_secs(seconds) {
         calls::round(&mut dice, &mut scratch, &mut tally);
         sheet_calls::round(&mut dice, &mut tally);
+        rescue_calls::round(&mut dice, &mut tally);
         compare_calls::round(&mut dice, &mut scratch, &mut tally);
         mean_calls::round(&mut dice, &mut tally);
         perl_calls::round(&mut dice, &mut tally);

@@ -11,7 +11,7 @@ const VERSION: u8 = 1;
 /// The bytes of a length.
 const LENGTH: usize = 2;
 const LENGTH_MAX: usize = (1 << (8 * LENGTH)) - 1;
-const HEADER: usize = 1 + LENGTH;
+pub const HEADER: usize = 1 + LENGTH;
 
 fn length_of(bytes: &[u8]) -> usize {
     bytes.iter().fold(0, |sum, &byte| sum << 8 | byte as usize)
@@ -61,7 +61,7 @@ fn written(slots: &[u8], area: &[u8], sheet: &mut [u8]) -> Result<Answer, Answer
 // Reading
 
 /// The kind, the value and what follows the entry at the front; none if it is not well formed.
-fn entry(bytes: &[u8]) -> Option<(u32, &[u8], &[u8])> {
+pub fn entry(bytes: &[u8]) -> Option<(u32, &[u8], &[u8])> {
     let (length, rest) = (bytes.get(..LENGTH)?, &bytes[LENGTH..]);
     let body = rest.get(..length_of(length))?;
     let (&kind, value) = body.split_first()?;
@@ -78,9 +78,14 @@ fn entry(bytes: &[u8]) -> Option<(u32, &[u8], &[u8])> {
     }
 }
 
+/// Whether a first byte is there and no version that is known.
+pub fn is_other_version(sheet: &[u8]) -> bool {
+    sheet.first().map_or(false, |&version| version != VERSION)
+}
+
 /// How many entries the sheet has, and the bytes of their values.
 fn measure(sheet: &[u8]) -> Result<(usize, usize), Answer> {
-    if sheet.first().map_or(false, |&version| version != VERSION) {
+    if is_other_version(sheet) {
         return Err(refused(13, 0));
     }
     if sheet.len() < HEADER || length_of(&sheet[1..HEADER]) != sheet.len() - HEADER {
@@ -99,7 +104,7 @@ fn measure(sheet: &[u8]) -> Result<(usize, usize), Answer> {
 }
 
 /// Sets the slots of the entries; there are as many slots, and room for the values.
-fn load(entries: &[u8], slots: &mut [u8], area: &mut [u8], mark: usize) {
+pub fn load(entries: &[u8], slots: &mut [u8], area: &mut [u8], mark: usize) {
     let (mut rest, mut place) = (entries, mark);
     for slot in slots.chunks_exact_mut(SLOT_BYTES) {
         let (kind, value, next) = match entry(rest) {

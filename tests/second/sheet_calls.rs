@@ -37,7 +37,7 @@ fn reading(sheet: &[u8], slots: usize, room: usize) -> Call {
 }
 
 /// The bytes that the values take in an area.
-fn size(values: &[Value]) -> usize {
+pub fn size(values: &[Value]) -> usize {
     values.iter().map(|v| v.bytes().len()).sum()
 }
 
@@ -221,7 +221,7 @@ pub fn run(t: &mut dyn Judge) {
 // Random calls
 
 /// A table of which some slots are not set; these hold anything in start and length.
-fn random_table(dice: &mut Dice) -> (Vec<u8>, Vec<u8>) {
+pub fn random_table(dice: &mut Dice) -> (Vec<u8>, Vec<u8>) {
     let count = match dice.below(10) {
         0 => 0,
         1 => dice.between(0, SLOTS_MAX),
@@ -376,7 +376,7 @@ fn damaged(dice: &mut Dice, sheet: &[u8], at: usize) -> Vec<u8> {
 }
 
 /// Bytes that look like a sheet at least at their beginning.
-fn random_sheet(dice: &mut Dice) -> Vec<u8> {
+pub fn random_sheet(dice: &mut Dice) -> Vec<u8> {
     let mut sheet = vec![1, 0, 0];
     for _ in 0..dice.below(6) {
         let length = dice.pick(&[0, 1, 1, 2, 8, 9, 9, 17, 17, 18]);

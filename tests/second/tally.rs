@@ -45,7 +45,10 @@ fn show_call(call: &Call) {
     } else {
         ""
     };
-    println!("  {:?}, mark {}{}", call.which, call.mark, null);
+    println!(
+        "  {:?}, mark {}, legs {}{}",
+        call.which, call.mark, call.legs, null
+    );
     for (name, run) in call.runs.clone().lent(call.which) {
         println!("  {:8} {}", name, hex(run));
     }

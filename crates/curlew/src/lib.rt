@@ -1,6 +1,8 @@
 // The calls that a C host links to, each under its C name: the crates host_* hold what they do.
+ghost use mathlib.Core.Path.{_≡_};
 ghost use Rattle.host_record.specs.Calls.{HostPacks, HostReads};
 ghost use Rattle.host_sheet.specs.Calls.{HostWritesSheet, HostReadsSheet};
+ghost use Rattle.host_rescue.specs.Calls.{curlewSheetRescue};
 ghost use Rattle.host_compare.specs.Calls.{HostCompares};
 ghost use Rattle.host_mean.specs.Calls.{HostMeans};
 ghost use Rattle.host_perl.specs.Calls.{HostConverts};
@@ -59,6 +61,21 @@ pub extern "C" fn curlew_sheet_read(
     ensures { λ r. ⌜ HostReadsSheet sheet slots area mark reply r ⌝ }
 {
     host_sheet::read(sheet, slots, area, mark, reply)
+}
+
+// Keeps what is whole at the front of a damaged sheet, and sets slots and area.
+#[no_mangle]
+pub extern "C" fn curlew_sheet_rescue(
+    sheet: &[u8],
+    legs: usize,
+    slots: &mut [u8],
+    area: &mut [u8],
+    mark: usize,
+    reply: &mut [u8],
+) -> u32
+    ensures { λ r. ⌜ record { returned = r; slots = now (slots .exit); area = now (area .exit); reply = now (reply .exit) } ≡ curlewSheetRescue (now (sheet .entry)) legs (now (slots .entry)) (now (area .entry)) mark (now (reply .entry)) ⌝ }
+{
+    host_rescue::rescue(sheet, legs, slots, area, mark, reply)
 }
 
 // Reads two copies of a record by their layout, each into its own table and area, and says for each value field what differs.

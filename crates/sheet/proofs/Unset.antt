@@ -21,7 +21,7 @@ use Rattle.sheet.proofs.Tables.{length-slot-numbers}
 use Rattle.sheet.proofs.Calls.{ReadIt, read-it, read-put}
 
 module _ (xs ys area : List ℕ) (mark : ℕ) where
-  set-over : (es : List Entry) → slotNumbers mark es ++ drop (slotWidth * length es) ys ≡ storeAt ys 0 (take (length es * slotWidth) (slotNumbers mark es ++ drop (slotWidth * length es) xs))
+  pub set-over : (es : List Entry) → slotNumbers mark es ++ drop (slotWidth * length es) ys ≡ storeAt ys 0 (take (length es * slotWidth) (slotNumbers mark es ++ drop (slotWidth * length es) xs))
   set-over es =
       let long : length (slotNumbers mark es) ≡ length es * slotWidth = length-slot-numbers mark es ∙ mul-comm slotWidth (length es) in
       rw (take-at (slotNumbers mark es) (drop (slotWidth * length es) xs) (length es * slotWidth) long, zero-add, length-slot-numbers mark es)

@@ -1,0 +1,2 @@
+-- Laws of rescuing a sheet for a C host.
+mod Calls

@@ -1,0 +1,36 @@
+-- Rescuing a damaged sheet for a C host (02, M-109; 01, Slot tables). THE EFFECT OF A CALL is `curlewSheetRescue`, at the end.
+use Prim.Native.Nat.{ℕ, _*_}
+use mathlib.Core.List.{List, [], _∷_}
+use lib.Dec.{eqb}
+use Rattle.layout.specs.declared.Refusal.the-variants.{BadSize}
+use Rattle.layout.specs.Refusals.{if_then_else_, numberOf}
+use Rattle.host.specs.Host.{numberSize, numbersIn, bytesOf, ReadCall, guarded}
+use Rattle.rescue.specs.declared.Rescued.{Rescued}
+use Rattle.rescue.specs.Rescue.{refusal, Outcome, rescue}
+
+-- the reply: an answer's four numbers
+unfoldable pub rescueReply : Rescued → List ℕ
+unfolding bytesOf
+rescueReply a = bytesOf (a .number ∷ a .first ∷ a .second ∷ a .third ∷ [])
+
+abbrev pub rescueReplySize : ℕ
+rescueReplySize = numberSize * 4
+
+-- what the call on numbers leaves, as a C host sees it: a refusal writes the reply alone
+unfoldable pub rescueCall : List ℕ → Outcome → ReadCall
+unfolding bytesOf rescueReply
+rescueCall slots o =
+    record {
+      returned = o .answer .number;
+      slots = if eqb (o .answer .number) 0 then bytesOf (o .slots) else slots;
+      area = o .area;
+      reply = rescueReply (o .answer);
+    }
+
+unfoldable pub curlewSheetRescue : List ℕ → ℕ → List ℕ → List ℕ → ℕ → List ℕ → ReadCall
+unfolding rescueCall numbersIn rescue
+curlewSheetRescue sheet legs slots area mark reply =
+    guarded rescueReplySize reply slots
+    (record { returned = numberOf BadSize; slots = slots; area = area; reply = reply })
+    (rescueCall slots (record { answer = refusal BadSize 0; slots = numbersIn slots; area = area }))
+    (rescueCall slots (rescue sheet legs (numbersIn slots) area mark))

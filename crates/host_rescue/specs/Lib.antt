@@ -1,0 +1,2 @@
+-- What rescuing a sheet for a C host means.
+pub mod Calls

@@ -1,0 +1,212 @@
+-- The claims: a sound sheet is rescued as it is read, a written one whole, and a cut one up to the cut.
+use Prim.Native.Nat.{ℕ, zero, suc, _+_, _-_, _*_, _/_, _≤_, _<_}
+use native.Mathlib.Omega.{arith}
+use mathlib.Core.Path.{_≡_, refl, sym, ap, ap₂, _∙_}
+use mathlib.Core.Bool.{Bool, true, false, _&&_}
+use mathlib.Core.List.{List, [], _∷_, _++_, map}
+use borrow.Author.Tests.{le-leb}
+use lib.Dec.{leb}
+use lib.ListN.{length, take, drop, length-take, take-append-drop}
+use lib.Seq.{take-all, take-length, take-nil, length-take-le}
+use Rattle.layout.specs.declared.Refusal.the-variants.{BadSlot}
+use Rattle.layout.specs.Refusals.{if_then_else_, ok}
+use Rattle.layout.proofs.Laws.{demanded}
+use Rattle.record.specs.declared.slots.Slot.{Slot}
+use Rattle.record.specs.Table.{slotsOf, slotWidth, maxSlots}
+use Rattle.record.specs.Geometry.{tableFits}
+use Rattle.record.specs.Reading.{Read}
+use Rattle.record.proofs.Tables.{slots-take, length-slots}
+use Rattle.sheet.specs.Entries.{Entry, valueBytes}
+use Rattle.sheet.specs.Sheet.{version, lengthWidth, headerSize, maxSheet, sheetBytes, entryOf, entriesOf, slotFits, slotsFit, slotNumbers, entriesEnd, entriesAt, versionFits, putInto, read, write}
+use Rattle.sheet.specs.Claims.{seen, sheetOf, Stored}
+use Rattle.sheet.specs.Steps.{sheetFor, lentFits}
+use Rattle.sheet.proofs.Entries.{AllSound}
+use Rattle.sheet.proofs.Tables.{slots-sound, same-seen, length-slot-numbers}
+use Rattle.sheet.proofs.Calls.{lengths, lent, Wrote, wrote, header-there, ReadIt, read-it, read-put}
+use Rattle.sheet.proofs.Claims.{put-entries, put-fit, length-entries, true-is, sheet-is, table-kept}
+use Rattle.sheet.proofs.Reading.{front-few}
+use Rattle.rescue.specs.Rescue.{keptIn, droppedOf, filledUp, saved, Outcome, keeping, rescue}
+use Rattle.rescue.specs.Claims.{allKept, SoundRead, SavesAll, WrittenSaved, setBy, Again, RescuedSaved, entriesFor, SavesFront, CutSaved}
+use Rattle.rescue.proofs.Calls.{rescue-put, RescuedIt, rescued-it}
+use Rattle.rescue.proofs.Filled.{filled-area, filled-front, filled-slots, filled-none, length-filled}
+use Rattle.rescue.proofs.Cuts.{wholeBy, whole-few, cut-entries, cut-exactly}
+
+-- a table has at most so many slots
+few-legs : (slots area sheet mark legs : ℕ) → lentFits slots area sheet mark ≡ true → legs ≤ slots / slotWidth → lentFits slots area sheet mark && leb legs maxSlots ≡ true
+few-legs slots area sheet mark legs sizes h = rw (sizes, le-leb legs maxSlots (omega (arith, lent slots area sheet mark sizes .lengths .table)))
+
+-- ---- a sound sheet
+
+module _ (sheet slots area : List ℕ) (mark : ℕ) (got : ReadIt sheet slots area mark) where
+  none-dropped : droppedOf lengthWidth sheet (entriesAt lengthWidth sheet) ≡ 0
+  unfolding droppedOf
+  none-dropped = rw (le-leb (headerSize lengthWidth) (length sheet) (header-there lengthWidth sheet (got .opened .header)), got .whole) (omega arith)
+
+  -- the entries of the sheet are all kept
+  all-kept : keeping sheet (length (entriesAt lengthWidth sheet)) slots area mark (entriesAt lengthWidth sheet) ≡ allKept (putInto slots area mark (entriesAt lengthWidth sheet))
+  unfolding putInto
+  all-kept = let none : length (entriesAt lengthWidth sheet) - length (entriesAt lengthWidth sheet) ≡ 0 = omega arith in rw (filled-none (entriesAt lengthWidth sheet), none-dropped, none)
+
+pub sound-read : SoundRead
+unfolding putInto keptIn
+sound-read sheet slots area mark h =
+    let got : ReadIt sheet slots area mark = read-it sheet slots area mark h in
+    let es : List Entry = entriesAt lengthWidth sheet in
+    let is : read sheet slots area mark ≡ putInto slots area mark es = sym (read-put sheet slots area mark (got .opened) (got .whole) (got .rows) (got .room)) in
+    let kept : keptIn lengthWidth (length es) sheet ≡ es = take-length es in
+    let sizes = few-legs (length slots) (length area) (length sheet) mark (length es) (got .opened .sizes) (omega (arith, got .rows, length-slots slots)) in
+    let done : keeping sheet (length es) slots area mark (keptIn lengthWidth (length es) sheet) ≡ rescue sheet (length es) slots area mark =
+    rescue-put sheet (length es) slots area mark sizes (got .opened .versions) (got .rows) (rw kept (got .room)) in
+    rw is (sym done ∙ ap (keeping sheet (length es) slots area mark) kept ∙ all-kept sheet slots area mark got)
+
+-- ---- a sheet that was written
+
+pub written-saved : WrittenSaved
+unfolding putInto
+written-saved slots area buffer table values mark s =
+    let sheet : List ℕ = sheetOf (write slots area buffer) in
+    let k = table-kept slots area buffer table values mark s in
+    let r : Read = read sheet table values mark in
+    let as-read : rescue sheet (length (slotsOf slots)) table values mark ≡ record { answer = saved (length (slotsOf slots)) 0 0; slots = r .slots; area = r .area } =
+    rw (k .count) at (sound-read sheet table values mark (ap (λ (r : Read). r .answer .number) (k .effect))) in
+    record { answer = ap (λ (o : Outcome). o .answer) as-read; shows = rw as-read (k .shows) }
+
+-- a rescue leaves as many slots as there are legs
+set-legs : (sheet : List ℕ) (legs : ℕ) (slots area : List ℕ) (mark : ℕ) → rescue sheet legs slots area mark .answer .number ≡ 0
+    → length (slotsOf (setBy legs (rescue sheet legs slots area mark))) ≡ legs
+unfolding keptIn
+set-legs sheet legs slots area mark h =
+    let p = rescued-it sheet legs slots area mark h in
+    let es : List Entry = keptIn lengthWidth legs sheet in
+    let few : length es ≤ legs = rw length-take (omega arith) in
+    let done = rescue-put sheet legs slots area mark (p .sizes) (p .versions) (p .rows) (p .room) in
+    let is : setBy legs (rescue sheet legs slots area mark) ≡ slotNumbers mark (filledUp legs es) = ap (setBy legs) (sym done) ∙ filled-slots legs es slots area mark few in
+    let long : length (setBy legs (rescue sheet legs slots area mark)) ≡ slotWidth * legs = ap length is ∙ length-slot-numbers mark (filledUp legs es) ∙ rw (length-filled legs es few) in
+    omega (arith, length-slots (setBy legs (rescue sheet legs slots area mark)), long)
+
+pub rescued-saved : RescuedSaved
+rescued-saved sheet legs slots area mark buffer table values mark′ a =
+    let o : Outcome = rescue sheet legs slots area mark in
+    rw (set-legs sheet legs slots area mark (a .rescuing)) at (written-saved (setBy legs o) (o .area) buffer table values mark′ (a .stored))
+
+-- ---- a written sheet, cut
+
+sound-take : (m : ℕ) (es : List Entry) → AllSound es → AllSound (take m es)
+sound-take zero es s = tt
+sound-take (suc m) [] s = tt
+sound-take (suc m) (e ∷ es) s = (s .0, sound-take m es (s .1))
+
+fits-take : (area : List ℕ) (i m : ℕ) (ts : List Slot) → slotsFit area i ts ≡ ok tt → slotsFit area i (take m ts) ≡ ok tt
+unfolding slotsFit
+fits-take area i zero ts h = refl
+fits-take area i (suc m) [] h = refl
+fits-take area i (suc m) (t ∷ ts) h =
+    let d = demanded (slotFits (length area) t) BadSlot i (λ _. slotsFit area (suc i) ts) tt h in
+    rw (d .0) (fits-take area (suc i) m ts (d .1))
+
+entries-take : (area : List ℕ) (m : ℕ) (ts : List Slot) → entriesOf area (take m ts) ≡ take m (entriesOf area ts)
+unfolding entriesOf
+entries-take area zero ts = refl
+entries-take area (suc m) [] = refl
+entries-take area (suc m) (t ∷ ts) = ap (λ (r : List Entry). entryOf area t ∷ r) (entries-take area m ts)
+
+cut-version : (k w : ℕ) (es : List Entry) → versionFits (take k (sheetBytes version w es)) ≡ true
+unfolding versionFits sheetBytes
+cut-version zero w es = refl
+cut-version (suc k) w es = refl
+
+module _ {slots area buffer table values : List ℕ} {mark : ℕ} (k : ℕ) (s : Stored slots area buffer table values mark) where
+  passed : Wrote slots area buffer
+  passed = wrote slots area buffer (s .writing)
+
+  es : List Entry
+  es = entriesFor slots area
+
+  sound : AllSound es
+  unfolding es
+  sound = slots-sound area 0 (slotsOf slots) (passed .fits)
+
+  -- how many entries are whole
+  m : ℕ
+  unfolding es
+  m = wholeBy lengthWidth version es sound (passed .short) k
+
+  few : m ≤ length es
+  unfolding es m
+  few = whole-few lengthWidth version es sound (passed .short) k
+
+  front : List Entry
+  front = take m es
+
+  front-sound : AllSound front
+  unfolding front
+  front-sound = sound-take m es sound
+
+  front-long : length front ≡ m
+  unfolding front
+  front-long = length-take-le m es few
+
+  n : ℕ
+  n = length (slotsOf slots)
+
+  cut : List ℕ
+  cut = take k (sheetOf (write slots area buffer))
+
+  cut-is : cut ≡ take k (sheetBytes version lengthWidth es)
+  unfolding es cut
+  cut-is = ap (take k) (sheet-is s)
+
+  kept-is : keptIn lengthWidth n cut ≡ front
+  unfolding es keptIn front m n
+  kept-is =
+      ap (λ (b : List ℕ). take n (entriesAt lengthWidth b)) cut-is
+      ∙ ap (take n) (cut-entries lengthWidth version es sound (passed .short) k)
+      ∙ take-all n front (omega (arith, front-long, few, length-entries area slots))
+
+  sizes : lentFits (length table) (length values) (length cut) mark ≡ true
+  unfolding cut
+  sizes =
+      let sheet : List ℕ = sheetOf (write slots area buffer) in
+      let start : mark ≤ length values = omega (arith, s .room) in
+      let small : length sheet ≤ maxSheet = rw (sheet-is s) (omega (arith, passed .room, lengths (length slots) (length area) (length buffer) (passed .sizes) .size)) in
+      let short : length (take k sheet) ≤ maxSheet = rw length-take (omega arith) in
+      rw (true-is (tableFits (length table) (length values)) (s .sizes), le-leb (length (take k sheet)) maxSheet short, le-leb mark (length values) start)
+
+  room : mark + length (valueBytes front) ≤ length values
+  unfolding front es
+  room = omega (arith, s .room, front-few front (drop m es) es (take-append-drop m es) .1)
+
+  cut-effect : rescue cut n table values mark ≡ keeping cut n table values mark front
+  unfolding n es
+  cut-effect =
+      let legs = few-legs (length table) (length values) (length cut) mark n sizes (omega (arith, s .enough-slots, length-slots table)) in
+      let versions : versionFits cut ≡ true = rw cut-is (cut-version k lengthWidth es) in
+      sym (rescue-put cut n table values mark legs versions (s .enough-slots) (rw kept-is room)) ∙ ap (keeping cut n table values mark) kept-is
+
+  cut-shows : map (seen (rescue cut n table values mark .area)) (take m (slotsOf (rescue cut n table values mark .slots))) ≡ map (seen area) (take m (slotsOf slots))
+  unfolding front es
+  cut-shows =
+      let r : Read = putInto table values mark front in
+      let f : Read = putInto table values mark (filledUp n front) in
+      let set : take m (slotsOf (f .slots)) ≡ slotsOf (slotNumbers mark front) =
+      sym (slots-take m (f .slots)) ∙ ap slotsOf (ap (λ (i : ℕ). take (slotWidth * i) (f .slots)) (sym front-long) ∙ filled-front n front table values mark) in
+      let same : f .area ≡ r .area = filled-area n front table values mark in
+      rw (cut-effect, set, same)
+      (same-seen (r .area) area (slotsOf (slotNumbers mark front)) (take m (slotsOf slots))
+      (put-fit table values mark front front-sound room)
+      (fits-take area 0 m (slotsOf slots) (passed .fits))
+      (put-entries table values mark front front-sound room ∙ sym (entries-take area m (slotsOf slots))))
+
+  saves-front : SavesFront slots area table values mark k (take k (sheetOf (write slots area buffer)))
+  unfolding m front es n cut
+  saves-front =
+      record {
+        kept = m;
+        exactly = λ i h. cut-exactly lengthWidth version es sound (passed .short) k i (rw length-entries h);
+        count = ap (λ (o : Outcome). o .answer .first) cut-effect ∙ front-long;
+        effect = cut-effect;
+        shows = cut-shows;
+      }
+
+pub cut-saved : CutSaved
+cut-saved slots area buffer table values mark k s = saves-front k s

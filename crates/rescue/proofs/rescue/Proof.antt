@@ -1,0 +1,97 @@
+-- Line by line of the request: each way out is one law of the definition.
+use native.Mathlib.Omega.{arith}
+use mathlib.Core.Path.{sym, _∙_}
+use borrow.Author.Tests.{leb-true, leb-false, not-true, not-false}
+use Rattle.record.proofs.Tables.{length-slots}
+use Rattle.rescue.specs.Steps.{Ready}
+use Rattle.rescue.proofs.Calls.{rescue-sizes, rescue-version, rescue-slots}
+use borrow.Author.Needs.{needs}
+use Rattle.rescue.proofs.rescue.Statement.{statement}
+use Rattle.rescue.proofs.rescue.Tie as tie
+
+sizes-fit-requires : tie.Need-sizes-fit-requires
+sizes-fit-requires c κs = search needs
+
+refused-requires : tie.Need-refused-requires
+refused-requires c κs = search needs
+
+returns : tie.Need-returns
+returns c = rw (c .refused .ensures) (rescue-sizes _ _ _ _ _ (sym (c .before .before .sizes-fit .ensures) ∙ not-true _ (c .before .if1 .taken)))
+
+version-fits-requires : tie.Need-version-fits-requires
+version-fits-requires c κs = search needs
+
+refused-requires-2 : tie.Need-refused-requires-2
+refused-requires-2 c κs = search needs
+
+returns-2 : tie.Need-returns-2
+returns-2 c = rw (c .refused2 .ensures) (rescue-version _ _ _ _ _ (sym (c .before .before .before .before .sizes-fit .ensures) ∙ not-false _ (c .before .before .before .if1 .left)) (sym (c .before .before .version-fits .ensures) ∙ not-true _ (c .before .if2 .taken)))
+
+refused-requires-3 : tie.Need-refused-requires-3
+refused-requires-3 c κs = search needs
+
+returns-3 : tie.Need-returns-3
+returns-3 c = rw (c .refused3 .ensures) (rescue-slots _ _ _ _ _ (sym (c .before .before .before .before .before .sizes-fit .ensures) ∙ not-false _ (c .before .before .before .before .if1 .left)) (sym (c .before .before .before .version-fits .ensures) ∙ not-false _ (c .before .before .if2 .left)) (omega (arith, length-slots (c .before .before .before .before .before .before .before .before .before .args .slots .now), c .before .if3 .taken)))
+
+has-header-requires : tie.Need-has-header-requires
+has-header-requires c κs = search needs
+
+-- what was tested before the header is
+ready : (c : tie.After-has-header) → Ready (c .before .before .before .before .before .before .before .before .before .args .sheet .now) (c .before .before .before .before .before .before .before .before .before .args .legs) (c .before .before .before .before .before .before .before .before .before .args .slots .now) (c .before .before .before .before .before .before .before .before .before .args .area .now) (c .before .before .before .before .before .before .before .before .before .args .mark)
+ready c =
+    let start = c .before .before .before .before .before .before .before .before .before in
+    record {
+      sizes = sym (c .before .before .before .before .before .sizes-fit .ensures) ∙ not-false _ (c .before .before .before .before .if1 .left);
+      versions = sym (c .before .before .before .version-fits .ensures) ∙ not-false _ (c .before .before .if2 .left);
+      rows = omega (arith, length-slots (start .args .slots .now), c .before .if3 .left);
+    }
+
+rescue-nothing-requires : tie.Need-rescue-nothing-requires
+rescue-nothing-requires c κs =
+    let tested = c .before .before in
+    (ready (tested .before), leb-false _ _ (sym (tested .before .has-header .ensures) ∙ not-true _ (tested .if4 .taken)))
+
+same-length : tie.Need-same-length
+same-length c = search needs
+
+same-length-2 : tie.Need-same-length-2
+same-length-2 c = search needs
+
+returns-4 : tie.Need-returns-4
+returns-4 c = search needs
+
+rescue-entries-requires : tie.Need-rescue-entries-requires
+rescue-entries-requires c κs =
+    let tested = c .before .before in
+    (ready (tested .before), leb-true _ _ (sym (tested .before .has-header .ensures) ∙ not-false _ (tested .if4 .left)))
+
+same-length-3 : tie.Need-same-length-3
+same-length-3 c = search needs
+
+same-length-4 : tie.Need-same-length-4
+same-length-4 c = search needs
+
+returns-5 : tie.Need-returns-5
+returns-5 c = search needs
+
+pub rescue-spec : {M : Type 1} → statement M
+rescue-spec =
+    tie.close
+    (tie.spec
+    sizes-fit-requires
+    refused-requires
+    returns
+    version-fits-requires
+    refused-requires-2
+    returns-2
+    refused-requires-3
+    returns-3
+    has-header-requires
+    rescue-nothing-requires
+    same-length
+    same-length-2
+    returns-4
+    rescue-entries-requires
+    same-length-3
+    same-length-4
+    returns-5)

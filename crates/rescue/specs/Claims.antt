@@ -1,0 +1,80 @@
+-- What a rescue keeps (02, M-109): claims on the call for all sheets, tables, areas, marks and cuts. The proofs are in proofs/Claims.antt,
+-- and proofs/Instance.antt meets the premises.
+use Prim.Native.Nat.{ℕ, suc, _*_, _<_}
+use mathlib.Core.Path.{_≡_}
+use mathlib.Core.List.{List, map}
+use lib.ListN.{length, take}
+use lib.Dec.{leb, ltb}
+use Rattle.record.specs.Table.{slotsOf, slotWidth}
+use Rattle.record.specs.Reading.{Read}
+use Rattle.sheet.specs.Entries.{Entry}
+use Rattle.sheet.specs.Sheet.{lengthWidth, entriesOf, entriesEnd, write, read}
+use Rattle.sheet.specs.Claims.{seen, sheetOf, Stored}
+use Rattle.rescue.specs.Rescue.{saved, Outcome, keeping, rescue}
+
+-- ---- a sound sheet
+
+-- all entries that a reading counts are kept, nothing is blanked or dropped, and slots and area are those of the reading
+abbrev pub allKept : Read → Outcome
+allKept r = record { answer = saved (r .answer .first) 0 0; slots = r .slots; area = r .area }
+
+-- A sheet that the reader accepts is rescued as it is read, by as many legs as it has entries.
+abbrev pub SoundRead : Type 0
+SoundRead =
+    (sheet slots area : List ℕ) (mark : ℕ) → read sheet slots area mark .answer .number ≡ 0
+    → rescue sheet (read sheet slots area mark .answer .first) slots area mark ≡ allKept (read sheet slots area mark)
+
+-- ---- a sheet that was written
+
+-- n slots are kept, none blanked, nothing dropped, and each shows what it showed in the table that was written
+pub record SavesAll (n : ℕ) (slots area : List ℕ) (o : Outcome) : Type 0 where
+  pub answer : o .answer ≡ saved n 0 0
+  pub shows : map (seen (o .area)) (take n (slotsOf (o .slots))) ≡ map (seen area) (slotsOf slots)
+
+-- The sheet of a table that the writer accepts, rescued by as many legs as the table has slots, into another table with slots and room.
+abbrev pub WrittenSaved : Type 0
+WrittenSaved =
+    (slots area buffer table values : List ℕ) (mark : ℕ) → Stored slots area buffer table values mark
+    → SavesAll (length (slotsOf slots)) slots area (rescue (sheetOf (write slots area buffer)) (length (slotsOf slots)) table values mark)
+
+-- the slots that a rescue by n legs set
+abbrev pub setBy : ℕ → Outcome → List ℕ
+setBy n o = take (slotWidth * n) (o .slots)
+
+-- A rescue was accepted, the writer accepts the slots that it set, and a second rescue, of that sheet, has slots and room.
+pub record Again (sheet : List ℕ) (legs : ℕ) (slots area : List ℕ) (mark : ℕ) (buffer table values : List ℕ) (mark′ : ℕ) : Type 0 where
+  pub rescuing : rescue sheet legs slots area mark .answer .number ≡ 0
+  pub stored : Stored (setBy legs (rescue sheet legs slots area mark)) (rescue sheet legs slots area mark .area) buffer table values mark′
+
+-- The second keeps every leg and shows what the first left.
+abbrev pub RescuedSaved : Type 0
+RescuedSaved =
+    (sheet : List ℕ) (legs : ℕ) (slots area : List ℕ) (mark : ℕ) (buffer table values : List ℕ) (mark′ : ℕ) → Again sheet legs slots area mark buffer table values mark′
+    → let o = rescue sheet legs slots area mark in
+    SavesAll legs (setBy legs o) (o .area) (rescue (sheetOf (write (setBy legs o) (o .area) buffer)) legs table values mark′)
+
+-- ---- a written sheet, cut
+
+-- the entries of a table, and where number i ends in its sheet
+abbrev pub entriesFor : List ℕ → List ℕ → List Entry
+entriesFor slots area = entriesOf area (slotsOf slots)
+
+abbrev pub endOf : List ℕ → List ℕ → ℕ → ℕ
+endOf slots area i = entriesEnd lengthWidth (take (suc i) (entriesFor slots area))
+
+-- of a sheet that is cut at byte k exactly the entries that end at or before the cut are kept, and their slots show what they showed
+pub record SavesFront (slots area table values : List ℕ) (mark k : ℕ) (cut : List ℕ) : Type 0 where
+  pub kept : ℕ
+  pub exactly : (i : ℕ) → i < length (slotsOf slots) → ltb i kept ≡ leb (endOf slots area i) k
+  pub count : rescue cut (length (slotsOf slots)) table values mark .answer .first ≡ kept
+  pub effect :
+      rescue cut (length (slotsOf slots)) table values mark
+      ≡ keeping cut (length (slotsOf slots)) table values mark (take kept (entriesFor slots area))
+  pub shows :
+      map (seen (rescue cut (length (slotsOf slots)) table values mark .area)) (take kept (slotsOf (rescue cut (length (slotsOf slots)) table values mark .slots)))
+      ≡ map (seen area) (take kept (slotsOf slots))
+
+abbrev pub CutSaved : Type 0
+CutSaved =
+    (slots area buffer table values : List ℕ) (mark k : ℕ) → Stored slots area buffer table values mark
+    → SavesFront slots area table values mark k (take k (sheetOf (write slots area buffer)))
