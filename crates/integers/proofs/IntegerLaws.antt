@@ -1,5 +1,5 @@
 -- Laws of integers in fields: the bytes of one, stored and read, and those of many, one after the other.
-use Prim.Native.Nat.{ℕ, zero, suc, _+_, _-_, _*_, _≤_, _<_}
+use Prim.Native.Nat.{ℕ, zero, suc, _+_, _-_, _*_, _/_, _%_, _≤_, _<_}
 use native.Mathlib.Nat.{suc-mul, zero-mul, add-sub-cancel, not-suc-le-zero}
 use native.Mathlib.Omega.{arith}
 use mathlib.Core.Path.{_≡_, refl, sym, ap, _∙_}
@@ -161,3 +161,19 @@ pub loaded-runs : (input : List ℕ) (at w : ℕ) (big unsigned : Bool) (n : ℕ
 unfolding bigEndian numberBytes loaded itemBytes
 loaded-runs input at w big unsigned n =
     rw (pieces-take w n (drop at input)) (sym (joined (λ x. reverse (digits 256 8 x)) (λ p. widened w unsigned (number 256 (ordered big p))) w input n at))
+
+-- ---- integers of two bytes, as numbers
+
+pub pair-low-number : (v : ℕ) → v < 65536 → v ≡ number 256 (ordered false (digits 256 2 v))
+unfolding digits number
+pair-low-number v h = omega arith
+
+pub pair-high-number : (v : ℕ) → v < 65536 → v % 256 * 256 + v / 256 ≡ number 256 (ordered true (digits 256 2 v))
+unfolding digits number
+pair-high-number v h = omega arith
+
+-- the item of a pair that was read as a number
+pub pair-item : (input : List ℕ) (at v x y : ℕ) (big unsigned : Bool) → digits 256 2 v ≡ part input at 2 → x ≡ number 256 (ordered big (digits 256 2 v)) → y ≡ widened 2 unsigned x
+    → numberBytes 8 y ≡ itemBytes 2 big unsigned (part input at 2)
+unfolding itemBytes numberBytes
+pair-item input at v x y big unsigned two is wide = rw (wide, is, two)

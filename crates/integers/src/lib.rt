@@ -5,10 +5,10 @@ ghost use mathlib.Core.List.{List};
 ghost use Prim.Native.Nat.{ℕ, _+_, _*_, _≤_, _<_};
 ghost use lib.ListN.{length, getD, drop};
 ghost use Rattle.layout.specs.declared.Shape.the-variants.{Integers};
-ghost use Rattle.record.specs.Bytes.{part, storeAt, digits, ordered};
+ghost use Rattle.record.specs.Bytes.{part, storeAt, digits, number, ordered};
 ghost use Rattle.record.specs.Table.{integerBytes, integersIn};
 ghost use Rattle.record.specs.Packing.{stored};
-ghost use Rattle.record.specs.Reading.{loaded};
+ghost use Rattle.record.specs.Reading.{loaded, widened};
 ghost use Rattle.integers.specs.Items.{itemBytes, fillerOf};
 
 // Where byte j of a run of n stands before the run is turned round, or not.
@@ -121,8 +121,67 @@ fn load_item(
     copy_ordered(area, to + (8 - w), input, at, w, !big);
 }
 
-// Reads n integers of w bytes each.
-pub fn load(
+// The number that two bytes make, the low one first or, where `big` says so, last.
+fn pair_number(v: u16, big: bool) -> u16
+    ensures { λ r. ⌜ r ≡ number 256 (ordered big (digits 256 2 v)) ⌝ }
+{
+    if big {
+        return v % 256 * 256 + v / 256;
+    }
+    v
+}
+
+// An integer of two bytes with eight: its sign goes on.
+fn widen_pair(v: u16, unsigned: bool) -> u64
+    ensures { λ r. ⌜ r ≡ widened 2 unsigned v ⌝ }
+{
+    let x = v as u64;
+    if unsigned {
+        return x;
+    }
+    if x < 32768 {
+        x
+    } else {
+        x + 18446744073709486080
+    }
+}
+
+// Reads one integer of two bytes, as a number: its eight bytes become one store.
+fn load_pair(area: &mut [u8], to: usize, input: &[u8], at: usize, big: bool, unsigned: bool)
+    requires { ⌜ (to + 8 ≤ length (now area)) × (at + 2 ≤ length (now input)) ⌝ }
+    ensures { λ _. ⌜ now (area .exit) ≡ storeAt (now (area .entry)) to (itemBytes 2 big unsigned (part (now (input .entry)) at 2)) ⌝ }
+{
+    let x = pair_number(pair_at(input, at), big);
+    record::numbers::put_number(
+        area,
+        to,
+        record::numbers::INTEGER_SIZE,
+        widen_pair(x, unsigned),
+    );
+}
+
+// Reads n integers of two bytes each.
+fn load_pairs(
+    area: &mut [u8],
+    to: usize,
+    input: &[u8],
+    at: usize,
+    n: usize,
+    big: bool,
+    unsigned: bool,
+)
+    requires { ⌜ (to + n * 8 ≤ length (now area)) × (at + n * 2 ≤ length (now input)) ⌝ }
+    ensures { λ _. ⌜ now (area .exit) ≡ storeAt (now (area .entry)) to (integerBytes (loaded (Integers 2 big) unsigned n (part (now (input .entry)) at (n * 2)) .items)) ⌝ }
+{
+    let mut i = 0;
+    while i < n {
+        load_pair(area, to + i * 8, input, at + i * 2, big, unsigned);
+        i += 1;
+    }
+}
+
+// Reads n integers of w bytes each, by their bytes.
+fn load_each(
     area: &mut [u8],
     to: usize,
     input: &[u8],
@@ -140,4 +199,24 @@ pub fn load(
         load_item(area, to + i * 8, input, at + i * w, w, big, unsigned);
         i += 1;
     }
+}
+
+// Reads n integers of w bytes each.
+pub fn load(
+    area: &mut [u8],
+    to: usize,
+    input: &[u8],
+    at: usize,
+    n: usize,
+    w: usize,
+    big: bool,
+    unsigned: bool,
+)
+    requires { ⌜ (0 < w) × (w ≤ 8) × (to + n * 8 ≤ length (now area)) × (at + n * w ≤ length (now input)) ⌝ }
+    ensures { λ _. ⌜ now (area .exit) ≡ storeAt (now (area .entry)) to (integerBytes (loaded (Integers w big) unsigned n (part (now (input .entry)) at (n * w)) .items)) ⌝ }
+{
+    if w == 2 {
+        return load_pairs(area, to, input, at, n, big, unsigned);
+    }
+    load_each(area, to, input, at, n, w, big, unsigned)
 }

@@ -1,6 +1,6 @@
 -- Numbers as bytes, the highest first: one number, byte by byte, in both directions; then many, one after the other. All laws are over the width w.
 use Prim.Native.Nat.{ℕ, zero, suc, _+_, _-_, _*_, _/_, _%_, _^_, _≤_, _<_}
-use native.Mathlib.Nat.{sub-self, zero-mul, suc-mul, add-comm, pow-zero, pow-suc, div-one, div-div-eq-div-mul, not-suc-le-zero, le-of-suc-le-suc, lt-of-lt-of-le, pow-le-pow-right, mod-eq-of-lt}
+use native.Mathlib.Nat.{add-zero, sub-self, zero-mul, suc-mul, add-comm, pow-zero, pow-suc, div-one, div-div-eq-div-mul, not-suc-le-zero, le-of-suc-le-suc, lt-of-lt-of-le, pow-le-pow-right, mod-eq-of-lt}
 use native.Mathlib.Omega.{arith}
 use mathlib.Core.Path.{_≡_, refl, sym, ap, ap₂, _∙_}
 use mathlib.Core.Bool.{true}
@@ -93,6 +93,25 @@ putting-done {d₀} {at} {w} {x} {d} {left} {rest} p h =
     let here : at + left ≡ at = omega arith in
     let all : w - left ≡ w = omega arith in
     rw (here, all) at (p .is)
+
+-- eight bytes, put one by one
+module _ (d : List ℕ) (at x : ℕ) (room : at + 8 ≤ length d) where
+  next : (d′ : List ℕ) (left rest : ℕ) → Putting d at 8 x d′ left rest → 0 < left → Putting d at 8 x (set d′ (at + (left - 1)) (rest % 256)) (left - 1) (rest / 256)
+  next d′ left rest p h = putting-next p h room
+
+  pub eight-put : set (set (set (set (set (set (set (set d (at + 7) (x % 256)) (at + 6) (x / 256 % 256)) (at + 5) (x / 256 / 256 % 256)) (at + 4) (x / 256 / 256 / 256 % 256))
+      (at + 3) (x / 256 / 256 / 256 / 256 % 256)) (at + 2) (x / 256 / 256 / 256 / 256 / 256 % 256)) (at + 1) (x / 256 / 256 / 256 / 256 / 256 / 256 % 256))
+      at (x / 256 / 256 / 256 / 256 / 256 / 256 / 256 % 256)
+      ≡ storeAt d at (numberBytes 8 x)
+  eight-put =
+      let p7 = next _ 8 _ (putting-none d at 8 x) (omega arith) in
+      let p6 = next _ 7 _ p7 (omega arith) in
+      let p5 = next _ 6 _ p6 (omega arith) in
+      let p4 = next _ 5 _ p5 (omega arith) in
+      let p3 = next _ 4 _ p4 (omega arith) in
+      let p2 = next _ 3 _ p3 (omega arith) in
+      let p1 = next _ 2 _ p2 (omega arith) in
+      rw add-zero at (putting-done (next _ 1 _ p1 (omega arith)) (omega arith))
 
 -- ---- many numbers
 

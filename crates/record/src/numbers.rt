@@ -22,11 +22,36 @@ pub fn number_at(bytes: &[u8], at: usize, w: usize) -> u64
     x
 }
 
+// Puts the eight bytes of a number at a place, the last one first. Written out like this they become one store.
+fn put_eight(out: &mut [u8], at: usize, x: u64)
+    requires { ⌜ at + integerSize ≤ length (now out) ⌝ }
+    ensures { λ _. ⌜ now (out .exit) ≡ storeAt (now (out .entry)) at (numberBytes integerSize x) ⌝ }
+{
+    out[at + 7] = (x % 256) as u8;
+    let x6 = x / 256;
+    out[at + 6] = (x6 % 256) as u8;
+    let x5 = x6 / 256;
+    out[at + 5] = (x5 % 256) as u8;
+    let x4 = x5 / 256;
+    out[at + 4] = (x4 % 256) as u8;
+    let x3 = x4 / 256;
+    out[at + 3] = (x3 % 256) as u8;
+    let x2 = x3 / 256;
+    out[at + 2] = (x2 % 256) as u8;
+    let x1 = x2 / 256;
+    out[at + 1] = (x1 % 256) as u8;
+    let x0 = x1 / 256;
+    out[at] = (x0 % 256) as u8;
+}
+
 // Puts the w lowest bytes of a number at a place, the last one first.
 pub fn put_number(out: &mut [u8], at: usize, w: usize, x: u64)
     requires { ⌜ at + w ≤ length (now out) ⌝ }
     ensures { λ _. ⌜ now (out .exit) ≡ storeAt (now (out .entry)) at (numberBytes w x) ⌝ }
 {
+    if w == INTEGER_SIZE {
+        return put_eight(out, at, x);
+    }
     let mut rest = x;
     let mut left = w;
     while 0 < left {

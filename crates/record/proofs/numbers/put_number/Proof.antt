@@ -1,5 +1,6 @@
--- A turn puts the lowest byte that is left in front of those behind it: the loop keeps `Putting`.
+-- A turn puts the lowest byte that is left in front of those behind it: the loop keeps `Putting`. All eight are put at once.
 use native.Mathlib.Omega.{arith}
+use borrow.Author.Needs.{needs}
 use Rattle.record.proofs.NumberLaws.{Putting, putting-none, putting-next, putting-done}
 use Rattle.record.proofs.numbers.put_number.Statement.{statement}
 use Rattle.record.proofs.numbers.put_number.Tie as tie
@@ -9,6 +10,15 @@ Inv-loop out₀ at w x rest₀ left₀ out rest left = Putting out₀ at w x out
 
 abbrev μ-loop : tie.MeasureT-loop
 μ-loop out₀ at w x rest₀ left₀ out rest left = left
+
+put-eight-requires : tie.Need-put-eight-requires Inv-loop μ-loop
+put-eight-requires c κs = omega arith
+
+same-length : tie.Need-same-length Inv-loop μ-loop
+same-length c = search needs
+
+returns : tie.Need-returns Inv-loop μ-loop
+returns c = rw (c .before .before .before .before .if1 .taken) (c .before .before .put-eight .ensures)
 
 loop-holds : tie.Need-loop-holds Inv-loop μ-loop
 loop-holds c = putting-none _ _ _ _
@@ -31,11 +41,11 @@ loop-less c = omega arith
 loop-again : tie.Need-loop-again Inv-loop μ-loop
 loop-again c = putting-next (c .before .loop .inv) (omega arith) (omega arith)
 
-same-length : tie.Need-same-length Inv-loop μ-loop
-same-length c = c .before .loop .inv .long
+same-length-2 : tie.Need-same-length-2 Inv-loop μ-loop
+same-length-2 c = c .before .loop .inv .long
 
-returns : tie.Need-returns Inv-loop μ-loop
-returns c = putting-done (c .before .loop .inv) (omega arith)
+returns-2 : tie.Need-returns-2 Inv-loop μ-loop
+returns-2 c = putting-done (c .before .loop .inv) (omega arith)
 
 pub put-number-spec : {M : Type 1} → statement M
 put-number-spec =
@@ -43,6 +53,9 @@ put-number-spec =
     (tie.spec
     Inv-loop
     μ-loop
+    put-eight-requires
+    same-length
+    returns
     loop-holds
     sub-left
     cast-out
@@ -50,5 +63,5 @@ put-number-spec =
     slice-write-out
     loop-less
     loop-again
-    same-length
-    returns)
+    same-length-2
+    returns-2)
