@@ -36,7 +36,7 @@ fn store_binary(n: usize, a: Slot, area: &[u8], out: &mut [u8], at: usize, high:
     ensures steps { λ left. ⌜ binarySteps n + left ≡ binaryBudget n ⌝ }
     ensures { λ _. ⌜ now (out .exit) ≡ storeAt (now (out .entry)) at (stored (Digits false high) n (shown (now (area .entry)) a .items)) ⌝ }
 {
-    digits::store_binary(out, at, area, a.start, a.len, n, high)
+    digits_store::store_binary(out, at, area, a.start, a.len, n, high)
 }
 
 // n digits.
@@ -53,7 +53,7 @@ fn store_digits(
     ensures { λ r. ⌜ StoredAs (now (area .entry)) (Digits hex high) n a at (now (out .entry)) r (now (out .exit)) ⌝ }
 {
     if hex {
-        digits::store_hex(out, at, area, a.start, a.len, n, high);
+        digits_store::store_hex(out, at, area, a.start, a.len, n, high);
         return record::bytes_for(Shape::Digits(true, high), n);
     }
     store_binary(n, a, area, out, at, high);

@@ -1,0 +1,113 @@
+-- Laws of storing binary digits eight at a time: the number that four of them make, the byte of eight, and the bytes of a field.
+use Prim.Native.Nat.{ℕ, zero, suc, _+_, _-_, _*_, _/_, _%_, _≤_, _<_, min}
+use native.Mathlib.Nat.{zero-add, add-assoc}
+use native.Mathlib.Omega.{arith}
+use mathlib.Core.Path.{_≡_, refl, sym, ap, _∙_}
+use mathlib.Core.Bool.{Bool, true, false}
+use mathlib.Core.List.{List, [], _∷_, _++_, map, map-append, reverse, append-nil}
+use lib.ListN.{length, drop, getD, length-append, length-map, List·getD-append}
+use lib.Seq.{drop-drop, take-add, take-all, ext-getD, getD-append-add}
+use Rattle.layout.specs.declared.Shape.the-variants.{Digits}
+use Rattle.record.specs.Bytes.{part, storeAt, fit, ceilDiv, digits, number, ordered}
+use Rattle.record.specs.Packing.{digitValue, stored}
+use Rattle.record.proofs.Bytes.{part-at}
+use Rattle.record.proofs.Stores.{length-part}
+use Rattle.record.proofs.Fields.{split}
+use Rattle.digits.specs.Numerals.{placeOf, DigitsAt, valuesAt}
+use Rattle.digits_store.specs.Stored.{byteOf}
+use Rattle.text.proofs.ByteLaws.{store-both}
+use Rattle.digits.proofs.DigitLaws.{digit-cases, ordered-at, place-lt, map-turned, take-min}
+use Rattle.digits_store.proofs.DigitBytes.{number-low, number-high, byte-part, stored-at, length-stored}
+
+-- ---- the number that four binary digits make
+
+binary-char : (c : ℕ) → digitValue c < 2 → (48 ≤ c) × (c ≤ 49) × (digitValue c ≡ c - 48)
+binary-char c =
+    digit-cases (λ v. v < 2 → (48 ≤ c) × (c ≤ 49) × (v ≡ c - 48)) c (λ h k l. (h, omega arith, refl)) (λ h k l. (omega arith, omega arith, omega arith))
+    (λ h k l. (omega arith, omega arith, omega arith)) (λ l. (omega arith, omega arith, omega arith))
+
+-- what holds of 0 and of 1 holds of a bit
+pub bit : (P : ℕ → Type 0) (b : ℕ) → b < 2 → P 0 → P 1 → P b
+bit P zero h p q = p
+bit P (suc zero) h p q = q
+bit P (suc (suc b)) h p q = absurd (omega arith)
+
+abbrev Gathers : ℕ → ℕ → ℕ → ℕ → Type 0
+Gathers a b c d = ((a + b * 256 + c * 65536 + d * 16777216) * 16909320 / 16777216) % 16 ≡ a + 2 * (b + 2 * (c + 2 * (d + 2 * 0)))
+
+-- the product has digit number j of the four at bit 24 + j, and nothing else at the bits 24 to 27
+gathers : (a b c d : ℕ) → a < 2 → b < 2 → c < 2 → d < 2 → Gathers a b c d
+gathers a b c d ha hb hc hd =
+    bit (λ a. Gathers a b c d) a ha (bit (λ b. Gathers 0 b c d) b hb (bit (λ c. Gathers 0 0 c d) c hc (bit (λ d. Gathers 0 0 0 d) d hd refl refl) (bit (λ d. Gathers 0 0 1 d) d hd refl refl))
+    (bit (λ c. Gathers 0 1 c d) c hc (bit (λ d. Gathers 0 1 0 d) d hd refl refl) (bit (λ d. Gathers 0 1 1 d) d hd refl refl)))
+    (bit (λ b. Gathers 1 b c d) b hb (bit (λ c. Gathers 1 0 c d) c hc (bit (λ d. Gathers 1 0 0 d) d hd refl refl) (bit (λ d. Gathers 1 0 1 d) d hd refl refl))
+    (bit (λ c. Gathers 1 1 c d) c hc (bit (λ d. Gathers 1 1 0 d) d hd refl refl) (bit (λ d. Gathers 1 1 1 d) d hd refl refl)))
+
+four-gathered : (x a b c d : ℕ) → x ≡ a + b * 256 + c * 65536 + d * 16777216 → digitValue a < 2 → digitValue b < 2 → digitValue c < 2 → digitValue d < 2
+    → (808464432 ≤ x) × (((x - 808464432) * 16909320 / 16777216) % 16 ≡ number 2 (map digitValue (a ∷ b ∷ c ∷ d ∷ [])))
+unfolding number
+four-gathered x a b c d e ha hb hc hd =
+    let ca : (48 ≤ a) × (a ≤ 49) × (digitValue a ≡ a - 48) = binary-char a ha in
+    let cb : (48 ≤ b) × (b ≤ 49) × (digitValue b ≡ b - 48) = binary-char b hb in
+    let cc : (48 ≤ c) × (c ≤ 49) × (digitValue c ≡ c - 48) = binary-char c hc in
+    let cd : (48 ≤ d) × (d ≤ 49) × (digitValue d ≡ d - 48) = binary-char d hd in
+    let less : x - 808464432 ≡ (a - 48) + (b - 48) * 256 + (c - 48) * 65536 + (d - 48) * 16777216 = omega arith in
+    (omega arith, rw (less, ca .2, cb .2, cc .2, cd .2) (gathers (a - 48) (b - 48) (c - 48) (d - 48) (omega arith) (omega arith) (omega arith) (omega arith)))
+
+pub gathered-four : (x : ℕ) → x < 4294967296 → DigitsAt false (digits 256 4 x) 0 4
+    → (808464432 ≤ x) × (((x - 808464432) * 16909320 / 16777216) % 16 ≡ number 2 (map digitValue (digits 256 4 x)))
+unfolding digits
+gathered-four x h d =
+    four-gathered x (x % 256) (x / 256 % 256) (x / 256 / 256 % 256) (x / 256 / 256 / 256 % 256) (omega arith) (d 0 (omega arith)) (d 1 (omega arith)) (d 2 (omega arith)) (d 3 (omega arith))
+
+-- ---- the byte of eight binary digits
+
+-- four of them, in either order
+pub four-of : (high : Bool) (area : List ℕ) (at from j : ℕ) {l : List ℕ} → at + 8 ≤ length area → from ≡ at + j → j ≤ 4 → DigitsAt false area at 8 → l ≡ ordered high (part area from 4) → DigitsAt false l 0 4
+four-of high area at from j {l} fits ef h d e i k =
+    let p : ℕ = placeOf high 4 i in
+    let place : from + p ≡ at + (j + p) = omega arith in
+    let is : getD l (0 + i) 0 ≡ getD area (at + (j + p)) 0 =
+    rw (zero-add, e) (ordered-at high 4 (part area from 4) i (length-part 4 from area (omega arith)) k ∙ part-at area from 4 p (place-lt high 4 i k) ∙ ap (λ (q : ℕ). getD area q 0) place) in
+    rw is (d (j + p) (omega (arith, place-lt high 4 i k)))
+
+fit-all : (n : ℕ) (l : List ℕ) → length l ≡ n → fit n 0 l ≡ l
+unfolding fit
+fit-all n l e = let none : n - length l ≡ 0 = omega arith in rw (none, take-all n l (omega arith), append-nil)
+
+module _ (area : List ℕ) (at : ℕ) (fits : at + 8 ≤ length area) where
+  abbrev first : List ℕ
+  first = map digitValue (part area at 4)
+
+  abbrev second : List ℕ
+  second = map digitValue (part area (at + 4) 4)
+
+  first-long : length first ≡ 4
+  first-long = length-map (part area at 4) digitValue ∙ length-part 4 at area (omega arith)
+
+  second-long : length second ≡ 4
+  second-long = length-map (part area (at + 4) 4) digitValue ∙ length-part 4 (at + 4) area (omega arith)
+
+  eight-values : fit 8 0 (valuesAt area at 8) ≡ first ++ second
+  eight-values =
+      let halves : part area at 8 ≡ part area at 4 ++ part area (at + 4) 4 = rw (take-add 4 4 (drop at area), drop-drop 4 at area) in
+      fit-all 8 (valuesAt area at 8) (length-map (part area at 8) digitValue ∙ length-part 8 at area fits) ∙ rw (halves, map-append)
+
+  pub eight-low : {a b : ℕ} → a ≡ number 2 (map digitValue (part area at 4)) → b ≡ number 2 (map digitValue (part area (at + 4) 4)) → a + b * 16 ≡ byteOf false false (valuesAt area at 8)
+  unfolding byteOf
+  eight-low {a} {b} ea eb = rw (eight-values, number-low first second first-long second-long, ea, eb)
+
+  pub eight-high : {a b : ℕ} → a ≡ number 2 (map digitValue (reverse (part area at 4))) → b ≡ number 2 (map digitValue (reverse (part area (at + 4) 4))) → a * 16 + b ≡ byteOf false true (valuesAt area at 8)
+  unfolding byteOf
+  eight-high {a} {b} ea eb =
+      let fa : a ≡ number 2 (reverse first) = ea ∙ ap (number 2) (map-turned digitValue (part area at 4)) in
+      let fb : b ≡ number 2 (reverse second) = eb ∙ ap (number 2) (map-turned digitValue (part area (at + 4) 4)) in
+      rw (eight-values, number-high first second first-long second-long, fa, fb)
+
+-- ---- the bytes of a field
+
+-- the byte number k is that of the characters from its first one on
+pub stored-byte : (high : Bool) (area : List ℕ) (start len n k : ℕ) {j count : ℕ} → start + len ≤ length area → k < ceilDiv n 8 → j ≡ min (k * 8) (min n len) → count ≡ min 8 (min n len - j)
+    → getD (stored (Digits false high) n (part area start len)) k 0 ≡ byteOf false high (valuesAt area (start + j) count)
+stored-byte high area start len n k {j} {count} fits h ej ec =
+    stored-at false high n (part area start len) k h ∙ rw (take-min n len (drop start area)) (sym (byte-part false high area start (min n len) (k * 8) j count (omega arith) ej (omega arith) (omega arith)))
