@@ -31,8 +31,9 @@ import struct
 from collections import namedtuple
 
 # As in the header.
-VERSION_NUMBER = 1001
-SLOT_SIZE = 12
+VERSION_NUMBER = 2000
+SLOT_SIZE = 16
+NO_POSITION = 4294967295
 ITEM_SIZE = 8
 PACK_REPLY = 12
 READ_REPLY = 12
@@ -136,14 +137,14 @@ def _table(values):
     """The slots and the area of a list of values."""
     slots, area = bytearray(), bytearray()
     for kind, length, data in map(_value, values):
-        slots += struct.pack(">3I", kind, len(area), length)
+        slots += struct.pack(">4I", kind, len(area), length, NO_POSITION)
         area += data
     return bytes(slots), bytes(area)
 
 
 def _shown(slots, count, area, text):
     """The values of the first slots of a table."""
-    for kind, start, length in list(struct.iter_unpack(">3I", slots))[:count]:
+    for kind, start, length, _ in list(struct.iter_unpack(">4I", slots))[:count]:
         if kind == UNSET:
             yield None
         elif kind == STRING:
@@ -181,12 +182,23 @@ def pack(layout, values):
     return out[:length]
 
 
+def _read(layout, record):
+    """A reading: its reply, and slots and area as it leaves them."""
+    slots, area = _own_table()
+    reply = _call("read", READ_REPLY, _bytes(layout), _bytes(record), slots, area, 0)
+    return reply, slots.raw, area.raw
+
+
 def read(layout, record, text=None):
     """The values of a record, one for each field of the layout that takes one; None where the record is too short."""
-    layout = _bytes(layout)
-    slots, area = _own_table()
-    _call("read", READ_REPLY, layout, _bytes(record), slots, area, 0)
-    return list(_shown(slots.raw, _slots_of(layout), area.raw, text))
+    _, slots, area = _read(layout, record)
+    return list(_shown(slots, _slots_of(_bytes(layout)), area, text))
+
+
+def positions(layout, record):
+    """The bytes of the record at which the fields with values begin, for those that the record has."""
+    reply, slots, _ = _read(layout, record)
+    return [position for _, _, _, position in struct.iter_unpack(">4I", slots)][:_numbers(reply)[0]]
 
 
 def sheet_write(values):

@@ -365,7 +365,8 @@ static void show_means(void)
     print_mean(&table);
 }
 
-/* Two markers' copies of one candidate's record: the second gave another oral mark, and lost the strip. */
+/* Two markers' copies of one candidate's record: the second gave another oral mark, and lost the strip. Where they
+ * differ, the slot has the byte of the record at which the mark stands. */
 static void show_differences(void)
 {
     static const char *const verdicts[] = {"same", "first copy only", "second copy only", "in neither", "different"};
@@ -393,8 +394,8 @@ static void show_differences(void)
         struct curlew_finding finding = curlew_get_finding(report, field);
 
         if (finding.verdict == CURLEW_DIFFERENT)
-            printf("%-14sdifferent, from byte %" PRIu32 " of the value on, in %" PRIu32 " bits\n",
-                   heads[field], finding.place, finding.bits);
+            printf("%-14sdifferent, in %" PRIu32 " bits: see byte %" PRIu32 " of the record\n",
+                   heads[field], finding.bits, curlew_get_slot(one.slots, field).position);
         else
             printf("%-14s%s\n", heads[field], verdicts[finding.verdict]);
     }

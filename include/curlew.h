@@ -52,8 +52,10 @@
  * Values live in two runs of bytes that you own:
  *
  *   the area    a run of bytes that holds the values themselves, in any order, with or without gaps;
- *   the slots   a run of slots. A slot is CURLEW_SLOT_SIZE (12) bytes: three big-endian 32-bit numbers,
- *               kind, start and length, which say what the value is and where in the area it lies.
+ *   the slots   a run of slots. A slot is CURLEW_SLOT_SIZE (16) bytes: four big-endian 32-bit numbers. Kind, start
+ *               and length say what the value is and where in the area it lies; position is the byte of the record
+ *               at which its field began. Only curlew_read and curlew_compare set a position; a slot set from a
+ *               sheet has CURLEW_NO_POSITION there. No call looks at it.
  *
  *   kind                  the value
  *   CURLEW_UNSET     0    there is none; start and length mean nothing
@@ -63,7 +65,7 @@
  *   CURLEW_UNSIGNED  3    the same, unsigned
  *
  * For integers, `length` counts integers and not bytes. Bytes, slots and places count from 0. A slot of
- * twelve zero bytes is not set, so memset(slots, 0, sizeof slots) clears a table. The helpers at the end of
+ * sixteen zero bytes is not set, so memset(slots, 0, sizeof slots) clears a table. The helpers at the end of
  * this header put and get slots, integers and answers.
  *
  *
@@ -114,7 +116,7 @@
  * READING: THE MARK, AND RECORDS THAT ARE TOO SHORT
  *
  * The mark is the place in the area where the first value goes. The values follow one another from there
- * without gaps, in the order of the fields, and the slot of each gets its kind, start and length. No other
+ * without gaps, in the order of the fields, and the slot of each gets its kind, start, length and position. No other
  * byte of the area is touched. To read several records into one area, give the place that one reading answers
  * as the mark of the next.
  *
@@ -150,12 +152,12 @@
  *
  *   01  00 13   00 01  00   00 03  01  4f 4b   00 09  02  ff ff ff ff ff ff ff fe
  *
- * and the three bytes 01 00 00 are a table of no slots. Starts are not kept: where a value lay in the area is
- * of no matter. curlew_sheet_write writes the slots given to it; the bytes of the run behind the sheet stay as
- * they were. curlew_sheet_read puts the values into the area from the mark on, as curlew_read does, and sets a
- * slot for each entry; an entry that is not set clears its slot to CURLEW_UNSET, start 0, length 0. Slots
- * beyond the entries stay as they were. Writing a table and reading it back shows the same values, and the
- * slots of a sheet that was read are written as the same sheet, byte for byte.
+ * and the three bytes 01 00 00 are a table of no slots. Starts and positions are not kept: where a value lay in the area,
+ * or in a record, is of no matter. curlew_sheet_write writes the slots given to it; the bytes of the run behind the sheet
+ * stay as they were. curlew_sheet_read puts the values into the area from the mark on, as curlew_read does, and sets a
+ * slot for each entry; an entry that is not set clears its slot to CURLEW_UNSET, start 0, length 0. All slots that it sets
+ * have CURLEW_NO_POSITION. Slots beyond the entries stay as they were. Writing a table and reading it back shows the same
+ * values, and the slots of a sheet that was read are written as the same sheet, byte for byte.
  *
  * A sheet that was cut, or damaged in its lengths or kinds, is refused whole: 13 where its first byte is not
  * the version, 12 at 0 where it is shorter than three bytes or the length in its header is not that of the
@@ -168,8 +170,8 @@
  * curlew_sheet_rescue takes what is left of a sheet, and the number of legs that it should have had. From the front it
  * keeps each entry that is whole and right, as curlew_sheet_read would take it, until it has one for every leg or meets one
  * that is wrong: nothing behind a wrong entry can be trusted. The kept entries go into slots and area as that call puts
- * them, and the slots of the other legs are cleared to CURLEW_UNSET, start 0, length 0, so that a lost leg reads "not
- * set" and never as a mark. Slots past the legs, and bytes of the area that no kept value covers, stay as they were.
+ * them, and the slots of the other legs are cleared to CURLEW_UNSET, start 0, length 0, without a position, so that a lost
+ * leg reads "not set" and never as a mark. Slots past the legs, and bytes of the area that no kept value covers, stay as they were.
  * The length in the header is not looked at. The reply is CURLEW_RESCUE_REPLY (16) bytes, four numbers:
  *
  *   CURLEW_OK, entries kept, slots cleared, bytes dropped
@@ -372,14 +374,14 @@
 #include <string.h>
 
 /* The version of this header and of its library; the number is 1,000 times the first part plus the second. */
-#define CURLEW_VERSION "1.1"
-#define CURLEW_VERSION_NUMBER 1001
+#define CURLEW_VERSION "2.0"
+#define CURLEW_VERSION_NUMBER 2000
 
 /* A call takes less stack than this, in bytes. */
 #define CURLEW_STACK 8192
 
 /* Sizes in bytes of the things that have a fixed size. */
-#define CURLEW_SLOT_SIZE 12
+#define CURLEW_SLOT_SIZE 16
 #define CURLEW_ITEM_SIZE 8
 #define CURLEW_PACK_REPLY 12
 #define CURLEW_READ_REPLY 12
@@ -405,6 +407,9 @@
 #define CURLEW_STRING 1
 #define CURLEW_SIGNED 2
 #define CURLEW_UNSIGNED 3
+
+/* The position in a slot that no record was read into. */
+#define CURLEW_NO_POSITION 4294967295u
 
 /* Verdicts of comparing. */
 #define CURLEW_SAME 0
@@ -496,11 +501,12 @@ uint32_t curlew_from_perl(const void *perl_template, size_t perl_template_len,
 }
 #endif
 
-/* A slot's three numbers. */
+/* A slot's four numbers. */
 struct curlew_slot {
     uint32_t kind;
     uint32_t start;
     uint32_t length;
+    uint32_t position;
 };
 
 /* A finding's three numbers: the verdict, and where and in how many bits two values differ. */
@@ -567,7 +573,7 @@ static inline int64_t curlew_get_int(const uint8_t *from)
     return value >> 63 ? -CURLEW_CAST(int64_t, ~value) - 1 : CURLEW_CAST(int64_t, value);
 }
 
-/* Puts the three numbers of slot `index` of a run of slots. */
+/* Puts kind, start and length of slot `index` of a run of slots; it has no position then. */
 static inline void curlew_put_slot(uint8_t *slots, size_t index, uint32_t kind, uint32_t start, uint32_t length)
 {
     uint8_t *slot = slots + index * CURLEW_SLOT_SIZE;
@@ -575,9 +581,10 @@ static inline void curlew_put_slot(uint8_t *slots, size_t index, uint32_t kind, 
     curlew_put_number(slot, kind);
     curlew_put_number(slot + 4, start);
     curlew_put_number(slot + 8, length);
+    curlew_put_number(slot + 12, CURLEW_NO_POSITION);
 }
 
-/* The three numbers of slot `index` of a run of slots. */
+/* The four numbers of slot `index` of a run of slots. */
 static inline struct curlew_slot curlew_get_slot(const uint8_t *slots, size_t index)
 {
     const uint8_t *from = slots + index * CURLEW_SLOT_SIZE;
@@ -586,6 +593,7 @@ static inline struct curlew_slot curlew_get_slot(const uint8_t *slots, size_t in
     slot.kind = curlew_get_number(from);
     slot.start = curlew_get_number(from + 4);
     slot.length = curlew_get_number(from + 8);
+    slot.position = curlew_get_number(from + 12);
     return slot;
 }
 

@@ -3,7 +3,7 @@
  * run at the low end of its open pages, at the high end, and with null pointers for empty runs; after each call every
  * byte of every run, and of what surrounds it, is compared with what it should be.
  */
-#include "harness.h"
+#include "walk.h"
 
 static struct run layout, first, second, first_slots, first_area, second_slots, second_area, report, reply;
 static struct run *const runs[] = {&layout, &first, &second, &first_slots, &first_area,
@@ -68,6 +68,8 @@ static void expect_finding(uint32_t verdict, uint32_t place, uint32_t bits)
 static void compares(const char *name)
 {
     expect_answer(CURLEW_OK, (uint32_t)found);
+    put_positions(&in_first, layout.bytes, layout.len, first.len, name);
+    put_positions(&in_second, layout.bytes, layout.len, second.len, name);
     expect_run(&first_slots, 0, in_first.slots, in_first.count * CURLEW_SLOT_SIZE);
     expect_run(&first_area, 0, in_first.area, in_first.used);
     expect_run(&second_slots, 0, in_second.slots, in_second.count * CURLEW_SLOT_SIZE);

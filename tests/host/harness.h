@@ -46,10 +46,21 @@ static MAYBE void begin(struct values *v, size_t used)
     v->used = used;
 }
 
+/* Adds a slot that is not set from a record. */
+static MAYBE void add_slot(struct values *v, uint32_t kind, size_t start, size_t length)
+{
+    uint8_t *slot = v->slots + v->count++ * CURLEW_SLOT_SIZE;
+
+    curlew_put_number(slot, kind);
+    curlew_put_number(slot + 4, (uint32_t)start);
+    curlew_put_number(slot + 8, (uint32_t)length);
+    curlew_put_number(slot + 12, CURLEW_NO_POSITION);
+}
+
 static MAYBE void add_bytes(struct values *v, const void *bytes, size_t len)
 {
     memcpy(v->area + v->used, bytes, len);
-    curlew_put_slot(v->slots, v->count++, CURLEW_STRING, (uint32_t)v->used, (uint32_t)len);
+    add_slot(v, CURLEW_STRING, v->used, len);
     v->used += len;
 }
 
@@ -64,7 +75,7 @@ static MAYBE void add_list(struct values *v, uint32_t kind, int count, ...)
     va_list list;
     int i;
 
-    curlew_put_slot(v->slots, v->count++, kind, (uint32_t)v->used, (uint32_t)count);
+    add_slot(v, kind, v->used, (size_t)count);
     va_start(list, count);
     for (i = 0; i < count; i++) {
         curlew_put_int(v->area + v->used, va_arg(list, long long));
@@ -77,7 +88,7 @@ static MAYBE void add_same(struct values *v, uint32_t kind, size_t count, int64_
 {
     size_t i;
 
-    curlew_put_slot(v->slots, v->count++, kind, (uint32_t)v->used, (uint32_t)count);
+    add_slot(v, kind, v->used, count);
     for (i = 0; i < count; i++) {
         curlew_put_int(v->area + v->used, value);
         v->used += CURLEW_ITEM_SIZE;
@@ -87,7 +98,7 @@ static MAYBE void add_same(struct values *v, uint32_t kind, size_t count, int64_
 /* Adds a slot that is not set, with a start and a length that mean nothing. */
 static MAYBE void add_unset(struct values *v, uint32_t start, uint32_t length)
 {
-    curlew_put_slot(v->slots, v->count++, CURLEW_UNSET, start, length);
+    add_slot(v, CURLEW_UNSET, start, length);
 }
 
 /* Prints how many checks there were, and tells whether all held. */

@@ -28,7 +28,7 @@ def as_in_header(path):
     """The numbers and texts of the module are those of the header."""
     with open(path, encoding="utf-8") as file:
         text = file.read()
-    numbers = {name: int(number) for name, number in re.findall(r"^#define CURLEW_(\w+) (\d+)$", text, re.M)}
+    numbers = {name: int(number) for name, number in re.findall(r"^#define CURLEW_(\w+) (\d+)u?$", text, re.M)}
     shared = [name for name, value in vars(curlew).items() if name.isupper() and isinstance(value, int)]
     if len(shared) < 20:
         sys.exit("failed: the module has too few constants")
@@ -44,6 +44,8 @@ def values():
     equal(curlew.read("c* a0 a2 X* H4", b"\x01\x02"), [[1, 2], b"", None, None])
     equal(curlew.read("x2", b"\x01\x02"), [])
     equal(curlew.read(" ".join("c" * 64), bytes(range(40))), [[k] for k in range(40)] + [None] * 24)
+    equal(curlew.positions("a2 x c* @1 c", b"abcde"), [0, 3, 1])
+    equal(curlew.positions("a2 c S", b"abc"), [0, 2])
     equal(curlew.pack("", []), b"")
     equal(curlew.pack("A6", ["Zoë"]), b"Zo\xc3\xab  ")
     equal(curlew.read("A6", b"Zo\xc3\xab  ", text="utf-8"), ["Zoë"])

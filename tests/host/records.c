@@ -1,211 +1,17 @@
 /*
- * Host tests of packing and reading. What is expected is written out by hand. Each case runs three times: every run at the
- * low end of its open pages, at the high end, and with null pointers for empty runs. After each call every byte of
- * every run, and of what surrounds it, is compared with what it should be.
+ * Host tests of packing and reading, on guarded runs (record_calls.h). What is expected is written out by hand.
  */
-#include "harness.h"
+#include "record_calls.h"
 
-static struct guard layout_run, slots_run, area_run, data_run, reply_run, text_run;
-static struct values given, wanted;
-
-/* ---- one call ---- */
-
-struct call {
-    const char *name;
-    const uint8_t *layout;
-    size_t layout_len;
-    const uint8_t *slots;
-    size_t slots_len;
-    const uint8_t *area;
-    size_t area_len;
-    const uint8_t *record;
-    size_t data_len;
-    size_t mark;
-    size_t reply_len;
-};
-
-struct result {
-    uint32_t number, first, second;
-    const uint8_t *bytes;
-};
-
-static void lend_all(const struct call *c, enum place place)
-{
-    guard_lend(&layout_run, c->layout, c->layout_len, place);
-    guard_lend(&slots_run, c->slots, c->slots_len, place);
-    guard_lend(&area_run, c->area, c->area_len, place);
-    guard_lend(&data_run, c->record, c->data_len, place);
-    guard_lend(&reply_run, NULL, c->reply_len, place);
-    guard_protect(&layout_run, PROT_READ);
-}
-
-static void expect_reply(const struct result *r)
-{
-    uint8_t *reply = guard_expected(&reply_run);
-
-    curlew_put_number(reply, r->number);
-    curlew_put_number(reply + 4, r->first);
-    curlew_put_number(reply + 8, r->second);
-}
-
-static void check_all(const struct call *c, uint32_t expected, uint32_t returned)
-{
-    check(returned == expected, c->name, "number returned");
-    check(guard_holds(&layout_run), c->name, "layout");
-    check(guard_holds(&slots_run), c->name, "slots");
-    check(guard_holds(&area_run), c->name, "area");
-    check(guard_holds(&data_run), c->name, "record");
-    check(guard_holds(&reply_run), c->name, "reply");
-}
-
-static void run_pack(const struct call *c, const struct result *r)
-{
-    int place;
-
-    for (place = LOW; place < PLACES; place++) {
-        uint32_t number;
-
-        lend_all(c, (enum place)place);
-        guard_protect(&slots_run, PROT_READ);
-        guard_protect(&area_run, PROT_READ);
-        number = curlew_pack(layout_run.at, c->layout_len, slots_run.at, c->slots_len, area_run.at, c->area_len,
-                             data_run.at, c->data_len, reply_run.at, c->reply_len);
-        if (c->reply_len == CURLEW_PACK_REPLY)
-            expect_reply(r);
-        if (c->reply_len == CURLEW_PACK_REPLY && r->number == CURLEW_OK && r->first > 0)
-            memcpy(guard_expected(&data_run), r->bytes, r->first);
-        check_all(c, r->number, number);
-    }
-}
-
-/* The values that a reading should set are in `wanted`. */
-static void run_read(const struct call *c, const struct result *r)
-{
-    int place;
-
-    for (place = LOW; place < PLACES; place++) {
-        uint32_t number;
-
-        lend_all(c, (enum place)place);
-        guard_protect(&data_run, PROT_READ);
-        number = curlew_read(layout_run.at, c->layout_len, data_run.at, c->data_len, slots_run.at, c->slots_len,
-                             area_run.at, c->area_len, c->mark, reply_run.at, c->reply_len);
-        if (c->reply_len == CURLEW_READ_REPLY)
-            expect_reply(r);
-        if (c->reply_len == CURLEW_READ_REPLY && r->number == CURLEW_OK && r->first > 0) {
-            memcpy(guard_expected(&slots_run), wanted.slots, r->first * CURLEW_SLOT_SIZE);
-            memcpy(guard_expected(&area_run) + c->mark, wanted.area + c->mark, r->second - c->mark);
-        }
-        check_all(c, r->number, number);
-    }
-}
-
-/* ---- short forms of a call ---- */
-
-static struct call pack_call(const char *layout)
-{
-    struct call c;
-
-    memset(&c, 0, sizeof c);
-    c.name = layout;
-    c.layout = (const uint8_t *)layout;
-    c.layout_len = strlen(layout);
-    c.slots = given.slots;
-    c.slots_len = given.count * CURLEW_SLOT_SIZE;
-    c.area = given.area;
-    c.area_len = given.used;
-    c.data_len = 100;
-    c.reply_len = CURLEW_PACK_REPLY;
-    return c;
-}
-
-static struct call read_call(const char *layout, const void *record, size_t len)
-{
-    struct call c;
-
-    memset(&c, 0, sizeof c);
-    c.name = layout;
-    c.layout = (const uint8_t *)layout;
-    c.layout_len = strlen(layout);
-    c.record = (const uint8_t *)record;
-    c.data_len = len;
-    c.slots_len = 5 * CURLEW_SLOT_SIZE;
-    c.area_len = 500;
-    c.reply_len = CURLEW_READ_REPLY;
-    return c;
-}
-
-static void finish_pack(const struct call *c, const void *bytes, size_t len)
-{
-    struct result r = {CURLEW_OK, 0, 0, NULL};
-
-    r.first = (uint32_t)len;
-    r.bytes = (const uint8_t *)bytes;
-    run_pack(c, &r);
-}
-
-static void refuse_pack(const struct call *c, uint32_t number, uint32_t place)
-{
-    struct result r = {CURLEW_OK, 0, 0, NULL};
-
-    r.number = number;
-    r.first = place;
-    run_pack(c, &r);
-}
-
-static void finish_read(const struct call *c)
-{
-    struct result r = {CURLEW_OK, 0, 0, NULL};
-
-    r.first = (uint32_t)wanted.count;
-    r.second = (uint32_t)wanted.used;
-    run_read(c, &r);
-}
-
-static void refuse_read(const struct call *c, uint32_t number, uint32_t place)
-{
-    struct result r = {CURLEW_OK, 0, 0, NULL};
-
-    r.number = number;
-    r.first = place;
-    run_read(c, &r);
-}
-
-static void packs(const char *layout, const void *bytes, size_t len)
-{
-    struct call c = pack_call(layout);
-
-    finish_pack(&c, bytes, len);
-}
-
-static void pack_refused(const char *layout, uint32_t number, uint32_t place)
-{
-    struct call c = pack_call(layout);
-
-    refuse_pack(&c, number, place);
-}
-
-static void reads(const char *layout, const void *record, size_t len)
-{
-    struct call c = read_call(layout, record, len);
-
-    finish_read(&c);
-}
-
-static void read_refused(const char *layout, uint32_t number, uint32_t place)
-{
-    struct call c = read_call(layout, "abc", 3);
-
-    refuse_read(&c, number, place);
-}
+static struct guard text_run;
 
 /* ---- the tests ---- */
 
 static void test_helpers(void)
 {
     static const uint8_t minus_two[8] = {255, 255, 255, 255, 255, 255, 255, 254};
-    static const uint8_t slot_bytes[12] = {0, 0, 0, 3, 1, 2, 3, 4, 255, 254, 253, 252};
-    uint8_t bytes[8], slots[24];
+    static const uint8_t slot_bytes[16] = {0, 0, 0, 3, 1, 2, 3, 4, 255, 254, 253, 252, 0, 0, 16, 1};
+    uint8_t bytes[8], slots[2 * CURLEW_SLOT_SIZE];
     struct curlew_slot slot;
     uint32_t a, b;
     const char *unknown;
@@ -223,10 +29,13 @@ static void test_helpers(void)
 
     memset(slots, 0, sizeof slots);
     curlew_put_slot(slots, 1, 3, 0x01020304u, 0xfffefdfcu);
-    check(memcmp(slots + 12, slot_bytes, 12) == 0 && slots[11] == 0, "curlew_put_slot", "bytes");
+    check(memcmp(slots + 16, slot_bytes, 12) == 0 && slots[15] == 0, "curlew_put_slot", "bytes");
+    check(curlew_get_number(slots + 28) == CURLEW_NO_POSITION, "curlew_put_slot", "no position");
+    memcpy(slots + 16, slot_bytes, 16);
     slot = curlew_get_slot(slots, 1);
     check(slot.kind == 3 && slot.start == 0x01020304u && slot.length == 0xfffefdfcu, "curlew_get_slot", "numbers");
-    check(curlew_get_answer(slots + 12).second == 0xfffefdfcu, "curlew_get_answer", "numbers");
+    check(slot.position == 4097 && CURLEW_NO_POSITION == UINT32_MAX, "curlew_get_slot", "position");
+    check(curlew_get_answer(slots + 16).second == 0xfffefdfcu, "curlew_get_answer", "numbers");
 
     unknown = curlew_refusal(UINT32_MAX);
     for (b = CURLEW_OK; strcmp(curlew_refusal(b), unknown) != 0; b++)
@@ -375,6 +184,46 @@ static void test_moves(void)
     packs("   ", "", 0);
 }
 
+/* The positions of the fields that set a slot, by hand; the record has eight bytes. */
+static void test_positions(void)
+{
+    static const struct {
+        const char *layout;
+        size_t count, positions[4];
+    } table[] = {
+        {"a2a3a", 3, {0, 2, 5}},   {"a0a8a0a*", 4, {0, 0, 8, 8}}, {"x3aX2a", 2, {3, 2}},
+        {"x*a0@2aX*a", 3, {8, 2, 0}}, {"b5b9 H3 A", 4, {0, 1, 3, 5}}, {"@7c@1i@6su", 3, {7, 1, 6}},
+        {"a6ia", 1, {0}},
+    };
+    uint8_t slots[5 * CURLEW_SLOT_SIZE], area[200], reply[CURLEW_READ_REPLY];
+    size_t positions[4], i, field;
+
+    for (i = 0; i < sizeof table / sizeof table[0]; i++) {
+        const char *name = table[i].layout;
+
+        check(field_positions((const uint8_t *)name, strlen(name), 8, positions) == table[i].count, name, "slots set");
+        memset(slots, 0, sizeof slots);
+        check(curlew_read((const uint8_t *)name, strlen(name), (const uint8_t *)"abcdefgh", 8, slots, sizeof slots, area,
+                          sizeof area, 9, reply, sizeof reply) == CURLEW_OK,
+              name, "number returned");
+        for (field = 0; field < table[i].count; field++) {
+            check(positions[field] == table[i].positions[field], name, "position by the layout");
+            check(curlew_get_slot(slots, field).position == table[i].positions[field], name, "position in the slot");
+        }
+    }
+}
+
+/* Packing looks at no position. */
+static void test_positions_ignored(void)
+{
+    begin(&given, 0);
+    add_text(&given, "ab");
+    curlew_put_number(given.slots + 12, 0);
+    packs("a2", "ab", 2);
+    curlew_put_number(given.slots + 12, 4096);
+    packs("a2", "ab", 2);
+}
+
 static void test_mark(void)
 {
     struct call c = read_call("a2 S", "ab\0\7", 4);
@@ -483,7 +332,7 @@ static void test_slot_counts(void)
     pack_refused("b a", CURLEW_BAD_SLOTS, 0);
     read_refused("cccccc", CURLEW_BAD_SLOTS, 0);
     read_refused("x*sssssW", CURLEW_BAD_SLOTS, 0);
-    read_refused("ccccccq", CURLEW_BAD_TYPE, 6);
+    read_refused("cccccct", CURLEW_BAD_TYPE, 6);
 }
 
 static void test_arguments(void)
@@ -561,7 +410,7 @@ static void test_bad_slots(void)
     pack_refused("a0c0", CURLEW_BAD_SLOT, 1);
     one_slot(CURLEW_UNSIGNED, 0, 0x20000001u);
     pack_refused("a0c0", CURLEW_BAD_SLOT, 1);
-    one_slot(4, 0, 0);
+    one_slot(5, 0, 0);
     pack_refused("a0c0", CURLEW_BAD_SLOT, 1);
     one_slot(0x100, 0, 0);
     pack_refused("a0a0", CURLEW_BAD_SLOT, 1);
@@ -641,7 +490,7 @@ static void test_leading_zeros(void)
 
 static void test_slot_limit(void)
 {
-    static const size_t odd[] = {1, 11, 13, 23, 64 * 12 + 1};
+    static const size_t odd[] = {1, 12, 15, 17, 24, CURLEW_MAX_SLOTS * CURLEW_SLOT_SIZE + 1};
     char text[CURLEW_MAX_SLOTS + 1];
     uint8_t bytes[CURLEW_MAX_SLOTS];
     struct call c;
@@ -790,7 +639,7 @@ static void test_shared_runs(void)
     check(curlew_pack(text, 5, table, sizeof table, text, 5, record, 4, reply, sizeof reply) == CURLEW_OK
               && memcmp(record, "a2a2", 4) == 0,
           "layout as area", "record");
-    curlew_put_slot(table, 0, CURLEW_STRING, 11, 1);
+    curlew_put_slot(table, 0, CURLEW_STRING, 3, 1);
     check(curlew_pack(text, 5, table, sizeof table, table, sizeof table, record, 4, reply, sizeof reply) == CURLEW_OK
               && memcmp(record, "\1\0\0\0", 4) == 0,
           "slots as area", "record");
@@ -849,11 +698,7 @@ static void test_layouts_and_cuts(void)
 
 int main(void)
 {
-    guard_open(&layout_run);
-    guard_open(&slots_run);
-    guard_open(&area_run);
-    guard_open(&data_run);
-    guard_open(&reply_run);
+    open_records();
     guard_open(&text_run);
 
     test_helpers();
@@ -862,6 +707,8 @@ int main(void)
     test_read_examples();
     test_read_widths();
     test_moves();
+    test_positions();
+    test_positions_ignored();
     test_mark();
     test_point();
     test_flags();

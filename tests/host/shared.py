@@ -6,6 +6,9 @@ import sys
 BYTES, SIZE = ctypes.c_char_p, ctypes.c_size_t
 RUN = [BYTES, SIZE]
 OWN = [ctypes.c_void_p, SIZE]
+SLOT = struct.Struct(">4I")
+THREE, FOUR = struct.Struct(">3I"), struct.Struct(">4I")
+NO_POSITION = 2 ** 32 - 1
 
 
 def load(path):
@@ -32,12 +35,12 @@ def table(values):
     slots = area = b""
     for value in values:
         if value is None:
-            slots += bytes(12)
+            slots += bytes(SLOT.size)
         elif isinstance(value, bytes):
-            slots += struct.pack(">3I", 1, len(area), len(value))
+            slots += SLOT.pack(1, len(area), len(value), 7)
             area += value
         else:
-            slots += struct.pack(">3I", 2, len(area), len(value))
+            slots += SLOT.pack(2, len(area), len(value), 7)
             area += struct.pack(f">{len(value)}q", *value)
     return slots, area
 
@@ -52,7 +55,7 @@ def pack(lib, layout, values, room=4096):
 
 
 def shown(slot, area):
-    kind, start, length = slot
+    kind, start, length, _ = slot
     if kind == 0:
         return None
     if kind == 1:
@@ -60,13 +63,17 @@ def shown(slot, area):
     return list(struct.unpack_from(f">{length}{'q' if kind == 2 else 'Q'}", area, start))
 
 
-def read(lib, layout, record, slots, room=65536):
-    lent_slots, area = ctypes.create_string_buffer(12 * slots), ctypes.create_string_buffer(room)
-    reply = ctypes.create_string_buffer(12)
-    number = lib.curlew_read(*lent(layout), *lent(record), lent_slots, 12 * slots, area, room, 0, reply, 12)
-    answer = struct.unpack(">3I", reply.raw)
+def read_slots(lib, layout, record, count, room=65536):
+    (slots, slots_run), (area, area_run), (reply, reply_run) = own(SLOT.size * count), own(room), own(THREE.size)
+    number = lib.curlew_read(*lent(layout), *lent(record), *slots_run, *area_run, 0, *reply_run)
+    answer = THREE.unpack(reply.raw)
     assert number == answer[0]
-    return answer, [shown(slot, area.raw) for slot in struct.iter_unpack(">3I", lent_slots.raw)]
+    return answer, list(SLOT.iter_unpack(slots.raw)), area.raw
+
+
+def read(lib, layout, record, count):
+    answer, slots, area = read_slots(lib, layout, record, count)
+    return answer, [shown(slot, area) for slot in slots]
 
 
 def own(size):
@@ -83,20 +90,20 @@ def sheet_write(lib, values):
 
 
 def sheet_read(lib, sheet, count):
-    (slots, slots_run), (area, area_run), (reply, reply_run) = own(12 * count), own(200), own(12)
+    (slots, slots_run), (area, area_run), (reply, reply_run) = own(SLOT.size * count), own(200), own(THREE.size)
     lib.curlew_sheet_read(*lent(sheet), *slots_run, *area_run, 0, *reply_run)
-    return struct.unpack(">3I", reply.raw), [shown(slot, area.raw) for slot in struct.iter_unpack(">3I", slots.raw)]
+    return THREE.unpack(reply.raw), [shown(slot, area.raw) for slot in SLOT.iter_unpack(slots.raw)]
 
 
 def sheet_rescue(lib, sheet, legs):
-    (slots, slots_run), (area, area_run), (reply, reply_run) = own(12 * 4), own(200), own(16)
+    (slots, slots_run), (area, area_run), (reply, reply_run) = own(SLOT.size * 4), own(200), own(FOUR.size)
     lib.curlew_sheet_rescue(*lent(sheet), legs, *slots_run, *area_run, 0, *reply_run)
-    return struct.unpack(">4I", reply.raw), [shown(slot, area.raw) for slot in struct.iter_unpack(">3I", slots.raw)]
+    return FOUR.unpack(reply.raw), list(SLOT.iter_unpack(slots.raw)), area.raw
 
 
 def compare(lib, layout, first, second, fields):
     (report, report_run), (reply, reply_run) = own(12 * fields), own(12)
-    tables = [own(size)[1] for size in (12 * fields, 200, 12 * fields, 200)]
+    tables = [own(size)[1] for size in (SLOT.size * fields, 200, SLOT.size * fields, 200)]
     lib.curlew_compare(*lent(layout), *lent(first), *lent(second), *(part for run in tables for part in run), *report_run, *reply_run)
     return struct.unpack(">3I", reply.raw), list(struct.iter_unpack(">3I", report.raw))
 
@@ -133,6 +140,7 @@ def main():
             expected = (-2 % 256 ** width).to_bytes(width, "little" if letter.islower() else "big")
             equal(pack(lib, letter.encode(), [[-2]]), ((0, width, 0), expected))
             equal(read(lib, letter.encode(), expected, 1), ((0, 1, 8), [[-2]]))
+    equal([slot[3] for slot in read_slots(lib, b"x2 c a0 X2 S", b"abcdef", 4)[1]], [2, 3, 1, 0])
     equal(pack(lib, b"c t", [[1]])[0], (2, 2, 0))
     equal(pack(lib, b"b3", [b"012"])[0], (10, 0, 0))
     equal(pack(lib, b"a9", [b""], 8)[0], (11, 0, 0))
@@ -142,7 +150,9 @@ def main():
     equal(sheet_write(lib, [None, b"OK", [-2]]), (0, sheet))
     equal(sheet_read(lib, sheet, 4), ((0, 3, 10), [None, b"OK", [-2], None]))
     equal(sheet_read(lib, sheet[:-1], 4), ((12, 0, 0), [None] * 4))
-    equal(sheet_rescue(lib, sheet[:-1], 3), ((0, 2, 1, 10), [None, b"OK", None, None]))
+    answer, slots, area = sheet_rescue(lib, sheet[:-1], 3)
+    equal((answer, [shown(slot, area) for slot in slots]), ((0, 2, 1, 10), [None, b"OK", None, None]))
+    equal([slot[3] for slot in slots], [NO_POSITION] * 3 + [0])
     equal(sheet_rescue(lib, sheet, 2 ** 32 + 3)[0], (1, 0, 0, 0))
     equal(compare(lib, b"a2 c S", b"ab\5\0\1", b"ab\7", 3), ((0, 3, 0), [(0, 0, 0), (4, 7, 1), (1, 0, 0)]))
     equal(mean(lib, [[0], None, [61]]), (0, 1, 0, 1, 30.5))

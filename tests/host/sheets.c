@@ -214,7 +214,7 @@ static void test_sizes(void)
 
     begin(&wanted, 0);
     wanted.used = longest;
-    curlew_put_slot(wanted.slots, wanted.count++, CURLEW_STRING, 0, (uint32_t)longest);
+    add_slot(&wanted, CURLEW_STRING, 0, longest);
     reads("the longest sheet", large, CURLEW_MAX_SHEET, 1, CURLEW_MAX_AREA, 0);
     lend_sheet(large, CURLEW_MAX_SHEET + 1, CURLEW_SLOT_SIZE, 100);
     expect_answer(CURLEW_BAD_SIZE, 0, 0);

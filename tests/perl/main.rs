@@ -49,6 +49,8 @@ mod slots;
 #[allow(dead_code)]
 #[path = "../second/values.rs"]
 mod values;
+#[path = "../second/walk.rs"]
+mod walk;
 
 use call::numbers;
 use dice::Dice;

@@ -5,10 +5,10 @@ use crate::dice::Dice;
 use crate::evolution;
 use crate::layouts::{random_arguments, random_specs, spelled, takers, Spec};
 use crate::limits::{
-    AREA_MAX, COUNT_MAX, LAYOUT_MAX, RECORD_MAX, REPLY_BYTES, SLOTS_MAX, SLOT_BYTES, SLOT_NUMBERS,
-    SLOT_RUN_MAX,
+    AREA_MAX, COUNT_MAX, LAYOUT_MAX, NO_POSITION, RECORD_MAX, REPLY_BYTES, SLOTS_MAX, SLOT_BYTES,
+    SLOT_NUMBERS, SLOT_RUN_MAX,
 };
-use crate::values::{slot, Value};
+use crate::values::{slot, slot_from, Value};
 use crate::{packer, reader};
 
 /// Room in which a call is tried out to learn how much it needs.
@@ -63,7 +63,8 @@ pub fn scattered(dice: &mut Dice, values: &[Value]) -> (Vec<u8>, Vec<u8>) {
             let gap = dice.below(6);
             area.extend(dice.bytes(gap));
         }
-        let value = slot(values[at].kind(), area.len(), values[at].items());
+        let (kind, items) = (values[at].kind(), values[at].items());
+        let value = slot_from(kind, area.len(), items, dice.next() as u32);
         slots[at * SLOT_BYTES..(at + 1) * SLOT_BYTES].copy_from_slice(&value);
         area.extend(values[at].bytes());
     }
@@ -114,6 +115,7 @@ pub fn damage_slot(dice: &mut Dice, slots: &mut Vec<u8>, area_len: usize) {
         let bit = 1 << dice.below(32);
         all[at] = match at % SLOT_NUMBERS {
             0 => dice.pick(&[0, 1, 2, 3, 4, 256, 0x0100_0001, u32::MAX]),
+            3 => dice.pick(&[0, 1, end, NO_POSITION]),
             _ => dice.pick(&[
                 old.wrapping_add(1),
                 old.wrapping_sub(1),

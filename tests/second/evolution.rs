@@ -4,7 +4,7 @@
 
 use crate::call::{numbers, Call, Judge, Runs, Which};
 use crate::dice::Dice;
-use crate::fixed::was_read;
+use crate::fixed::was_read_at;
 use crate::layouts::{plain_spec, random_arguments, spelled, takers, Count, Spec};
 use crate::limits::{AREA_MAX, RECORD_MAX, REPLY_BYTES, SLOTS_MAX, SLOT_BYTES};
 use crate::values::{table, Value};
@@ -62,9 +62,9 @@ fn read_back(spec: &Spec, argument: &Value) -> Value {
     })
 }
 
-/// The values that a reading of the first `cut` bytes sets.
-fn expected(specs: &[Spec], arguments: &[Value], cut: usize) -> Vec<Value> {
-    let mut values = Vec::new();
+/// The values that a reading of the first `cut` bytes sets, and where their fields begin.
+fn expected(specs: &[Spec], arguments: &[Value], cut: usize) -> (Vec<Value>, Vec<usize>) {
+    let (mut values, mut positions) = (Vec::new(), Vec::new());
     let mut rest = cut;
     for spec in specs {
         let size = fills(spec);
@@ -72,12 +72,13 @@ fn expected(specs: &[Spec], arguments: &[Value], cut: usize) -> Vec<Value> {
             rest = rest.saturating_sub(size);
         } else if size <= rest {
             values.push(read_back(spec, &arguments[values.len()]));
+            positions.push(cut - rest);
             rest -= size;
         } else {
             break;
         }
     }
-    values
+    (values, positions)
 }
 
 /// An old layout and a new one that adds fields at its end, both within the sizes.
@@ -135,14 +136,14 @@ fn check_reading(
     judge: &mut dyn Judge,
     reader: &Layout,
     record: &[u8],
-    values: &[Value],
+    (values, positions): (&[Value], &[usize]),
 ) {
     let need: usize = values.iter().map(|v| v.bytes().len()).sum();
     let surplus = dice.pick(&[0, 0, 1, 2]);
     let slots = (takers(&reader.specs) + surplus).min(SLOTS_MAX);
     let call = reading(dice, &reader.text, record, slots, need);
     if call.area.len() <= AREA_MAX {
-        let after = was_read(&call, values);
+        let after = was_read_at(&call, values, positions);
         judge.expect("old and new layouts", &call, &after);
     }
 }
@@ -217,8 +218,9 @@ pub fn round(dice: &mut Dice, judge: &mut dyn Judge) {
         let record = pack_by(dice, judge, writer, &arguments);
         for cut in cuts(dice, &writer.specs, record.len()) {
             for reader in [&old, &new] {
-                let values = expected(&reader.specs, &arguments, cut);
-                check_reading(dice, judge, reader, &record[..cut], &values);
+                let (values, positions) = expected(&reader.specs, &arguments, cut);
+                let due = (&values[..], &positions[..]);
+                check_reading(dice, judge, reader, &record[..cut], due);
             }
         }
     }

@@ -2,10 +2,11 @@
 
 use crate::call::{After, Call, Judge, Runs, Which};
 use crate::limits::{
-    AREA_MAX, COUNT_MAX, ITEM_BYTES, KIND_MAX, LAYOUT_MAX, RECORD_MAX, REPLY_BYTES, SLOTS_MAX,
-    SLOT_BYTES, SLOT_RUN_MAX,
+    AREA_MAX, COUNT_MAX, ITEM_BYTES, KIND_MAX, LAYOUT_MAX, NO_POSITION, RECORD_MAX, REPLY_BYTES,
+    SLOTS_MAX, SLOT_BYTES, SLOT_RUN_MAX,
 };
-use crate::values::{ints, slot, table, text, uints, Value};
+use crate::values::{ints, slot, slot_from, table, text, uints, Value};
+use crate::walk::positions;
 
 const OLD_OUT: u8 = 0xee;
 const OLD_SLOT: u8 = 0xbb;
@@ -50,14 +51,29 @@ pub fn packed(call: &Call, bytes: &[u8]) -> After {
     after
 }
 
-/// What a reading that set these values leaves behind.
-pub fn was_read(call: &Call, values: &[Value]) -> After {
+/// What a call that set these values leaves behind, none of them from a record.
+pub fn was_set(call: &Call, values: &[Value]) -> After {
     let (slots, area) = table(values, call.mark);
     let end = call.mark + area.len();
     let mut after = call.answered([0, values.len() as u32, end as u32]);
     after.slots[..slots.len()].copy_from_slice(&slots);
     after.area[call.mark..end].copy_from_slice(&area);
     after
+}
+
+/// What a reading leaves behind that set these values, whose fields begin at these positions.
+pub fn was_read_at(call: &Call, values: &[Value], positions: &[usize]) -> After {
+    let mut after = was_set(call, values);
+    assert_eq!(values.len(), positions.len(), "{:?}", call.layout);
+    for (slot, &position) in after.slots.chunks_exact_mut(SLOT_BYTES).zip(positions) {
+        slot[SLOT_BYTES - 4..].copy_from_slice(&(position as u32).to_be_bytes());
+    }
+    after
+}
+
+/// What a reading that set these values leaves behind.
+pub fn was_read(call: &Call, values: &[Value]) -> After {
+    was_read_at(call, values, &positions(&call.layout, call.record.len()))
 }
 
 fn accepts(t: &mut dyn Judge, call: Call, bytes: impl AsRef<[u8]>) {
@@ -541,6 +557,7 @@ fn odd_slot_runs(t: &mut dyn Judge) {
         1,
         4,
         8,
+        12,
         one - 1,
         one + 1,
         all - 1,
@@ -840,10 +857,62 @@ fn order_of_refusals(t: &mut dyn Judge) {
     refuses(t, reading(format!("a9a{OVER}"), "abc", 2), 3, 3);
 }
 
+/// The record position at which each field began, whether it took bytes or not.
+fn field_positions(t: &mut dyn Judge) {
+    let at = |t: &mut dyn Judge, layout: &str, values: &[Value], positions: &[usize]| {
+        let call = reading(layout, "abcdefgh", values.len() + 2);
+        let after = was_read_at(&call, values, positions);
+        t.expect("positions", &call, &after);
+    };
+    at(
+        t,
+        "a2a3a",
+        &[text("ab"), text("cde"), text("f")],
+        &[0, 2, 5],
+    );
+    at(
+        t,
+        "a0a8a0a*",
+        &[text(""), text("abcdefgh"), text(""), text("")],
+        &[0, 0, 8, 8],
+    );
+    at(t, "x3aX2a", &[text("d"), text("c")], &[3, 2]);
+    at(
+        t,
+        "x*a0@2aX*a",
+        &[text(""), text("c"), text("a")],
+        &[8, 2, 0],
+    );
+    at(t, "x99s*@*a*", &[ints(&[]), text("")], &[8, 8]);
+    at(
+        t,
+        "b5b9 H3 A",
+        &[text("10000"), text("010001101"), text("646"), text("f")],
+        &[0, 1, 3, 5],
+    );
+    at(
+        t,
+        "@7 c @1 i @6 su",
+        &[ints(&[104]), ints(&[0x6564_6362]), uints(&[0x6867])],
+        &[7, 1, 6],
+    );
+    at(t, "a6 i a", &[text("abcdef")], &[0]);
+    at(t, "x6 A2 A", &[text("gh")], &[6]);
+}
+
+/// Packing does not look at positions.
+fn positions_in_packing(t: &mut dyn Judge) {
+    for position in [0, 1, 7, 1 << 31, NO_POSITION] {
+        let mut call = packing("a2c", &[text("xy"), ints(&[9])]);
+        call.slots = [slot_from(1, 0, 2, position), slot_from(2, 2, 1, position)].concat();
+        accepts(t, call, "xy\x09");
+    }
+}
+
 /// What lies below the mark or in an unset slot stays as it was.
 fn old_values(t: &mut dyn Judge) {
     let mut call = reading("ca9", "abc", 2);
-    call.slots = [slot(7, 8, 9), slot(1, 0, 3)].concat();
+    call.slots = [slot(7, 8, 9), slot_from(1, 0, 3, 77)].concat();
     let after = was_read(&call, &[ints(&[97])]);
     t.expect("old slot", &call, &after);
 }
@@ -860,5 +929,7 @@ pub fn run(t: &mut dyn Judge) {
     size_limits(t);
     argument_refusals(t);
     order_of_refusals(t);
+    field_positions(t);
+    positions_in_packing(t);
     old_values(t);
 }

@@ -7,8 +7,10 @@ pub const AREA_MAX: usize = 65536;
 pub const COUNT_MAX: usize = 4096;
 pub const SHEET_MAX: usize = 65538;
 
-/// How many numbers make a slot: kind, start and length.
-pub const SLOT_NUMBERS: usize = 3;
+/// How many numbers make a slot: kind, start, length and position.
+pub const SLOT_NUMBERS: usize = 4;
+/// The position of a slot that was not set from a record.
+pub const NO_POSITION: u32 = u32::MAX;
 pub const SLOT_BYTES: usize = 4 * SLOT_NUMBERS;
 pub const SLOT_RUN_MAX: usize = SLOTS_MAX * SLOT_BYTES;
 

@@ -27,6 +27,7 @@ mod sheet_calls;
 mod slots;
 mod tally;
 mod values;
+mod walk;
 
 use calls::Scratch;
 use dice::Dice;

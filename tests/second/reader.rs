@@ -161,7 +161,7 @@ pub fn load_fields(
             &record[at..at + fit.used],
             &mut area[place..next],
         );
-        put_slot(slot, kind, place, fit.items);
+        put_slot(slot, kind, place, fit.items, at as u32);
         at += fit.used;
         place = next;
     }

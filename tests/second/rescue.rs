@@ -1,6 +1,6 @@
 //! What can be kept of a damaged sheet: the whole and well-formed entries at its front.
 
-use crate::limits::{AREA_MAX, LEGS_MAX, RESCUE_REPLY_BYTES, SHEET_MAX, SLOT_BYTES};
+use crate::limits::{AREA_MAX, LEGS_MAX, NO_POSITION, RESCUE_REPLY_BYTES, SHEET_MAX, SLOT_BYTES};
 use crate::sheet::{entry, is_other_version, load, HEADER};
 use crate::slots::{bad_slot_run, put_slot, refused, replied, Answer};
 
@@ -54,7 +54,7 @@ fn rescued(
     }
     let (set, blank) = slots[..legs * SLOT_BYTES].split_at_mut(kept.entries * SLOT_BYTES);
     for slot in blank.chunks_exact_mut(SLOT_BYTES) {
-        put_slot(slot, 0, 0, 0);
+        put_slot(slot, 0, 0, 0, NO_POSITION);
     }
     if kept.entries > 0 {
         load(&sheet[HEADER..], set, area, mark);

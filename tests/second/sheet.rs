@@ -2,7 +2,9 @@
 //!
 //! An entry is the length of what follows in it, the kind, and the value's bytes.
 
-use crate::limits::{AREA_MAX, ITEM_BYTES, KIND_MAX, REPLY_BYTES, SHEET_MAX, SLOT_BYTES};
+use crate::limits::{
+    AREA_MAX, ITEM_BYTES, KIND_MAX, NO_POSITION, REPLY_BYTES, SHEET_MAX, SLOT_BYTES,
+};
 use crate::slots::{
     accepted, bad_slot_run, item_bytes, put_slot, refused, replied, slot_at, value_of, Answer, Slot,
 };
@@ -112,9 +114,10 @@ pub fn load(entries: &[u8], slots: &mut [u8], area: &mut [u8], mark: usize) {
             None => break,
         };
         if kind == 0 {
-            put_slot(slot, 0, 0, 0);
+            put_slot(slot, 0, 0, 0, NO_POSITION);
         } else {
-            put_slot(slot, kind, place, value.len() / item_bytes(kind));
+            let items = value.len() / item_bytes(kind);
+            put_slot(slot, kind, place, items, NO_POSITION);
         }
         area[place..place + value.len()].copy_from_slice(value);
         place += value.len();

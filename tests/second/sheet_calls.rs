@@ -3,7 +3,7 @@
 use crate::call::{by_twin, numbers, Call, Judge, Runs, Which};
 use crate::calls::{damage_reply, damage_slot, damage_slot_run, random_slots, scattered};
 use crate::dice::Dice;
-use crate::fixed::{refuses, was_read, with_slot};
+use crate::fixed::{refuses, was_set, with_slot};
 use crate::layouts::random_value;
 use crate::limits::{AREA_MAX, KIND_MAX, REPLY_BYTES, SHEET_MAX, SLOTS_MAX, SLOT_BYTES};
 use crate::values::{ints, shown, slot, table, text, uints, Value};
@@ -50,7 +50,7 @@ fn both_ways(t: &mut dyn Judge, values: &[Value], sheet: &[u8]) {
         t.expect("writing a sheet", &call, &after);
         let slots = (values.len() + surplus).min(SLOTS_MAX);
         let call = reading(sheet, slots, size(values) + surplus);
-        t.expect("reading a sheet", &call, &was_read(&call, values));
+        t.expect("reading a sheet", &call, &was_set(&call, values));
     }
     refuses(t, writing(values, sheet.len() - 1), 11, 0);
     if !values.is_empty() {

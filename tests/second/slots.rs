@@ -47,6 +47,7 @@ pub fn replied<const N: usize>(
     numbers[0]
 }
 
+/// A slot without its position, which no call looks at.
 #[derive(Clone, Copy)]
 pub struct Slot {
     pub kind: u32,
@@ -73,8 +74,8 @@ pub fn slot_at(slots: &[u8], index: usize) -> Slot {
     }
 }
 
-pub fn put_slot(to: &mut [u8], kind: u32, start: usize, length: usize) {
-    put_numbers(to, &[kind, start as u32, length as u32]);
+pub fn put_slot(to: &mut [u8], kind: u32, start: usize, length: usize, position: u32) {
+    put_numbers(to, &[kind, start as u32, length as u32, position]);
 }
 
 /// The bytes of one item of a kind that is known and set.

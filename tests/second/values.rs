@@ -1,7 +1,7 @@
 //! Values of slots, and tables made of them.
 
 use crate::call::{numbers, words};
-use crate::limits::{ITEM_BYTES, SLOT_NUMBERS};
+use crate::limits::{ITEM_BYTES, NO_POSITION, SLOT_NUMBERS};
 
 #[derive(Clone, PartialEq, Eq, Debug)]
 pub enum Value {
@@ -52,12 +52,17 @@ pub fn uints(items: &[u64]) -> Value {
     Value::Unsigned(items.to_vec())
 }
 
-/// The bytes of a slot.
-pub fn slot(kind: u32, start: usize, length: usize) -> Vec<u8> {
-    words(&[kind, start as u32, length as u32])
+/// The bytes of a slot whose field begins at the position.
+pub fn slot_from(kind: u32, start: usize, length: usize, position: u32) -> Vec<u8> {
+    words(&[kind, start as u32, length as u32, position])
 }
 
-/// Slots and area bytes of values that lie one after another from `start` on.
+/// The bytes of a slot that is not set from a record.
+pub fn slot(kind: u32, start: usize, length: usize) -> Vec<u8> {
+    slot_from(kind, start, length, NO_POSITION)
+}
+
+/// Slots and area bytes of values that lie one after another from `start` on and have no position.
 /// A value that is not set has start 0.
 pub fn table(values: &[Value], start: usize) -> (Vec<u8>, Vec<u8>) {
     let (mut slots, mut area) = (Vec::new(), Vec::new());

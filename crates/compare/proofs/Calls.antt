@@ -19,7 +19,7 @@ use Rattle.record.specs.Bytes.{storeAt}
 use Rattle.record.specs.Table.{slotWidth, slotsOf, Value, areaBytes, valueBytes}
 use Rattle.record.specs.Geometry.{sizesFit}
 use Rattle.record.specs.Packing.{accepted, refusal}
-use Rattle.record.specs.Reading.{Read, valuesFrom, reads, putInto, read}
+use Rattle.record.specs.Reading.{Read, valuesFrom, positionsFrom, reads, putInto, read}
 use Rattle.record.proofs.Tables.{length-slots}
 use Rattle.reader.specs.Checks.{checked}
 use Rattle.reader.specs.Tables.{TableRoom}
@@ -98,17 +98,20 @@ module _ (layout bs slots area : List ℕ) where
 -- ---- what a reading leaves
 
 module _ {layout bs slots area : List ℕ} {a : Answer} (p : Passes layout bs slots area a) {r : Read} (e : r ≡ read layout bs slots area 0) where
-  put : r ≡ putInto slots area 0 (p .vs)
+  abbrev at : List ℕ
+  at = positionsFrom (length bs) 0 (p .run .fs)
+
+  put : r ≡ putInto slots area 0 at (p .vs)
   unfolding read
-  put = e ∙ rw (p .run .values)
+  put = e ∙ rw (p .run .values, p .run .fields)
 
   pub read-holds : Holds (r .slots) (r .area) (r .answer .first)
   unfolding putInto
-  read-holds = subst (λ (x : Read). Holds (x .slots) (x .area) (x .answer .first)) (sym put) (put-holds (p .vs) slots area (p .run .room))
+  read-holds = subst (λ (x : Read). Holds (x .slots) (x .area) (x .answer .first)) (sym put) (put-holds (p .vs) slots area at (p .run .room))
 
   read-shows : shownBytes (r .slots) (r .area) (r .answer .first) ≡ map areaBytes (p .vs)
   unfolding putInto
-  read-shows = subst (λ (x : Read). shownBytes (x .slots) (x .area) (x .answer .first) ≡ map areaBytes (p .vs)) (sym put) (put-shows (p .vs) slots area (p .run .room))
+  read-shows = subst (λ (x : Read). shownBytes (x .slots) (x .area) (x .answer .first) ≡ map areaBytes (p .vs)) (sym put) (put-shows (p .vs) slots area at (p .run .room))
 
 -- ---- each way out
 
@@ -145,7 +148,8 @@ module _ (layout first second fslots farea sslots sarea report : List ℕ) where
           let vs : List (List ℕ) = map areaBytes (p .vs) in
           let ws : List (List ℕ) = map areaBytes (q .vs) in
           let w : report′ ≡ rows n vs ws ++ drop (reportWidth * n) report = g ∙ rw (fields, read-shows p e, read-shows q f, length-rows n vs ws, zero-add) in
-          rw (p .run .values, q .run .values, q .run .fields, le-leb _ _ l, w, q .answer, put p e, put q f)
+          let same : p .run .fs ≡ q .run .fs = cc (p .run .fields, q .run .fields) in
+          rw (p .run .values, q .run .values, q .run .fields, le-leb _ _ l, w, q .answer, put p e, put q f, same)
 
 -- ---- a call that is accepted
 
@@ -179,6 +183,14 @@ module _ (layout first second slots area slots′ area′ report : List ℕ) whe
 
   -- what it leaves
   pub left : (a : Accepted layout first second slots area slots′ area′ report)
-      → compare layout first second slots area slots′ area′ report ≡ compareEffect slots area slots′ area′ report (ok (record { fields = slotCount (a .fs); first = a .vs; second = a .ws }))
+      → compare layout first second slots area slots′ area′ report ≡ compareEffect slots area slots′ area′ report
+      (ok
+      (record {
+        fields = slotCount (a .fs);
+        first = a .vs;
+        second = a .ws;
+        firstAt = positionsFrom (length first) 0 (a .fs);
+        secondAt = positionsFrom (length second) 0 (a .fs);
+      }))
   unfolding compare compares
   left a = rw (a .one, a .two, a .fields, a .fits)

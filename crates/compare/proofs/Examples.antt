@@ -1,10 +1,11 @@
 -- The examples hold: one statement, which the checker computes. Then the theorems on one record each: their premises can be met.
 use mathlib.Core.List.{List, []}
 use mathlib.Core.Path.{_≡_, refl}
-use Prim.Native.Nat.{ℕ}
+use Prim.Native.Nat.{ℕ, _*_}
 use lib.Dec.{T}
 use lib.ListN.{replicate, take}
 use Rattle.layout.specs.Quoted.{bytes}
+use Rattle.record.specs.Table.{slotWidth}
 use Rattle.compare.specs.Comparing.{Compared, compare}
 use Rattle.compare.specs.Claims.{WithItself, sameOrNeither, OtherWayRound, otherWay}
 use Rattle.compare.specs.Examples.{all, examples}
@@ -19,7 +20,7 @@ abbrev layout : List ℕ
 layout = bytes "A2xca3"
 
 abbrev slots : List ℕ
-slots = replicate 9 9
+slots = replicate (slotWidth * 3) 9
 
 abbrev area : List ℕ
 area = replicate 10 170

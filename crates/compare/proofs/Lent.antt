@@ -27,12 +27,12 @@ pub record Kept (n : ℕ) (before after : List ℕ) : Type 0 where
   pub long : length after ≡ length before
   pub rest : drop (slotWidth * n) after ≡ drop (slotWidth * n) before
 
-put-kept : (slots area : List ℕ) (vs : List Value) (n : ℕ) → length vs ≤ n → slotWidth * n ≤ length slots → Kept n slots (putInto slots area 0 vs .slots)
+put-kept : (slots area at : List ℕ) (vs : List Value) (n : ℕ) → length vs ≤ n → slotWidth * n ≤ length slots → Kept n slots (putInto slots area 0 at vs .slots)
 unfolding putInto
-put-kept slots area vs n few lent =
-    let front : List ℕ = slotNumbers 0 vs in
+put-kept slots area at vs n few lent =
+    let front : List ℕ = slotNumbers 0 at vs in
     let m : ℕ = slotWidth * length vs in
-    let l : length front ≡ m = length-slot-numbers 0 vs in
+    let l : length front ≡ m = length-slot-numbers 0 at vs in
     let r : length (drop m slots) ≡ length slots - m = length-drop m slots in
     record {
       lent = lent;
@@ -44,13 +44,13 @@ put-kept slots area vs n few lent =
           ap (λ (k : ℕ). drop k (front ++ drop m slots)) e ∙ drop-append-add front (drop m slots) past ∙ drop-drop past m slots ∙ ap (λ (k : ℕ). drop k slots) f;
     }
 
-reads-kept : (layout bs slots area : List ℕ) (vs : List Value) (fs : List Field) → reads layout bs slots area 0 ≡ ok vs → fieldsOf false layout ≡ ok fs
-    → Kept (slotCount fs) slots (putInto slots area 0 vs .slots)
-reads-kept layout bs slots area vs fs e f =
+reads-kept : (layout bs slots area at : List ℕ) (vs : List Value) (fs : List Field) → reads layout bs slots area 0 ≡ ok vs → fieldsOf false layout ≡ ok fs
+    → Kept (slotCount fs) slots (putInto slots area 0 at vs .slots)
+reads-kept layout bs slots area at vs fs e f =
     let r = accepted-reads layout bs slots area vs e in
     let same : r .fs ≡ fs = cc (r .fields) in
     let few : length vs ≤ slotCount (r .fs) = subst (λ (ws : List Value). length ws ≤ slotCount (r .fs)) (r .shown) (values-few bs 0 (r .fs)) in
-    subst (λ (gs : List Field). Kept (slotCount gs) slots (putInto slots area 0 vs .slots)) same (put-kept slots area vs (slotCount (r .fs)) few (r .lent))
+    subst (λ (gs : List Field). Kept (slotCount gs) slots (putInto slots area 0 at vs .slots)) same (put-kept slots area at vs (slotCount (r .fs)) few (r .lent))
 
 -- what an accepted call leaves
 pub record Settled (slots slots′ report : List ℕ) (c : Compared) : Type 0 where
@@ -70,8 +70,8 @@ module _ (layout first second slots area slots′ area′ report : List ℕ) whe
       let room : reportWidth * n ≤ length report = leb-true (reportWidth * n) (length report) (a .fits) in
       rw (left layout first second slots area slots′ area′ report a)
       (record {
-        first = reads-kept layout first slots area (a .vs) (a .fs) (a .one) (a .fields);
-        second = reads-kept layout second slots′ area′ (a .ws) (a .fs) (a .two) (a .fields);
+        first = reads-kept layout first slots area _ (a .vs) (a .fs) (a .one) (a .fields);
+        second = reads-kept layout second slots′ area′ _ (a .ws) (a .fs) (a .two) (a .fields);
         rows = room;
         long = length-append (rows n xs ys) (drop (reportWidth * n) report) ∙ rw (length-rows n xs ys, length-drop) (omega arith);
       })

@@ -13,7 +13,7 @@ use Rattle.record.specs.declared.Answer.{Answer}
 use Rattle.record.specs.Bytes.{join, digits}
 use Rattle.record.specs.Table.{Value, areaBytes}
 use Rattle.record.specs.Packing.{accepted, refusal}
-use Rattle.record.specs.Reading.{reads, putInto}
+use Rattle.record.specs.Reading.{reads, positionsFrom, putInto}
 
 -- ---- two values, as the bytes that they have in their areas
 
@@ -92,21 +92,30 @@ rows (suc n) xs ys = row xs ys ++ rows n (drop 1 xs) (drop 1 ys)
 
 -- ---- the call
 
--- the value fields of a layout, and the values that the two readings set
+-- the value fields of a layout, the values that the two readings set, and the positions of their fields
 pub record Shown : Type 0 where
   pub fields : ℕ
   pub first : List Value
   pub second : List Value
+  pub firstAt : List ℕ
+  pub secondAt : List ℕ
 
 -- the lines of the table: for reading the first from mark 0, then for the second; then 11 for the report
 unfoldable pub compares : List ℕ → List ℕ → List ℕ → List ℕ → List ℕ → List ℕ → List ℕ → List ℕ → Result Shown
-unfolding reads fieldsOf slotCount
+unfolding reads positionsFrom fieldsOf slotCount
 compares layout first second firstSlots firstArea secondSlots secondArea report = do
   vs ← reads layout first firstSlots firstArea 0
   ws ← reads layout second secondSlots secondArea 0
   fs ← fieldsOf false layout
   _ ← demand (leb (reportWidth * slotCount fs) (length report)) NoRoom 0
-  ok (record { fields = slotCount fs; first = vs; second = ws })
+  ok
+      (record {
+        fields = slotCount fs;
+        first = vs;
+        second = ws;
+        firstAt = positionsFrom (length first) 0 fs;
+        secondAt = positionsFrom (length second) 0 fs;
+      })
 
 -- all that a call leaves: its answer, both tables with their areas, and the report
 pub record Compared : Type 0 where
@@ -121,8 +130,8 @@ pub record Compared : Type 0 where
 unfoldable pub compareEffect : List ℕ → List ℕ → List ℕ → List ℕ → List ℕ → Result Shown → Compared
 unfolding putInto rows areaBytes
 compareEffect firstSlots firstArea secondSlots secondArea report (ok s) =
-    let p = putInto firstSlots firstArea 0 (s .first) in
-    let q = putInto secondSlots secondArea 0 (s .second) in
+    let p = putInto firstSlots firstArea 0 (s .firstAt) (s .first) in
+    let q = putInto secondSlots secondArea 0 (s .secondAt) (s .second) in
     record {
       answer = accepted (s .fields) 0;
       firstSlots = p .slots;

@@ -11,11 +11,12 @@ use Rattle.layout.specs.Refusals.{Result, ok, refused, _>>=_}
 use Rattle.layout.proofs.Laws.{no-number-zero}
 use Rattle.record.specs.declared.Answer.{Answer}
 use Rattle.record.specs.Table.{slotsOf, shown}
+use Rattle.record.specs.Slots.{slotAt}
 use Rattle.record.specs.Packing.{packs, pack, packEffect, Packed, accepted}
 use Rattle.record.specs.Reading.{Read, read, putInto}
 use Rattle.record.proofs.Fields.{split}
 use Rattle.runs.specs.Ends.{endOf}
-use Rattle.evolution.specs.Claim.{Layouts, packedBy, fieldsBy, due, ReadsBack}
+use Rattle.evolution.specs.Claim.{Layouts, packedBy, fieldsBy, due, starts, ReadsBack}
 use Rattle.evolution.specs.Calls.{Lent, PackedAndRead, packing, thenRead, packedAndRead, Meant, KeepsBack, ReadsBackAs}
 use Rattle.evolution.proofs.ReadsBack.{reads-back}
 
@@ -69,7 +70,7 @@ module _ (c : Lent) where
     accepts = ap (λ (a : Answer). a .number) (back .packings packed)
 
     -- what is left, as the claim says it
-    left : packedAndRead c ≡ thenRead (packedBy l packed) (putInto (c .table) (c .values) (c .mark) (due l layout (c .cut)))
+    left : packedAndRead c ≡ thenRead (packedBy l packed) (putInto (c .table) (c .values) (c .mark) (starts l) (due l layout (c .cut)))
     unfolding packedAndRead
     left =
         rw (same-packing, eq-eqb (packedBy l packed .answer .number) 0 accepts, h .reader)
@@ -87,6 +88,11 @@ module _ (c : Lent) where
               ap (λ (x : PackedAndRead). map (shown (x .values)) (take (length (due l layout (c .cut))) (slotsOf (x .table)))) left
               ∙ ap (λ (r : Read). map (shown (r .area)) (take (length (due l layout (c .cut))) (slotsOf (r .slots)))) (sym (back .readings packed layout (c .cut) (c .table) (c .values) (c .mark) (h .reading)))
               ∙ back .shows packed layout (c .cut) (c .table) (c .values) (c .mark) (h .reading);
+          positions =
+              λ i inside.
+              ap (λ (x : PackedAndRead). slotAt (x .table) i .position) left
+              ∙ ap (λ (r : Read). slotAt (r .slots) i .position) (sym (back .readings packed layout (c .cut) (c .table) (c .values) (c .mark) (h .reading)))
+              ∙ back .positions packed layout (c .cut) (c .table) (c .values) (c .mark) (h .reading) i inside;
         }
 
   -- so the effect of the calls keeps the whole promise

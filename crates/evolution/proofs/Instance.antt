@@ -16,7 +16,7 @@ use Rattle.layout.specs.Quoted.{bytes}
 use Rattle.record.specs.Table.{slotsOf, valueBytes}
 use Rattle.record.specs.Packing.{pack, filled, argumentsFit}
 use Rattle.runs.specs.Ends.{endOf}
-use Rattle.evolution.specs.Claim.{Layouts, Reading, plain, due, setBy}
+use Rattle.evolution.specs.Claim.{Layouts, Reading, plain, due, setBy, startsFrom, starts}
 
 -- `a3` and then `a03 xS`, with the arguments "ab" and {-2}
 pair : Layouts
@@ -26,7 +26,7 @@ pair = record {
   new = bytes "a03 xS";
   fields = record { code = Data (Text 0); unsigned = false; count = Times 3 } ∷ [];
   added = record { code = Move Skip; unsigned = false; count = Absent } ∷ record { code = Data (Integers 2 true); unsigned = false; count = Absent } ∷ [];
-  slots = 1 ∷ 0 ∷ 2 ∷ 2 ∷ 2 ∷ 1 ∷ [];
+  slots = 1 ∷ 0 ∷ 2 ∷ 9 ∷ 2 ∷ 2 ∷ 1 ∷ 9 ∷ [];
   area = bytes "ab" ++ (255 ∷ 255 ∷ 255 ∷ 255 ∷ 255 ∷ 255 ∷ 255 ∷ 254 ∷ []);
   oldOutput = replicate 3 0;
   newOutput = replicate 9 7;
@@ -42,15 +42,15 @@ pair = record {
 }
 
 -- The old record and the new one, not cut and cut inside the added fields, each read by the old layout and by the new one, from the mark 1 on,
--- into six nines and an area of twelve.
-whole : (packing layout : Bool) → Reading pair packing layout (if packing then 6 else 3) (replicate 6 9) (replicate 12 9) 1
+-- into eight nines and an area of twelve.
+whole : (packing layout : Bool) → Reading pair packing layout (if packing then 6 else 3) (replicate 8 9) (replicate 12 9) 1
 unfolding pair pack setBy filled slotsOf slotCount valueBytes
 whole true true = record { within = omega arith; sizes = tt; enough-slots = omega arith; room = omega arith }
 whole true false = record { within = omega arith; sizes = tt; enough-slots = omega arith; room = omega arith }
 whole false true = record { within = omega arith; sizes = tt; enough-slots = omega arith; room = omega arith }
 whole false false = record { within = omega arith; sizes = tt; enough-slots = omega arith; room = omega arith }
 
-cut-short : (layout : Bool) → Reading pair true layout 5 (replicate 6 9) (replicate 4 9) 1
+cut-short : (layout : Bool) → Reading pair true layout 5 (replicate 8 9) (replicate 4 9) 1
 unfolding pair pack setBy filled slotsOf slotCount valueBytes
 cut-short true = record { within = omega arith; sizes = tt; enough-slots = omega arith; room = omega arith }
 cut-short false = record { within = omega arith; sizes = tt; enough-slots = omega arith; room = omega arith }
@@ -64,6 +64,11 @@ due-six : due pair true 6 ≡ record { kind = 1; items = 97 ∷ 98 ∷ 0 ∷ [] 
 unfolding pair setBy filled slotsOf
 due-six = refl
 
+-- its fields begin at 0 and, after `a03 x`, at 4
+starts-pair : starts pair ≡ 0 ∷ 4 ∷ []
+unfolding pair startsFrom
+starts-pair = refl
+
 due-old : due pair false 6 ≡ record { kind = 1; items = 97 ∷ 98 ∷ 0 ∷ [] } ∷ []
 unfolding pair setBy filled slotsOf
 due-old = refl
@@ -76,7 +81,7 @@ flags = record {
   new = bytes "au20 xu2S";
   fields = record { code = Data (Text 0); unsigned = true; count = Times 20 } ∷ [];
   added = record { code = Move Skip; unsigned = true; count = Times 2 } ∷ record { code = Data (Integers 2 true); unsigned = false; count = Absent } ∷ [];
-  slots = 1 ∷ 0 ∷ 4 ∷ 2 ∷ 4 ∷ 1 ∷ [];
+  slots = 1 ∷ 0 ∷ 4 ∷ 9 ∷ 2 ∷ 4 ∷ 1 ∷ 9 ∷ [];
   area = bytes "Mary" ++ (255 ∷ 255 ∷ 255 ∷ 255 ∷ 255 ∷ 255 ∷ 255 ∷ 254 ∷ []);
   oldOutput = replicate 20 0;
   newOutput = replicate 24 7;

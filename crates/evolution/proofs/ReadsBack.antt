@@ -1,30 +1,31 @@
 -- The proof of demand 3. Packing a plain layout joins the bytes of its fields, so the old record is the front of the new one; a reader that
 -- stands where the packer stood finds each field's own bytes as long as they end at or before the cut, and stops at the first that does not.
-use Prim.Native.Nat.{ℕ, suc, _+_, _≤_, suc-le-suc}
+use Prim.Native.Nat.{ℕ, suc, _+_, _≤_, _<_, suc-le-suc}
 use native.Mathlib.Nat.{le-refl}
 use native.Mathlib.Omega.{arith}
 use mathlib.Core.Path.{_≡_, refl, sym, ap, _∙_, subst}
 use mathlib.Core.Bool.{Bool, true, false, _&&_}
 use mathlib.Core.List.{List, [], _∷_, _++_, map, append-nil}
-use lib.ListN.{length, take, drop, length-append}
+use lib.ListN.{length, getD, take, drop, length-append}
 use lib.Seq.{take-at, take-append-le, length-take-le}
 use lib.Dec.{T}
 use Rattle.layout.specs.declared.Field.{Field}
 use Rattle.layout.specs.Layout.{takesSlot, fieldsOf, slotCount}
 use Rattle.layout.specs.Refusals.{if_then_else_, ok}
 use Rattle.layout.proofs.Laws.{AllSound, packed-reads}
-use Rattle.record.specs.Table.{slotsOf, shown}
+use Rattle.record.specs.Table.{slotsOf, noPosition, shown}
+use Rattle.record.specs.Slots.{slotAt}
 use Rattle.record.specs.Packing.{accepted, Filled, filled, argumentsFit, packed, pack, packEffect, Packed}
 use Rattle.record.specs.Geometry.{sizesFit}
-use Rattle.record.specs.Reading.{Read, valuesFrom, read, readEffect, putInto}
+use Rattle.record.specs.Reading.{Read, valuesFrom, positionsFrom, read, putInto}
 use Rattle.runs.specs.Ends.{plainCode, plainCount, endOf, recordOf}
 use Rattle.runs.proofs.Joined.{joined, joined-append, packed-joined}
-use Rattle.runs.proofs.Calls.{T→true, packs-by, reads-by}
-use Rattle.runs.proofs.Shown.{shows-put}
-use Rattle.evolution.specs.Claim.{plain, Layouts, packedBy, textOf, outputBy, slotsBy, fieldsBy, due, cutRecord, Reading, ReadsBack}
+use Rattle.runs.proofs.Calls.{T→true, packs-by, read-by}
+use Rattle.runs.proofs.Shown.{shows-put, put-same, position-put}
+use Rattle.evolution.specs.Claim.{startsFrom, starts, plain, Layouts, packedBy, textOf, outputBy, slotsBy, fieldsBy, due, cutRecord, Reading, ReadsBack}
 use Rattle.record.proofs.Tables.{slots-take}
 use Rattle.record.proofs.Bytes.{both}
-use Rattle.evolution.proofs.Run.{AllGood, length-joined, all-forward, agree}
+use Rattle.evolution.proofs.Run.{AllGood, length-joined, all-forward, agree, begun}
 use Rattle.evolution.proofs.Proper.{set-proper}
 use Rattle.evolution.proofs.Arguments.{fields-filled, front, spare, fit-front, all-good}
 
@@ -148,18 +149,38 @@ module _ (l : Layouts) where
       (ap (valuesFrom (take cut whole) 0) (sym (fields-filled (l .area) (slotsOf (l .slots)) (fieldsBy l q)))
       ∙ agree whole cut (inside p cut h) (args q) (good q) 0 (begins q .0) (omega arith) (begins q .1))
 
+  -- a value's field begins where it begins in the new layout
+  started : (q : Bool) (bs : List ℕ) (i : ℕ) → i < length (valuesFrom bs 0 (fieldsBy l q)) → getD (positionsFrom (length bs) 0 (fieldsBy l q)) i noPosition ≡ getD (starts l) i noPosition
+  started q bs = by q (fields-filled (l .area) (slotsOf (l .slots)) (fieldsBy l q)) (begun bs (rest q) (args q) (good q) 0 (omega arith))
+    where
+      rest : Bool → List Field
+      rest true = []
+      rest false = l .added
+
+      by : (q : Bool) {fs : List Field} → fs ≡ fieldsBy l q
+          → ((i : ℕ) → i < length (valuesFrom bs 0 fs) → getD (positionsFrom (length bs) 0 fs) i noPosition ≡ getD (startsFrom 0 (fs ++ rest q)) i noPosition)
+          → (i : ℕ) → i < length (valuesFrom bs 0 (fieldsBy l q)) → getD (positionsFrom (length bs) 0 (fieldsBy l q)) i noPosition ≡ getD (starts l) i noPosition
+      by true e h i le = (rw e at h) i le ∙ rw (append-nil (l .fields ++ l .added))
+      by false e h i le = (rw e at h) i le
+
   module _ (p q : Bool) (cut : ℕ) (slots area : List ℕ) (mark : ℕ) (h : Reading l p q cut slots area mark) where
-    reading : read (textOf l q) (cutRecord l p cut) slots area mark ≡ putInto slots area mark (due l q cut)
-    unfolding read
+    v : valuesFrom (cutRecord l p cut) 0 (fieldsBy l q) ≡ due l q cut
+    v = values p q cut (h .within)
+
+    reading : read (textOf l q) (cutRecord l p cut) slots area mark ≡ putInto slots area mark (starts l) (due l q cut)
     reading =
-        let v : valuesFrom (cutRecord l p cut) 0 (fieldsBy l q) ≡ due l q cut = values p q cut (h .within) in
-        ap (readEffect slots area mark)
-        (reads-by (textOf l q) (cutRecord l p cut) slots area mark (fieldsBy l q) (text-reads q .0) (T→true _ (h .sizes)) (h .enough-slots) (rw v (h .room)) ∙ ap ok v)
+        let at : List ℕ = positionsFrom (length (cutRecord l p cut)) 0 (fieldsBy l q) in
+        read-by (textOf l q) (cutRecord l p cut) slots area mark (fieldsBy l q) (text-reads q .0) (T→true _ (h .sizes)) (h .enough-slots) (rw v (h .room))
+        ∙ ap (putInto slots area mark at) v
+        ∙ put-same slots area mark (due l q cut) at (starts l) (λ i le. started q (cutRecord l p cut) i (rw (← v) at le))
 
     showing : map (shown (read (textOf l q) (cutRecord l p cut) slots area mark .area)) (take (length (due l q cut)) (slotsOf (read (textOf l q) (cutRecord l p cut) slots area mark .slots))) ≡ due l q cut
     showing =
         ap (λ (r : Read). map (shown (r .area)) (take (length (due l q cut)) (slotsOf (r .slots)))) reading
-        ∙ shows-put slots area mark (due l q cut) (set-proper cut 0 (args q) (good q)) (omega (arith, h .room))
+        ∙ shows-put slots area mark (starts l) (due l q cut) (set-proper cut 0 (args q) (good q)) (omega (arith, h .room))
+
+    placing : (i : ℕ) → i < length (due l q cut) → slotAt (read (textOf l q) (cutRecord l p cut) slots area mark .slots) i .position ≡ getD (starts l) i noPosition
+    placing i inside = ap (λ (r : Read). slotAt (r .slots) i .position) reading ∙ position-put slots area mark (starts l) (due l q cut) i inside
 
   pub reads-back : ReadsBack l
-  reads-back = record { packings = packings; readings = reading; shows = showing }
+  reads-back = record { packings = packings; readings = reading; shows = showing; positions = placing }

@@ -1,10 +1,10 @@
 -- Reading what is left of the joined bytes of a plain layout after a cut shows what `setBy` says.
-use Prim.Native.Nat.{ℕ, _+_, _-_, _≤_, _<_, min}
+use Prim.Native.Nat.{ℕ, zero, suc, _+_, _-_, _≤_, _<_, min}
 use native.Mathlib.Omega.{arith}
 use mathlib.Core.Path.{_≡_, refl, sym, ap, ap₂, _∙_}
 use mathlib.Core.Bool.{Bool}
 use mathlib.Core.List.{List, [], _∷_, _++_, append-assoc}
-use lib.ListN.{length, take, drop, replicate, length-append, length-replicate}
+use lib.ListN.{length, getD, take, drop, replicate, length-append, length-replicate}
 use lib.Seq.{length-take-le, take-at, drop-at, take-take, drop-drop}
 use lib.Dec.{T}
 use borrow.Author.Tests.{le-leb, lt-leb}
@@ -14,13 +14,13 @@ use Rattle.layout.specs.declared.Motion.the-variants.{Skip, Back, Goto}
 use Rattle.layout.specs.declared.Count.{Count}
 use Rattle.layout.specs.declared.Field.{Field}
 use Rattle.layout.specs.Words.{FitCode}
-use Rattle.record.specs.Table.{Value}
+use Rattle.record.specs.Table.{noPosition, Value}
 use Rattle.record.specs.Geometry.{amount, bytesFor, itemsIn}
 use Rattle.record.specs.Packing.{stored, Filled}
-use Rattle.record.specs.Reading.{loaded, valuesFrom}
+use Rattle.record.specs.Reading.{loaded, valuesFrom, positionsFrom}
 use Rattle.runs.specs.Ends.{plainCode, fills, endOf}
 use Rattle.runs.proofs.Joined.{bytesOf, joined, Forward}
-use Rattle.evolution.specs.Claim.{setBy}
+use Rattle.evolution.specs.Claim.{setBy, startsFrom}
 use Rattle.record.proofs.Bytes.{drop-take}
 use Rattle.record.proofs.Fields.{Served, length-stored, fills-some, split}
 use Rattle.evolution.proofs.Fields.{back}
@@ -148,3 +148,58 @@ module _ (whole : List ℕ) (cut : ℕ) (inside : cut ≤ length whole) where
   unfolding valuesFrom setBy fieldsIn
   agree [] h = λ at after le e. refl
   agree (a ∷ rest) h = agree-step rest (h .1) (agree rest (h .1)) (a .field .code) (a .field .unsigned) (a .field .count) (a .items) (h .0)
+
+-- ---- where fields begin: as long as there are values, the reader begins each field where the packer did; gs are any fields behind
+
+module _ (bs : List ℕ) (gs : List Field) where
+  abbrev Begun : List Filled → Type 0
+  Begun fs =
+      (at : ℕ) → at ≤ length bs → (i : ℕ) → i < length (valuesFrom bs at (fieldsIn fs))
+      → getD (positionsFrom (length bs) at (fieldsIn fs)) i noPosition ≡ getD (startsFrom at (fieldsIn fs ++ gs)) i noPosition
+
+  later : (at n : ℕ) (ps qs : List ℕ) → ((i : ℕ) → i < n → getD ps i noPosition ≡ getD qs i noPosition) → (i : ℕ) → i < suc n → getD (at ∷ ps) i noPosition ≡ getD (at ∷ qs) i noPosition
+  later at n ps qs h zero l = refl
+  later at n ps qs h (suc i) l = h i (omega arith)
+
+  -- by other names of the values and positions
+  named : {vs ws : List Value} {ps qs : List ℕ} (rs : List ℕ) → vs ≡ ws → ps ≡ qs → ((i : ℕ) → i < length ws → getD qs i noPosition ≡ getD rs i noPosition)
+      → (i : ℕ) → i < length vs → getD ps i noPosition ≡ getD rs i noPosition
+  named rs e f h i l = ap (λ (ps : List ℕ). getD ps i noPosition) f ∙ h i (rw e at l)
+
+  none : (i : ℕ) → i < 0 → (x y : ℕ) → x ≡ y
+  none i l x y = omega arith
+
+  begun-step : (rest : List Filled) → AllGood rest → Begun rest → (k : Code) (u : Bool) (n : Count) (xs : List ℕ) → Good k n xs → Begun (one k u n xs ∷ rest)
+  unfolding valuesFrom positionsFrom startsFrom fills fieldsIn
+  begun-step rest hs ih (Data s) u n xs h at le =
+      let need : ℕ = bytesFor s (amount n 0) in
+      let fs : List Field = fieldsIn rest in
+      let starts : List ℕ = startsFrom (at + need) (fs ++ gs) in
+      let places : at ∷ positionsFrom (length bs) (at + bytesFor s (amount n (itemsIn s (length bs - at)))) fs ≡ at ∷ positionsFrom (length bs) (at + need) fs = rw (h .3 (itemsIn s (length bs - at))) in
+      split need (length bs - at)
+      (λ (k : need ≤ length bs - at).
+      let values : valuesFrom bs at (record { code = Data s; unsigned = u; count = n } ∷ fs) ≡ loaded s u (amount n 0) (take need (drop at bs)) ∷ valuesFrom bs (at + need) fs =
+      rw (h .3 (itemsIn s (length bs - at)), le-leb need (length bs - at) k) in
+      named (at ∷ starts) values places (later at (length (valuesFrom bs (at + need) fs)) (positionsFrom (length bs) (at + need) fs) starts (ih (at + need) (omega arith))))
+      (λ (k : length bs - at < need).
+      let values : valuesFrom bs at (record { code = Data s; unsigned = u; count = n } ∷ fs) ≡ [] = rw (h .3 (itemsIn s (length bs - at)), lt-leb need (length bs - at) k) in
+      named (at ∷ starts) values places (λ i l. none i l _ _))
+  begun-step rest hs ih (Move Skip) u n xs h at le =
+      let fs : List Field = fieldsIn rest in
+      let starts : List ℕ = startsFrom (at + amount n 0) (fs ++ gs) in
+      let to : ℕ = min (at + amount n (length bs)) (length bs) in
+      let same : amount n (length bs) ≡ amount n 0 = h (length bs) in
+      split (at + amount n 0) (length bs)
+      (λ (k : at + amount n 0 ≤ length bs).
+      let here : to ≡ at + amount n 0 = omega arith in
+      named starts (ap (λ (m : ℕ). valuesFrom bs m fs) here) (ap (λ (m : ℕ). positionsFrom (length bs) m fs) here) (ih (at + amount n 0) k))
+      (λ (k : length bs < at + amount n 0).
+      let end : to ≡ length bs = omega arith in
+      named starts (ap (λ (m : ℕ). valuesFrom bs m fs) end ∙ at-end bs rest hs) (ap (λ (m : ℕ). positionsFrom (length bs) m fs) end) (λ i l. none i l _ _))
+  begun-step rest hs ih (Move Back) u n xs h at le = absurd h
+  begun-step rest hs ih (Move Goto) u n xs h at le = absurd h
+
+  pub begun : (fs : List Filled) → AllGood fs → Begun fs
+  unfolding valuesFrom fieldsIn
+  begun [] h = λ at le i l. none i l _ _
+  begun (a ∷ rest) h = begun-step rest (h .1) (begun rest (h .1)) (a .field .code) (a .field .unsigned) (a .field .count) (a .items) (h .0)

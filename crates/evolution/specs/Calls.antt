@@ -1,17 +1,18 @@
 -- A packing and a reading one after the other, as `read_back` makes them, and what demand 3 says of the two.
-use Prim.Native.Nat.{ℕ}
+use Prim.Native.Nat.{ℕ, _<_}
 use mathlib.Core.Path.{_≡_}
 use mathlib.Core.Bool.{Bool}
 use mathlib.Core.List.{List, map}
-use lib.ListN.{length, take}
+use lib.ListN.{length, getD, take}
 use lib.Dec.{eqb}
 use Rattle.layout.specs.Refusals.{if_then_else_}
 use Rattle.record.specs.declared.Answer.{Answer}
-use Rattle.record.specs.Table.{slotsOf, shown}
+use Rattle.record.specs.Table.{slotsOf, noPosition, shown}
+use Rattle.record.specs.Slots.{slotAt}
 use Rattle.record.specs.Packing.{Packed, pack, accepted}
 use Rattle.record.specs.Reading.{Read, read, putInto}
 use Rattle.runs.specs.Ends.{endOf, recordOf}
-use Rattle.evolution.specs.Claim.{Layouts, Reading, textOf, fieldsBy, slotsBy, outputBy, due}
+use Rattle.evolution.specs.Claim.{Layouts, Reading, textOf, fieldsBy, slotsBy, outputBy, due, starts}
 
 -- all that the two calls are lent: the packer's four runs, the cut, and what the reader has beside the record
 pub record Lent : Type 0 where
@@ -58,14 +59,16 @@ pub record Meant (l : Layouts) (packed layout : Bool) (c : Lent) : Type 0 where
   pub reader : c .readBy ≡ textOf l layout
   pub reading : Reading l packed layout (c .cut) (c .table) (c .values) (c .mark)
 
--- the three parts of the claim, of what the calls leave
+-- the parts of the claim, of what the calls leave
 pub record KeepsBack (l : Layouts) (packed layout : Bool) (c : Lent) (x : PackedAndRead) : Type 0 where
   -- the packing was accepted with the end of the last field, and left this output
   pub packings : packing c ≡ record { answer = accepted (endOf (fieldsBy l packed)) 0; output = x .output }
   -- answer, table and area are those of the values due
-  pub readings : record { answer = x .answer; slots = x .table; area = x .values } ≡ putInto (c .table) (c .values) (c .mark) (due l layout (c .cut))
+  pub readings : record { answer = x .answer; slots = x .table; area = x .values } ≡ putInto (c .table) (c .values) (c .mark) (starts l) (due l layout (c .cut))
   -- and each set slot shows its value
   pub shows : map (shown (x .values)) (take (length (due l layout (c .cut))) (slotsOf (x .table))) ≡ due l layout (c .cut)
+  -- with the position at which its field begins
+  pub positions : (i : ℕ) → i < length (due l layout (c .cut)) → slotAt (x .table) i .position ≡ getD (starts l) i noPosition
 
 -- THE EFFECT OF A CALL of `read_back`, and that it keeps demand 3
 pub record ReadsBackAs (c : Lent) (x : PackedAndRead) : Type 0 where

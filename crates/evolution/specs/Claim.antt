@@ -1,10 +1,10 @@
 -- Demand 3 (document 01, "What demand 3 reads back"): one claim about both packings and every reading.
 -- Each definition names the part of that section that it states. The proof is in proofs/ReadsBack.antt.
-use Prim.Native.Nat.{ℕ, _+_, _*_, _%_, _^_, _≤_}
+use Prim.Native.Nat.{ℕ, _+_, _*_, _%_, _^_, _≤_, _<_}
 use mathlib.Core.Path.{_≡_}
 use mathlib.Core.Bool.{Bool, true, false, _&&_}
 use mathlib.Core.List.{List, [], _∷_, _++_, map}
-use lib.ListN.{length, take}
+use lib.ListN.{length, getD, take}
 use lib.Dec.{T, leb, eqb}
 use Rattle.layout.specs.declared.Code.the-variants.{Data, Move}
 use Rattle.layout.specs.declared.Shape.{Shape}
@@ -13,7 +13,8 @@ use Rattle.layout.specs.declared.Field.{Field}
 use Rattle.layout.specs.Refusals.{if_then_else_, ok}
 use Rattle.layout.specs.Layout.{fieldsOf, slotCount}
 use Rattle.record.specs.Bytes.{fit}
-use Rattle.record.specs.Table.{string, integerKind, slotsOf, Value, shown, slotWidth, valueBytes}
+use Rattle.record.specs.Table.{string, integerKind, slotsOf, Value, shown, slotWidth, noPosition, valueBytes}
+use Rattle.record.specs.Slots.{slotAt}
 use Rattle.record.specs.Geometry.{amount, sizesFit}
 use Rattle.record.specs.Packing.{Filled, filled, argumentsFit, accepted, Packed, pack}
 use Rattle.record.specs.Reading.{trimmed, widened, putInto, read}
@@ -56,6 +57,19 @@ setBy cut before (a ∷ rest) =
           if leb end cut
           then readBack s (a .field .unsigned) (amount (a .field .count) 0) (a .items) ∷ later
           else later
+      | Move m ↦ later
+    ]
+
+-- ---- where fields begin
+
+-- for each field that takes a slot the end of the fields before (02, M-110)
+unfoldable pub startsFrom : ℕ → List Field → List ℕ
+unfolding fills
+startsFrom before [] = []
+startsFrom before (f ∷ fs) =
+    let later = startsFrom (before + fills (f .code) (f .count)) fs in
+    elim (f .code) [
+      | Data s ↦ before ∷ later
       | Move m ↦ later
     ]
 
@@ -114,6 +128,10 @@ cutRecord l which k = take k (recordOf (packedBy l which))
 abbrev pub due : Layouts → Bool → ℕ → List Value
 due l layout k = setBy k 0 (filled (l .area) (slotsOf (l .slots)) (fieldsBy l layout))
 
+-- where the fields begin, those of the old layout first
+abbrev pub starts : Layouts → List ℕ
+starts l = startsFrom 0 (l .fields ++ l .added)
+
 -- ---- the claim
 
 -- A reading by either layout of either record: k is the cut, and the record's length where it is not cut. Slots and area may hold anything
@@ -129,12 +147,18 @@ pub record ReadsBack (l : Layouts) : Type 0 where
   -- both packings are accepted, with the end of the last field as the length
   pub packings : (which : Bool) → packedBy l which .answer ≡ accepted (endOf (fieldsBy l which)) 0
   -- Every reading leaves what `putInto` says of the values due: its answer counts them and gives the place after the last one; slot by slot they
-  -- have their kind, the place where the value before ended, and their length, and there the area holds them. All other slots and bytes stay.
+  -- have their kind, the place where the value before ended, their length and where their field begins, and there the area holds them. All other
+  -- slots and bytes stay.
   pub readings :
       (packing layout : Bool) (k : ℕ) (slots area : List ℕ) (mark : ℕ) → Reading l packing layout k slots area mark
-      → read (textOf l layout) (cutRecord l packing k) slots area mark ≡ putInto slots area mark (due l layout k)
+      → read (textOf l layout) (cutRecord l packing k) slots area mark ≡ putInto slots area mark (starts l) (due l layout k)
   -- and each set slot shows its value
   pub shows :
       (packing layout : Bool) (k : ℕ) (slots area : List ℕ) (mark : ℕ) → Reading l packing layout k slots area mark
       → let after = read (textOf l layout) (cutRecord l packing k) slots area mark in
       map (shown (after .area)) (take (length (due l layout k)) (slotsOf (after .slots))) ≡ due l layout k
+  -- In each set slot the position is the end of the fields before its own: the same whichever layout reads which record, wherever that is cut.
+  pub positions :
+      (packing layout : Bool) (k : ℕ) (slots area : List ℕ) (mark : ℕ) → Reading l packing layout k slots area mark
+      → (i : ℕ) → i < length (due l layout k)
+      → slotAt (read (textOf l layout) (cutRecord l packing k) slots area mark .slots) i .position ≡ getD (starts l) i noPosition

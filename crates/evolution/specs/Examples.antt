@@ -79,10 +79,10 @@ times (suc n) xs = xs ++ times n xs
 
 pub holds : Example → Bool
 unfolding packsTo readsTo pack read slotNumbers valueBytes times numbers
-holds (packing layout args bs) = packsTo bs (pack (bytes layout) (slotNumbers 0 args) (valueBytes args) (replicate 16 170))
+holds (packing layout args bs) = packsTo bs (pack (bytes layout) (slotNumbers 0 [] args) (valueBytes args) (replicate 16 170))
 holds (reading bs layout n vs) = readsTo n vs (read (bytes layout) bs (replicate (slotWidth * n) 9) (replicate 64 170) 5)
 holds (packAnswers layout n arg room answer) =
-    let slots = times n (slotNumbers 0 (arg ∷ [])) in
+    let slots = times n (slotNumbers 0 [] (arg ∷ [])) in
     same (numbers (pack layout slots (valueBytes (arg ∷ [])) (replicate room 170) .answer)) answer
 holds (readAnswers layout bs n size mark answer) =
     same (numbers (read layout bs (replicate (slotWidth * n) 9) (replicate size 170) mark .answer)) answer

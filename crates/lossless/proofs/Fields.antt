@@ -230,9 +230,9 @@ passes : (area : List ℕ) (s : Shape) (n : Count) (i : ℕ) (a : Slot) → not 
 unfolding argumentFits
 passes area s n i a set inside kind count digit = rw (set, inside, kind, count, digit)
 
-module _ (area : List ℕ) (start i : ℕ) (n : Count) (plain : T (plainCount n)) (same : (all : ℕ) → amount n all ≡ amount n 0) where
+module _ (area : List ℕ) (start position i : ℕ) (n : Count) (plain : T (plainCount n)) (same : (all : ℕ) → amount n all ≡ amount n 0) where
   abbrev slotFor : Value → Slot
-  slotFor v = record { kind = v .kind; start = start; len = length (v .items) }
+  slotFor v = record { kind = v .kind; start = start; len = length (v .items); position = position }
 
   inside : (v : Value) → start + length (areaBytes v) ≤ length area → insideArea area (slotFor v) ≡ true
   unfolding areaBytes

@@ -12,17 +12,18 @@ use Rattle.layout.specs.Refusals.{ok}
 use Rattle.layout.specs.Layout.{fieldsOf, slotCount}
 use Rattle.layout.proofs.Laws.{AllSound, packed-reads}
 use Rattle.record.specs.Bytes.{storeAt}
-use Rattle.record.specs.Table.{slotsOf, slotWidth, Value, shown, areaBytes, slotNumbers, valueBytes}
+use Rattle.record.specs.Table.{slotsOf, slotWidth, Value, shown, slotNumbers, valueBytes}
 use Rattle.record.specs.Geometry.{sizesFit}
 use Rattle.record.specs.Packing.{accepted, pack, packEffect, packed, filled, argumentsFit}
-use Rattle.record.specs.Reading.{Read, read, readEffect, putInto, valuesFrom}
+use Rattle.record.specs.Reading.{Read, putInto, valuesFrom, positionsFrom}
 use Rattle.record.proofs.Bytes.{All, both}
 use Rattle.record.proofs.Stores.{length-storeAt}
 use Rattle.record.proofs.Tables.{length-slots}
+use Rattle.record.proofs.Readings.{length-slot-numbers}
 use Rattle.runs.proofs.Joined.{joined, packed-joined}
 use Rattle.runs.proofs.Joined.{forward-filled}
 use Rattle.runs.proofs.Shown.{shows-put}
-use Rattle.runs.proofs.Calls.{T→true, packs-by, reads-by}
+use Rattle.runs.proofs.Calls.{T→true, packs-by, read-by}
 use Rattle.lossless.specs.Claim.{Layout, areBytes, Archived, readingOf, packingOf, shownBy, LosesNothing}
 use Rattle.lossless.proofs.Fields.{Byte}
 use Rattle.lossless.proofs.Run.{AllLossless, all-lossless, are-forward, restored, Again, again-from}
@@ -31,11 +32,6 @@ all-bytes : (bs : List ℕ) → T (areBytes bs) → All Byte bs
 unfolding areBytes
 all-bytes [] h = tt
 all-bytes (b ∷ bs) h = let (x, y) = both (ltb b 256) (areBytes bs) h in (ltb→lt b 256 x, all-bytes bs y)
-
-length-numbers : (start : ℕ) (vs : List Value) → length (slotNumbers start vs) ≡ slotWidth * length vs
-unfolding slotNumbers
-length-numbers start [] = refl
-length-numbers start (v ∷ vs) = omega (arith, length-numbers (start + length (areaBytes v)) vs)
 
 module _ (l : Layout) where
   reads-too : (fieldsOf false (l .text) ≡ ok (l .fields)) × AllSound (l .fields)
@@ -51,16 +47,18 @@ module _ (l : Layout) where
     again : Again (r .bytes) 0 (l .fields) values
     again = again-from (r .bytes) (all-bytes (r .bytes) (r .are-bytes)) (l .fields) each 0 (omega (arith, r .is-full))
 
+    abbrev at : List ℕ
+    at = positionsFrom (length (r .bytes)) 0 (l .fields)
+
     -- ---- the reading
 
     after : Read
-    after = putInto (r .slots) (r .area) (r .mark) values
+    after = putInto (r .slots) (r .area) (r .mark) at values
 
     reading : readingOf l r ≡ after
-    unfolding read after
+    unfolding after
     reading =
-        ap (readEffect (r .slots) (r .area) (r .mark))
-        (reads-by (l .text) (r .bytes) (r .slots) (r .area) (r .mark) (l .fields) (reads-too .0) (T→true _ (r .read-sizes)) (omega (arith, r .slot-for-each)) (r .area-room))
+        read-by (l .text) (r .bytes) (r .slots) (r .area) (r .mark) (l .fields) (reads-too .0) (T→true _ (r .read-sizes)) (omega (arith, r .slot-for-each)) (r .area-room)
 
     sets-all : readingOf l r .answer ≡ accepted (slotCount (l .fields)) (r .mark + length (valueBytes values))
     unfolding after putInto
@@ -71,9 +69,9 @@ module _ (l : Layout) where
     size-slots : length (after .slots) ≡ length (r .slots)
     unfolding after putInto
     size-slots =
-        let width : length (slotNumbers (r .mark) values) ≡ slotWidth * length values = length-numbers (r .mark) values in
+        let width : length (slotNumbers (r .mark) at values) ≡ slotWidth * length values = length-slot-numbers (r .mark) at values in
         let left : length (drop (slotWidth * length values) (r .slots)) ≡ _ = length-drop (slotWidth * length values) (r .slots) in
-        length-append (slotNumbers (r .mark) values) (drop (slotWidth * length values) (r .slots))
+        length-append (slotNumbers (r .mark) at values) (drop (slotWidth * length values) (r .slots))
         ∙ omega (arith, again .count, r .slot-for-each, length-slots (r .slots))
 
     size-area : length (after .area) ≡ length (r .area)
@@ -88,7 +86,7 @@ module _ (l : Layout) where
     shows =
         ap (λ (x : Read). map (shown (x .area)) (slotsOf (x .slots))) reading
         ∙ ap (map (shown (after .area))) (sym (take-all (length values) (slotsOf (after .slots)) (omega (arith, count, again .count))))
-        ∙ shows-put (r .slots) (r .area) (r .mark) values (again .proper) (omega (arith, r .area-room))
+        ∙ shows-put (r .slots) (r .area) (r .mark) at values (again .proper) (omega (arith, r .area-room))
 
     -- ---- the packing
 
@@ -100,7 +98,7 @@ module _ (l : Layout) where
         let stands : drop (r .mark) (storeAt (r .area) (r .mark) bs) ≡ bs ++ rest =
         ap (drop (r .mark)) (append-assoc (take (r .mark) (r .area)) bs rest)
         ∙ drop-at (take (r .mark) (r .area)) (bs ++ rest) (r .mark) (length-take-le (r .mark) (r .area) (omega (arith, r .area-room))) in
-        again .fits (storeAt (r .area) (r .mark) bs) rest (drop (slotWidth * length values) (r .slots)) (r .mark) 0 stands (omega (arith, r .area-room, length-storeAt (r .area) (r .mark) bs (r .area-room)))
+        again .fits at (storeAt (r .area) (r .mark) bs) rest (drop (slotWidth * length values) (r .slots)) (r .mark) 0 stands (omega (arith, r .area-room, length-storeAt (r .area) (r .mark) bs (r .area-room)))
 
     same : packed (filled (after .area) (slotsOf (after .slots)) (l .fields)) ≡ r .bytes
     same =
@@ -118,7 +116,7 @@ module _ (l : Layout) where
         ∙ ap (packEffect (r .output))
         (packs-by (l .text) (after .slots) (after .area) (r .output) (l .fields) (l .has-fields) sizes count (served .0) (rw same (r .output-room)) ∙ ap ok same)
 
-  reads : (r : Archived l) → readingOf l r ≡ putInto (r .slots) (r .area) (r .mark) (valuesFrom (r .bytes) 0 (l .fields))
+  reads : (r : Archived l) → readingOf l r ≡ putInto (r .slots) (r .area) (r .mark) (positionsFrom (length (r .bytes)) 0 (l .fields)) (valuesFrom (r .bytes) 0 (l .fields))
   unfolding after
   reads r = reading r
 

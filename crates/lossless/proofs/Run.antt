@@ -4,7 +4,7 @@ use native.Mathlib.Omega.{arith}
 use mathlib.Core.Path.{_≡_, refl, sym, ap, ap₂, _∙_}
 use mathlib.Core.Bool.{Bool, _&&_}
 use mathlib.Core.List.{List, [], _∷_, _++_, append-assoc}
-use lib.ListN.{length, drop, length-append, drop-of-length-le, take-append-drop}
+use lib.ListN.{length, getD, drop, length-append, drop-of-length-le, take-append-drop}
 use lib.Seq.{drop-at, drop-drop}
 use lib.Dec.{T}
 use borrow.Author.Tests.{le-leb}
@@ -19,7 +19,7 @@ use Rattle.layout.specs.Layout.{slotCount}
 use Rattle.layout.specs.Words.{FitCode}
 use Rattle.layout.proofs.Laws.{AllSound}
 use Rattle.record.specs.Bytes.{part, join}
-use Rattle.record.specs.Table.{slotsOf, Value, shown, areaBytes, slotNumbers, valueBytes}
+use Rattle.record.specs.Table.{slotsOf, noPosition, Value, shown, areaBytes, slotNumbers, valueBytes}
 use Rattle.record.specs.Geometry.{amount, bytesFor, itemsIn}
 use Rattle.record.specs.Packing.{filled, argumentsFit}
 use Rattle.record.specs.Reading.{loaded, valuesFrom}
@@ -86,8 +86,8 @@ pub record Again (bs : List ℕ) (at : ℕ) (fs : List Field) (vs : List Value) 
   pub restores : restored fs vs ≡ drop at bs
   -- slots that show the values one after the other from `start` on serve the fields, and the values are the arguments
   pub fits :
-      (area rest more : List ℕ) (start i : ℕ) → drop start area ≡ valueBytes vs ++ rest → start + length (valueBytes vs) ≤ length area
-      → (argumentsFit area i (slotsOf (slotNumbers start vs ++ more)) fs ≡ ok tt) × (joined (filled area (slotsOf (slotNumbers start vs ++ more)) fs) ≡ restored fs vs)
+      (at area rest more : List ℕ) (start i : ℕ) → drop start area ≡ valueBytes vs ++ rest → start + length (valueBytes vs) ≤ length area
+      → (argumentsFit area i (slotsOf (slotNumbers start at vs ++ more)) fs ≡ ok tt) × (joined (filled area (slotsOf (slotNumbers start at vs ++ more)) fs) ≡ restored fs vs)
 
 module _ (bs : List ℕ) (are-bytes : All Byte bs) where
   module _ (fs : List Field) (at : ℕ) (s : Shape) (u : Bool) (n : Count) (h : Lossless (Data s) n) where
@@ -118,20 +118,20 @@ module _ (bs : List ℕ) (are-bytes : All Byte bs) where
           (ap₂ (λ (x y : List ℕ). x ++ y) (again s u (amount n 0) (part bs at need) (h .0) (h .1) long own-bytes) (ih .restores ∙ sym (drop-drop need at bs))
           ∙ take-append-drop need (drop at bs))
 
-      fits-more : (area rest more : List ℕ) (start i : ℕ) → drop start area ≡ valueBytes (value ∷ vs) ++ rest → start + length (valueBytes (value ∷ vs)) ≤ length area
-          → (argumentsFit area i (slotsOf (slotNumbers start (value ∷ vs) ++ more)) (made (Data s) u n ∷ fs) ≡ ok tt)
-          × (joined (filled area (slotsOf (slotNumbers start (value ∷ vs) ++ more)) (made (Data s) u n ∷ fs)) ≡ restored (made (Data s) u n ∷ fs) (value ∷ vs))
+      fits-more : (places area rest more : List ℕ) (start i : ℕ) → drop start area ≡ valueBytes (value ∷ vs) ++ rest → start + length (valueBytes (value ∷ vs)) ≤ length area
+          → (argumentsFit area i (slotsOf (slotNumbers start places (value ∷ vs) ++ more)) (made (Data s) u n ∷ fs) ≡ ok tt)
+          × (joined (filled area (slotsOf (slotNumbers start places (value ∷ vs) ++ more)) (made (Data s) u n ∷ fs)) ≡ restored (made (Data s) u n ∷ fs) (value ∷ vs))
       unfolding argumentsFit filled slotsOf slotNumbers valueBytes join joined restored
-      fits-more area rest more start i e room =
+      fits-more places area rest more start i e room =
           let tail : List ℕ = valueBytes vs ++ rest in
           let size : length (areaBytes value ++ valueBytes vs) ≡ length (areaBytes value) + length (valueBytes vs) = length-append (areaBytes value) (valueBytes vs) in
           let here : drop start area ≡ areaBytes value ++ tail = e ∙ append-assoc (areaBytes value) (valueBytes vs) rest in
           let next : ℕ = start + length (areaBytes value) in
           let later : drop next area ≡ tail =
           sym (drop-drop (length (areaBytes value)) start area) ∙ ap (drop (length (areaBytes value))) here ∙ drop-at (areaBytes value) tail (length (areaBytes value)) refl in
-          let shows : shown area (record { kind = value .kind; start = start; len = length (value .items) }) ≡ value = shows-one area tail start value is-proper here in
-          let served = serves area start i n (h .2) (h .3) s u (part bs at need) (h .0) long (omega arith) shows in
-          let (fit, same) = ih .fits area rest more next (suc i) later (omega arith) in
+          let shows : shown area (record { kind = value .kind; start = start; len = length (value .items); position = getD places 0 noPosition }) ≡ value = shows-one area tail start (getD places 0 noPosition) value is-proper here in
+          let served = serves area start (getD places 0 noPosition) i n (h .2) (h .3) s u (part bs at need) (h .0) long (omega arith) shows in
+          let (fit, same) = ih .fits (drop 1 places) area rest more next (suc i) later (omega arith) in
           (rw served fit, ap₂ (λ (v : Value) (r : List ℕ). bytesOf (Data s) n (v .items) ++ r) shows same)
 
       more-again : Again bs at (made (Data s) u n ∷ fs) (value ∷ vs)
@@ -148,5 +148,5 @@ module _ (bs : List ℕ) (are-bytes : All Byte bs) where
 
   pub again-from : (fs : List Field) → AllLossless fs → (at : ℕ) → at + endOf fs ≡ length bs → Again bs at fs (valuesFrom bs at fs)
   unfolding valuesFrom endOf slotCount restored argumentsFit filled joined
-  again-from [] h at e = record { proper = tt; count = refl; restores = sym (drop-of-length-le bs {i = at} (omega arith)); fits = λ area rest more start i d r. (refl, refl) }
+  again-from [] h at e = record { proper = tt; count = refl; restores = sym (drop-of-length-le bs {i = at} (omega arith)); fits = λ at area rest more start i d r. (refl, refl) }
   again-from (f ∷ fs) h at e = again-step fs (λ at e. again-from fs (h .1) at e) at (f .code) (f .unsigned) (f .count) (h .0) e

@@ -17,7 +17,7 @@ use Rattle.layout.specs.Layout.{fieldsOf, slotCount}
 use Rattle.record.specs.Table.{slotsOf, Value, shown, valueBytes}
 use Rattle.record.specs.Geometry.{amount, sizesFit}
 use Rattle.record.specs.Packing.{accepted, Packed, pack}
-use Rattle.record.specs.Reading.{valuesFrom, Read, putInto, read}
+use Rattle.record.specs.Reading.{valuesFrom, positionsFrom, Read, putInto, read}
 use Rattle.runs.specs.Ends.{plainCount, endOf}
 
 -- ---- which layouts (02, M-107, the fields that it lists)
@@ -92,7 +92,7 @@ shownBy l r = map (shown (readingOf l r .area)) (slotsOf (readingOf l r .slots))
 
 pub record LosesNothing (l : Layout) : Type 0 where
   -- the reading puts the values of all fields into the table and the area ..
-  pub reads : (r : Archived l) → readingOf l r ≡ putInto (r .slots) (r .area) (r .mark) (valuesFrom (r .bytes) 0 (l .fields))
+  pub reads : (r : Archived l) → readingOf l r ≡ putInto (r .slots) (r .area) (r .mark) (positionsFrom (length (r .bytes)) 0 (l .fields)) (valuesFrom (r .bytes) 0 (l .fields))
   -- .. and sets every slot
   pub sets-all :
       (r : Archived l) → readingOf l r .answer ≡ accepted (slotCount (l .fields)) (r .mark + length (valueBytes (valuesFrom (r .bytes) 0 (l .fields))))

@@ -19,7 +19,7 @@ use Rattle.record.proofs.Bytes.{and-true}
 use Rattle.record.proofs.Fields.{split}
 use Rattle.record.specs.Table.{slotWidth, maxSlots, maxRecord, maxArea, slotsOf, Value, valueBytes}
 use Rattle.record.specs.Packing.{accepted, refusal}
-use Rattle.record.specs.Reading.{valuesFrom, reads, Read, putInto, read}
+use Rattle.record.specs.Reading.{valuesFrom, positionsFrom, reads, Read, putInto, read}
 use Rattle.reader.specs.Sizes.{lentFits}
 use Rattle.reader.specs.Tables.{TableRoom}
 use Rattle.record.specs.Geometry.{lengthsFit}
@@ -75,9 +75,10 @@ module _ (layout bs slots area : List ℕ) (mark : ℕ) where
   unfolding read
   read-refused e q = rw (e, q)
 
-  pub read-put : {e : Read} {vs : List Value} → reads layout bs slots area mark ≡ ok vs → e ≡ putInto slots area mark vs → e ≡ read layout bs slots area mark
+  pub read-put : {e : Read} {vs : List Value} {n taken : ℕ} {ws : List ℕ} → Learnt (fieldsOf false layout) n taken ws → reads layout bs slots area mark ≡ ok vs
+      → e ≡ putInto slots area mark (positionsFrom (length bs) 0 (decoded n ws)) vs → e ≡ read layout bs slots area mark
   unfolding read
-  read-put h q = q ∙ rw h
+  read-put l h q = q ∙ rw (h, l .fields)
 
   pub check-refused : {r : Answer} {why : Refusal} {p : ℕ} → reads layout bs slots area mark ≡ refused why p → r ≡ refusal why p → r ≡ checked layout bs slots area mark
   unfolding checked

@@ -21,7 +21,7 @@ use Rattle.record.specs.declared.Answer.{Answer}
 use Rattle.record.specs.Bytes.{part, storeAt}
 use Rattle.record.specs.Table.{maxSlots, slotWidth, slotsOf, Value, areaBytes, slotNumbers, valueBytes}
 use Rattle.record.specs.Geometry.{amount, bytesFor, itemsIn, movedIn, sizesFit}
-use Rattle.record.specs.Reading.{Read, loaded, valuesFrom, reads, putInto, readEffect, read}
+use Rattle.record.specs.Reading.{Read, loaded, valuesFrom, reads, putInto, readEffect, positionsOf, read}
 use Rattle.record.proofs.Bytes.{and-true}
 use Rattle.record.proofs.Tables.{length-slots}
 use Rattle.record.proofs.Sizes.{Sized, sized}
@@ -69,10 +69,10 @@ reads-few layout bs slots area mark vs e =
 
 -- ---- what stood in the slots does not count
 
-pub length-slot-numbers : (start : ℕ) (vs : List Value) → length (slotNumbers start vs) ≡ slotWidth * length vs
+pub length-slot-numbers : (start : ℕ) (at : List ℕ) (vs : List Value) → length (slotNumbers start at vs) ≡ slotWidth * length vs
 unfolding slotNumbers
-length-slot-numbers start [] = refl
-length-slot-numbers start (v ∷ vs) = omega (arith, length-slot-numbers (start + length (areaBytes v)) vs)
+length-slot-numbers start at [] = refl
+length-slot-numbers start at (v ∷ vs) = omega (arith, length-slot-numbers (start + length (areaBytes v)) (drop 1 at) vs)
 
 -- what a reading leaves, over the slots ys: those that it set, and the others of ys
 abbrev pub over : List ℕ → Read → Read
@@ -83,29 +83,29 @@ over ys r =
       area = r .area;
     }
 
-module _ (xs area : List ℕ) (mark : ℕ) where
+module _ (xs area : List ℕ) (mark : ℕ) (at : List ℕ) where
   module _ (vs : List Value) where
-    long : length (slotNumbers mark vs) ≡ length vs * slotWidth
-    long = length-slot-numbers mark vs ∙ mul-comm slotWidth (length vs)
+    long : length (slotNumbers mark at vs) ≡ length vs * slotWidth
+    long = length-slot-numbers mark at vs ∙ mul-comm slotWidth (length vs)
 
-    set-over : (ys : List ℕ) → slotNumbers mark vs ++ drop (slotWidth * length vs) ys ≡ storeAt ys 0 (take (length vs * slotWidth) (slotNumbers mark vs ++ drop (slotWidth * length vs) xs))
-    set-over ys = rw (take-at (slotNumbers mark vs) (drop (slotWidth * length vs) xs) (length vs * slotWidth) long, zero-add, length-slot-numbers mark vs)
+    set-over : (ys : List ℕ) → slotNumbers mark at vs ++ drop (slotWidth * length vs) ys ≡ storeAt ys 0 (take (length vs * slotWidth) (slotNumbers mark at vs ++ drop (slotWidth * length vs) xs))
+    set-over ys = rw (take-at (slotNumbers mark at vs) (drop (slotWidth * length vs) xs) (length vs * slotWidth) long, zero-add, length-slot-numbers mark at vs)
 
-    unset-same : drop (length vs * slotWidth) (slotNumbers mark vs ++ drop (slotWidth * length vs) xs) ≡ drop (length vs * slotWidth) xs
-    unset-same = drop-at (slotNumbers mark vs) (drop (slotWidth * length vs) xs) (length vs * slotWidth) long ∙ ap (λ (n : ℕ). drop n xs) (mul-comm slotWidth (length vs))
+    unset-same : drop (length vs * slotWidth) (slotNumbers mark at vs ++ drop (slotWidth * length vs) xs) ≡ drop (length vs * slotWidth) xs
+    unset-same = drop-at (slotNumbers mark at vs) (drop (slotWidth * length vs) xs) (length vs * slotWidth) long ∙ ap (λ (n : ℕ). drop n xs) (mul-comm slotWidth (length vs))
 
-  effect-over : (ys : List ℕ) (r : Result (List Value)) → readEffect ys area mark r ≡ over ys (readEffect xs area mark r)
+  effect-over : (ys : List ℕ) (r : Result (List Value)) → readEffect ys area mark at r ≡ over ys (readEffect xs area mark at r)
   unfolding putInto
-  effect-over ys (ok vs) = ap (λ (s : List ℕ). record { answer = putInto ys area mark vs .answer; slots = s; area = putInto ys area mark vs .area }) (set-over vs ys)
+  effect-over ys (ok vs) = ap (λ (s : List ℕ). record { answer = putInto ys area mark at vs .answer; slots = s; area = putInto ys area mark at vs .area }) (set-over vs ys)
   effect-over ys (refused why place) = rw (ne-eqb (numberOf why) 0 (λ z. no-number-zero why z))
 
-  effect-unset : (r : Result (List Value)) → readEffect xs area mark r .answer .number ≡ 0
-      → drop (readEffect xs area mark r .answer .first * slotWidth) (readEffect xs area mark r .slots) ≡ drop (readEffect xs area mark r .answer .first * slotWidth) xs
+  effect-unset : (r : Result (List Value)) → readEffect xs area mark at r .answer .number ≡ 0
+      → drop (readEffect xs area mark at r .answer .first * slotWidth) (readEffect xs area mark at r .slots) ≡ drop (readEffect xs area mark at r .answer .first * slotWidth) xs
   unfolding putInto
   effect-unset (ok vs) z = unset-same vs
   effect-unset (refused why place) z = no-number-zero why z
 
-  effect-few : (r : Result (List Value)) → ((vs : List Value) → r ≡ ok vs → Few xs (length vs)) → readEffect xs area mark r .answer .number ≡ 0 → Few xs (readEffect xs area mark r .answer .first)
+  effect-few : (r : Result (List Value)) → ((vs : List Value) → r ≡ ok vs → Few xs (length vs)) → readEffect xs area mark at r .answer .number ≡ 0 → Few xs (readEffect xs area mark at r .answer .first)
   unfolding putInto
   effect-few (ok vs) h z = h vs refl
   effect-few (refused why place) h z = no-number-zero why z
@@ -119,17 +119,17 @@ module _ (layout bs area : List ℕ) (mark : ℕ) (xs : List ℕ) where
 
     pub read-over : read layout bs ys area mark ≡ over ys (read layout bs xs area mark)
     unfolding read
-    read-over = rw reads-same (effect-over xs area mark ys (reads layout bs xs area mark))
+    read-over = rw reads-same (effect-over xs area mark (positionsOf (length bs) (fieldsOf false layout)) ys (reads layout bs xs area mark))
 
   module _ (z : read layout bs xs area mark .answer .number ≡ 0) where
     -- the slots after those that are set stay as lent
     pub read-unset : drop (read layout bs xs area mark .answer .first * slotWidth) (read layout bs xs area mark .slots) ≡ drop (read layout bs xs area mark .answer .first * slotWidth) xs
     unfolding read
-    read-unset = effect-unset xs area mark (reads layout bs xs area mark) z
+    read-unset = effect-unset xs area mark (positionsOf (length bs) (fieldsOf false layout)) (reads layout bs xs area mark) z
 
     pub read-few : Few xs (read layout bs xs area mark .answer .first)
     unfolding read
-    read-few = effect-few xs area mark (reads layout bs xs area mark) (reads-few layout bs xs area mark) z
+    read-few = effect-few xs area mark (positionsOf (length bs) (fieldsOf false layout)) (reads layout bs xs area mark) (reads-few layout bs xs area mark) z
 
   -- what a call left has room for the slots that it set
   pub set-few : {a : Answer} {xs′ area′ : List ℕ} → record { answer = a; slots = xs′; area = area′ } ≡ read layout bs xs area mark → a .number ≡ 0 → length xs′ ≡ length xs → a .first * slotWidth ≤ length xs′

@@ -18,31 +18,36 @@ unfolding slotsOf
 length-slots [] = refl
 length-slots (a ∷ []) = refl
 length-slots (a ∷ b ∷ []) = refl
-length-slots (a ∷ b ∷ d ∷ ns) = let e : length (slotsOf ns) ≡ length ns / slotWidth = length-slots ns in omega arith
+length-slots (a ∷ b ∷ d ∷ []) = refl
+length-slots (a ∷ b ∷ d ∷ e ∷ ns) = let h : length (slotsOf ns) ≡ length ns / slotWidth = length-slots ns in omega arith
+
+-- one slot more, number by number
+four : (n : ℕ) → slotWidth * suc n ≡ suc (suc (suc (suc (slotWidth * n))))
+four n = omega arith
 
 pub drop-slots : (k : ℕ) (ns : List ℕ) → drop k (slotsOf ns) ≡ slotsOf (drop (slotWidth * k) ns)
 unfolding slotsOf
 drop-slots zero ns = refl
-drop-slots (suc k) [] = simp drop-nil
-drop-slots (suc k) (a ∷ []) = let e : slotWidth * suc k ≡ suc (slotWidth * k + 2) = omega arith in let z : drop (slotWidth * suc k) (a ∷ []) ≡ [] = rw e (drop-nil (slotWidth * k + 2)) in sym (ap slotsOf z)
-drop-slots (suc k) (a ∷ b ∷ []) = let e : slotWidth * suc k ≡ suc (suc (slotWidth * k + 1)) = omega arith in let z : drop (slotWidth * suc k) (a ∷ b ∷ []) ≡ [] = rw e (drop-nil (slotWidth * k + 1)) in sym (ap slotsOf z)
-drop-slots (suc k) (a ∷ b ∷ d ∷ ns) =
-    let e : slotWidth * suc k ≡ suc (suc (suc (slotWidth * k))) = omega arith in
-    drop-slots k ns ∙ ap (λ (m : ℕ). slotsOf (drop m (a ∷ b ∷ d ∷ ns))) (sym e)
+drop-slots (suc k) ns = rw (four k) (go ns (drop-slots k))
+  where
+    go : (ns : List ℕ) → ((ms : List ℕ) → drop k (slotsOf ms) ≡ slotsOf (drop (slotWidth * k) ms)) → drop (suc k) (slotsOf ns) ≡ slotsOf (drop (suc (suc (suc (suc (slotWidth * k))))) ns)
+    go [] ih = simp drop-nil
+    go (a ∷ []) ih = simp drop-nil
+    go (a ∷ b ∷ []) ih = simp drop-nil
+    go (a ∷ b ∷ d ∷ []) ih = simp drop-nil
+    go (a ∷ b ∷ d ∷ e ∷ rest) ih = ih rest
 
 pub slots-take : (n : ℕ) (ns : List ℕ) → slotsOf (take (slotWidth * n) ns) ≡ take n (slotsOf ns)
 unfolding slotsOf
 slots-take zero ns = refl
-slots-take (suc n) ns = rw (three n) (go ns (slots-take n))
+slots-take (suc n) ns = rw (four n) (go ns (slots-take n))
   where
-    three : (n : ℕ) → slotWidth * suc n ≡ suc (suc (suc (slotWidth * n)))
-    three n = omega arith
-
-    go : (ns : List ℕ) → ((ms : List ℕ) → slotsOf (take (slotWidth * n) ms) ≡ take n (slotsOf ms)) → slotsOf (take (suc (suc (suc (slotWidth * n)))) ns) ≡ take (suc n) (slotsOf ns)
+    go : (ns : List ℕ) → ((ms : List ℕ) → slotsOf (take (slotWidth * n) ms) ≡ take n (slotsOf ms)) → slotsOf (take (suc (suc (suc (suc (slotWidth * n))))) ns) ≡ take (suc n) (slotsOf ns)
     go [] ih = refl
     go (k ∷ []) ih = refl
     go (k ∷ s ∷ []) ih = refl
-    go (k ∷ s ∷ c ∷ rest) ih = ap (λ (r : List Slot). record { kind = k; start = s; len = c } ∷ r) (ih rest)
+    go (k ∷ s ∷ c ∷ []) ih = refl
+    go (k ∷ s ∷ c ∷ p ∷ rest) ih = ap (λ (r : List Slot). record { kind = k; start = s; len = c; position = p } ∷ r) (ih rest)
 
 -- ---- kinds
 

@@ -147,7 +147,7 @@ argumentFits area s n i a = do
 
 -- the next slot; there is one, unless the call was refused with 5
 abbrev pub nextSlot : List Slot → Slot
-nextSlot [] = record { kind = 0; start = 0; len = 0 }
+nextSlot [] = record { kind = 0; start = 0; len = 0; position = 0 }
 nextSlot (t ∷ ts) = t
 
 -- slot by slot from number i on, each against its field

@@ -70,6 +70,15 @@ valuesFrom bs at (f ∷ fs) = elim (f .code) [
   | Move m ↦ valuesFrom bs (movedIn (length bs) m (f .count) at) fs
 ]
 
+-- The positions at which the fields that take a slot begin, from the place `at` on, in a record of `size` bytes: the cursor before each (02, M-110).
+-- (A field that comes up short ends the run: there is no slot for its position, nor for those behind it.)
+unfoldable pub positionsFrom : ℕ → ℕ → List Field → List ℕ
+positionsFrom size at [] = []
+positionsFrom size at (f ∷ fs) = elim (f .code) [
+  | Data s ↦ at ∷ positionsFrom size (at + bytesFor s (itemsOf s (f .count) (size - at))) fs
+  | Move m ↦ positionsFrom size (movedIn size m (f .count) at) fs
+]
+
 -- ---- the call
 
 -- the values that a layout shows of a record, or the first refusal in 01's order
@@ -89,21 +98,26 @@ pub record Read : Type 0 where
   pub slots : List ℕ
   pub area : List ℕ
 
--- values put into a table and an area, from the start mark on; what they do not cover stays as lent
-unfoldable pub putInto : List ℕ → List ℕ → ℕ → List Value → Read
+-- values, with the positions of their fields, put into a table and an area, from the start mark on; what they do not cover stays as lent
+unfoldable pub putInto : List ℕ → List ℕ → ℕ → List ℕ → List Value → Read
 unfolding slotNumbers valueBytes
-putInto slots area mark vs =
+putInto slots area mark at vs =
     record {
       answer = accepted (length vs) (mark + length (valueBytes vs));
-      slots = slotNumbers mark vs ++ drop (slotWidth * length vs) slots;
+      slots = slotNumbers mark at vs ++ drop (slotWidth * length vs) slots;
       area = storeAt area mark (valueBytes vs);
     }
 
 -- a refusal changes nothing
-abbrev pub readEffect : List ℕ → List ℕ → ℕ → Result (List Value) → Read
-readEffect slots area mark (ok vs) = putInto slots area mark vs
-readEffect slots area mark (refused why place) = record { answer = refusal why place; slots = slots; area = area }
+abbrev pub readEffect : List ℕ → List ℕ → ℕ → List ℕ → Result (List Value) → Read
+readEffect slots area mark at (ok vs) = putInto slots area mark at vs
+readEffect slots area mark at (refused why place) = record { answer = refusal why place; slots = slots; area = area }
+
+-- the positions of the fields of a layout
+abbrev pub positionsOf : ℕ → Result (List Field) → List ℕ
+positionsOf size (ok fs) = positionsFrom size 0 fs
+positionsOf size (refused why place) = []
 
 unfoldable pub read : List ℕ → List ℕ → List ℕ → List ℕ → ℕ → Read
-unfolding reads putInto
-read layout bs slots area mark = readEffect slots area mark (reads layout bs slots area mark)
+unfolding reads positionsFrom putInto
+read layout bs slots area mark = readEffect slots area mark (positionsOf (length bs) (fieldsOf false layout)) (reads layout bs slots area mark)

@@ -11,7 +11,13 @@ use Rattle.record.specs.Table.{slotWidth, numberLimit, maxKind, itemSize
 
 -- slot number k, as the numbers have it, and as code reads it: numbers of 32 bits; and the numbers with slot number k set
 unfoldable pub slotAt : List ℕ → ℕ → Slot
-slotAt ns k = record { kind = getD ns (slotWidth * k) 0; start = getD ns (slotWidth * k + 1) 0; len = getD ns (slotWidth * k + 2) 0 }
+slotAt ns k =
+    record {
+      kind = getD ns (slotWidth * k) 0;
+      start = getD ns (slotWidth * k + 1) 0;
+      len = getD ns (slotWidth * k + 2) 0;
+      position = getD ns (slotWidth * k + 3) 0;
+    }
 
 pub record SlotAt (ns : List ℕ) (k : ℕ) (s : Slot) : Type 0 where
   pub same : s ≡ slotAt ns k
@@ -19,7 +25,7 @@ pub record SlotAt (ns : List ℕ) (k : ℕ) (s : Slot) : Type 0 where
   pub len : s .len < numberLimit
 
 abbrev pub slotSet : List ℕ → ℕ → Slot → List ℕ
-slotSet ns k s = storeAt ns (slotWidth * k) (s .kind ∷ s .start ∷ s .len ∷ [])
+slotSet ns k s = storeAt ns (slotWidth * k) (s .kind ∷ s .start ∷ s .len ∷ s .position ∷ [])
 
 -- the place after a slot's value
 abbrev pub valueEnd : Slot → ℕ

@@ -2,7 +2,7 @@
 use Prim.Native.Nat.{ℕ, _+_}
 use mathlib.Core.Bool.{Bool, _||_}
 use mathlib.Core.List.{List, [], _∷_, map}
-use lib.ListN.{length, take, drop}
+use lib.ListN.{length, getD, take, drop}
 use lib.Dec.{eqb}
 use Rattle.layout.specs.Refusals.{if_then_else_}
 use Rattle.record.specs.declared.slots.Slot.{Slot}
@@ -20,12 +20,16 @@ maxRecord = 4096
 abbrev pub maxArea : ℕ
 maxArea = 65536
 
--- the numbers of a slot: kind, start, length; each has 32 bits
+-- the numbers of a slot: kind, start, length, position; each has 32 bits
 abbrev pub slotWidth : ℕ
-slotWidth = 3
+slotWidth = 4
 
 abbrev pub numberLimit : ℕ
 numberLimit = 4294967296
+
+-- the position in a slot that no record was read into (02, M-110)
+abbrev pub noPosition : ℕ
+noPosition = 4294967295
 
 -- ---- slots
 
@@ -57,7 +61,8 @@ unfoldable pub slotsOf : List ℕ → List Slot
 slotsOf [] = []
 slotsOf (k ∷ []) = []
 slotsOf (k ∷ s ∷ []) = []
-slotsOf (k ∷ s ∷ n ∷ rest) = record { kind = k; start = s; len = n } ∷ slotsOf rest
+slotsOf (k ∷ s ∷ n ∷ []) = []
+slotsOf (k ∷ s ∷ n ∷ p ∷ rest) = record { kind = k; start = s; len = n; position = p } ∷ slotsOf rest
 
 -- ---- values
 
@@ -95,10 +100,11 @@ shown area s =
 
 -- ---- values put into a table: one after the other in the area, from the place `start` on, without gaps
 
-unfoldable pub slotNumbers : ℕ → List Value → List ℕ
+-- each with the position at which its field began, the next of `at` (02, M-110)
+unfoldable pub slotNumbers : ℕ → List ℕ → List Value → List ℕ
 unfolding areaBytes
-slotNumbers start [] = []
-slotNumbers start (v ∷ vs) = v .kind ∷ start ∷ length (v .items) ∷ slotNumbers (start + length (areaBytes v)) vs
+slotNumbers start at [] = []
+slotNumbers start at (v ∷ vs) = v .kind ∷ start ∷ length (v .items) ∷ getD at 0 noPosition ∷ slotNumbers (start + length (areaBytes v)) (drop 1 at) vs
 
 unfoldable pub valueBytes : List Value → List ℕ
 unfolding areaBytes join

@@ -23,7 +23,7 @@ pub const MAX_RECORD: usize = 4096;
 
 pub const MAX_AREA: usize = 65536;
 
-pub const SLOT_WIDTH: usize = 3;
+pub const SLOT_WIDTH: usize = 4;
 
 // The numbers of the slots that a call may be lent.
 pub const MAX_NUMBERS: usize = SLOT_WIDTH * MAX_SLOTS;

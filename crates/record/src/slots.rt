@@ -7,12 +7,16 @@ ghost use Rattle.record.specs.Slots.{SlotAt, slotSet, isInside};
 use super::SLOT_WIDTH;
 use super::numbers::INTEGER_SIZE;
 
-// What a slot says of its value.
+// What a slot says of its value, and the position in the record at which its field began.
 pub struct Slot {
     pub kind: usize,
     pub start: usize,
     pub len: usize,
+    pub position: usize,
 }
+
+// The position in a slot that no record was read into.
+pub const NO_POSITION: usize = 4294967295;
 
 // The kinds, and the highest. (Kind 0: nothing is set.)
 pub const STRING: usize = 1;
@@ -33,18 +37,20 @@ pub fn slot_at(slots: &[u32], k: usize) -> Slot
         kind: slots[at] as usize,
         start: slots[at + 1] as usize,
         len: slots[at + 2] as usize,
+        position: slots[at + 3] as usize,
     }
 }
 
 // Sets slot number k.
-pub fn set_slot(slots: &mut [u32], k: usize, kind: u32, start: usize, len: usize)
-    requires { ⌜ (slotWidth * k + slotWidth ≤ length (now slots)) × (start < numberLimit) × (len < numberLimit) ⌝ }
-    ensures { λ _. ⌜ now (slots .exit) ≡ slotSet (now (slots .entry)) k (record { kind = kind; start = start; len = len }) ⌝ }
+pub fn set_slot(slots: &mut [u32], k: usize, kind: u32, start: usize, len: usize, position: usize)
+    requires { ⌜ (slotWidth * k + slotWidth ≤ length (now slots)) × (start < numberLimit) × (len < numberLimit) × (position < numberLimit) ⌝ }
+    ensures { λ _. ⌜ now (slots .exit) ≡ slotSet (now (slots .entry)) k (record { kind = kind; start = start; len = len; position = position }) ⌝ }
 {
     let at = SLOT_WIDTH * k;
     slots[at] = kind;
     slots[at + 1] = start as u32;
     slots[at + 2] = len as u32;
+    slots[at + 3] = position as u32;
 }
 
 // The bytes that an item of a kind takes in the area.

@@ -11,15 +11,15 @@ use Rattle.sheet.specs.Claims.{Stored}
 use Rattle.rescue.specs.Rescue.{rescue}
 use Rattle.rescue.specs.Claims.{Again}
 
-reading : read okSheet (replicate 12 9) (replicate 20 170) 5 .answer .number ≡ 0
+reading : read okSheet (replicate 16 9) (replicate 20 170) 5 .answer .number ≡ 0
 unfolding okSheet read
 reading = refl
 
-stored : Stored okTable okArea (replicate 30 170) (replicate 12 9) (replicate 20 170) 5
+stored : Stored okTable okArea (replicate 30 170) (replicate 16 9) (replicate 20 170) 5
 unfolding okTable okArea write slotsOf entriesOf valueBytes
 stored = record { writing = refl; sizes = tt; enough-slots = omega arith; room = omega arith }
 
-again : Again (take 21 okSheet) 3 (replicate 12 9) (replicate 20 170) 5 (replicate 30 170) (replicate 9 9) (replicate 2 170) 0
+again : Again (take 21 okSheet) 3 (replicate 16 9) (replicate 20 170) 5 (replicate 30 170) (replicate 12 9) (replicate 2 170) 0
 unfolding okSheet rescue write slotsOf entriesOf valueBytes
 again = record {
   rescuing = refl;

@@ -12,7 +12,7 @@ use Rattle.layout.specs.Refusals.{ok}
 use Rattle.record.specs.Table.{slotsOf, valueBytes}
 use Rattle.record.specs.Packing.{filled, argumentsFit, packed, finished, packs}
 use Rattle.record.specs.Geometry.{sizesFit}
-use Rattle.record.specs.Reading.{valuesFrom, reads}
+use Rattle.record.specs.Reading.{valuesFrom, positionsFrom, reads, putInto, read}
 
 pub T→true : (t : Bool) → T t → t ≡ true
 T→true true h = refl
@@ -24,8 +24,8 @@ pub packs-by : (text slots area output : List ℕ) (fs : List Field) → fieldsO
 unfolding packs finished
 packs-by text slots area output fs f s c a r = rw (s, f, eq-eqb _ _ c, a, le-leb _ _ r)
 
-pub reads-by : (text bs slots area : List ℕ) (mark : ℕ) (fs : List Field) → fieldsOf false text ≡ ok fs → (sizesFit text slots bs area && leb mark (length area)) ≡ true
+pub read-by : (text bs slots area : List ℕ) (mark : ℕ) (fs : List Field) → fieldsOf false text ≡ ok fs → (sizesFit text slots bs area && leb mark (length area)) ≡ true
     → slotCount fs ≤ length (slotsOf slots) → mark + length (valueBytes (valuesFrom bs 0 fs)) ≤ length area
-    → reads text bs slots area mark ≡ ok (valuesFrom bs 0 fs)
-unfolding reads
-reads-by text bs slots area mark fs f s c r = rw (s, f, le-leb _ _ c, le-leb _ _ r)
+    → read text bs slots area mark ≡ putInto slots area mark (positionsFrom (length bs) 0 fs) (valuesFrom bs 0 fs)
+unfolding read reads
+read-by text bs slots area mark fs f s c r = rw (s, f, le-leb _ _ c, le-leb _ _ r)

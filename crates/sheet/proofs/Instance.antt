@@ -9,10 +9,10 @@ use Rattle.sheet.specs.Examples.{okTable, okArea, okSheet}
 use Rattle.sheet.specs.Claims.{Stored, Loaded}
 use Rattle.sheet.proofs.Bounds.{all-bytes}
 
-stored : Stored okTable okArea (replicate 30 170) (replicate 12 9) (replicate 20 170) 5
+stored : Stored okTable okArea (replicate 30 170) (replicate 16 9) (replicate 20 170) 5
 unfolding okTable okArea write slotsOf entriesOf valueBytes
 stored = record { writing = refl; sizes = tt; enough-slots = omega arith; room = omega arith }
 
-loaded : Loaded okSheet (replicate 12 9) (replicate 20 170) 5 (replicate 22 170)
+loaded : Loaded okSheet (replicate 16 9) (replicate 20 170) 5 (replicate 22 170)
 unfolding okSheet read
 loaded = record { bytes = all-bytes okSheet tt; reading = refl; size = omega arith; room = omega arith }

@@ -12,7 +12,7 @@ use lib.Seq.{take-nil, take-append-add, drop-drop, getD-drop}
 use Rattle.layout.specs.Refusals.{if_then_else_}
 use Rattle.record.specs.declared.Answer.{Answer}
 use Rattle.record.specs.Bytes.{part, storeAt, join, numberAt}
-use Rattle.record.specs.Table.{slotWidth, maxSlots, maxArea, itemSize}
+use Rattle.record.specs.Table.{slotWidth, noPosition, maxSlots, maxArea, itemSize}
 use Rattle.record.specs.Packing.{accepted}
 use Rattle.record.proofs.Bytes.{and-true}
 use Rattle.record.proofs.Stores.{length-storeAt, store-none}
@@ -83,12 +83,12 @@ items-small kind size = div-le-self size (itemSize kind)
 -- slot and area after one entry
 pub put-as : {w : ℕ} {sheet slots slots′ area area′ : List ℕ} {at k to size kind start items : ℕ} {e : Entry} → There w sheet at e
     → kind ≡ getD sheet (at + w) 0 → size ≡ numberAt w (drop at sheet) 0 - 1 → start ≡ (if eqb kind 0 then 0 else to) → items ≡ size / itemSize kind
-    → slots′ ≡ storeAt slots (slotWidth * k) (kind ∷ start ∷ items ∷ []) → area′ ≡ storeAt area to (part sheet (at + suc w) size)
+    → slots′ ≡ storeAt slots (slotWidth * k) (kind ∷ start ∷ items ∷ noPosition ∷ []) → area′ ≡ storeAt area to (part sheet (at + suc w) size)
     → PutAs e slots k area to size slots′ area′
 put-as {w} {sheet} {slots} {area} {at} {k} {to} {size} {kind} {start} {items} {e} t q s p i table values =
     let same : kind ≡ e .kind = q ∙ sym (t .kind) in
     let long : size ≡ length (e .value) = s ∙ sym (t .long) in
-    let numbers : kind ∷ start ∷ items ∷ [] ≡ entryNumbers to e = rw (p, i, same, long) in
+    let numbers : kind ∷ start ∷ items ∷ noPosition ∷ [] ≡ entryNumbers to e = rw (p, i, same, long) in
     record {
       size = long;
       table = table ∙ ap (storeAt slots (slotWidth * k)) numbers;
@@ -288,7 +288,7 @@ module _ {w : ℕ} {sheet : List ℕ} {most : ℕ} {slots₀ area₀ : List ℕ}
         let numbers : slotNumbers mark after ≡ slotNumbers mark (f .es) ++ entryNumbers place e = numbers-more mark (f .es) e ∙ rw (← f .next) in
         let len : length (slotNumbers mark after) ≡ slotWidth * length after = length-slot-numbers mark after in
         let len₀ : length (slotNumbers mark (f .es)) ≡ slotWidth * length (f .es) = length-slot-numbers mark (f .es) in
-        let sum : length (slotNumbers mark after) ≡ length (slotNumbers mark (f .es)) + 3 = ap length numbers ∙ length-append (slotNumbers mark (f .es)) (entryNumbers place e) in
+        let sum : length (slotNumbers mark after) ≡ length (slotNumbers mark (f .es)) + slotWidth = ap length numbers ∙ length-append (slotNumbers mark (f .es)) (entryNumbers place e) in
         let bytes : valueBytes after ≡ valueBytes (f .es) ++ e .value = values-more (f .es) e in
         let table : slots′ ≡ storeAt slots₀ 0 (slotNumbers mark after) =
         p .table ∙ ap (λ (s : List ℕ). storeAt s (slotWidth * set) (entryNumbers place e)) (f .table)

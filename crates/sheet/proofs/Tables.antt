@@ -15,7 +15,7 @@ use Rattle.layout.proofs.Laws.{demanded}
 use Rattle.record.specs.Bytes.{part, join, pieces, bigEndianIn}
 use Rattle.record.specs.declared.slots.Slot.{Slot}
 use Rattle.record.specs.Slots.{valueEnd}
-use Rattle.record.specs.Table.{maxKind, slotsOf, slotWidth, itemSize, Value, integersIn, shown}
+use Rattle.record.specs.Table.{maxKind, slotsOf, slotWidth, noPosition, itemSize, Value, integersIn, shown}
 use Rattle.record.proofs.Bytes.{and-true, drop-take}
 use Rattle.record.proofs.Stores.{length-part}
 use Rattle.sheet.specs.Entries.{Entry, wholeItems, valueBytes}
@@ -134,7 +134,7 @@ length-slot-numbers start (e ∷ es) = omega (arith, length-slot-numbers (start 
 
 -- the slot that an entry becomes
 slotFor : ℕ → Entry → Slot
-slotFor start e = record { kind = e .kind; start = if eqb (e .kind) 0 then 0 else start; len = length (e .value) / itemSize (e .kind) }
+slotFor start e = record { kind = e .kind; start = if eqb (e .kind) 0 then 0 else start; len = length (e .value) / itemSize (e .kind); position = noPosition }
 
 no-bytes : (bs : List ℕ) → length bs ≡ 0 → [] ≡ bs
 no-bytes [] h = refl

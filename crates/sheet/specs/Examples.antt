@@ -6,7 +6,7 @@ use lib.ListN.{length, replicate}
 use lib.Dec.{eqb}
 use Rattle.layout.specs.Quoted.{bytes}
 use Rattle.record.specs.declared.Answer.{Answer}
-use Rattle.record.specs.Table.{slotWidth}
+use Rattle.record.specs.Table.{slotWidth, noPosition}
 use Rattle.record.specs.Packing.{Packed}
 use Rattle.record.specs.Reading.{Read}
 use Rattle.sheet.specs.Sheet.{write, read}
@@ -63,9 +63,9 @@ all (e ∷ es) = holds e && all es
 
 -- ---- the list
 
--- a slot that is not set, a string and an integer; the area has "OK" and the eight bytes of -2
+-- a slot that is not set, a string and an integer, with positions that no sheet keeps; the area has "OK" and the eight bytes of -2
 unfoldable pub okTable : List ℕ
-okTable = 0 ∷ 7 ∷ 5 ∷ 1 ∷ 0 ∷ 2 ∷ 2 ∷ 2 ∷ 1 ∷ []
+okTable = 0 ∷ 7 ∷ 5 ∷ 3 ∷ 1 ∷ 0 ∷ 2 ∷ 4096 ∷ 2 ∷ 2 ∷ 1 ∷ noPosition ∷ []
 
 unfoldable pub okArea : List ℕ
 okArea = bytes "OK" ++ (0xff ∷ 0xff ∷ 0xff ∷ 0xff ∷ 0xff ∷ 0xff ∷ 0xff ∷ 0xfe ∷ [])
@@ -83,23 +83,32 @@ unfoldable pub unset : ℕ → List ℕ
 unset zero = []
 unset (suc n) = 0 ∷ 1 ∷ 0 ∷ unset n
 
+-- a slot of a sheet, before others; n slots that are not set
+unfoldable pub set : ℕ → ℕ → ℕ → List ℕ → List ℕ
+set kind start len rest = kind ∷ start ∷ len ∷ noPosition ∷ rest
+
+unfoldable pub unsetSlots : ℕ → List ℕ
+unfolding set
+unsetSlots zero = []
+unsetSlots (suc n) = set 0 0 0 (unsetSlots n)
+
 unfoldable pub examples : List Example
-unfolding okTable okArea okSheet unset
+unfolding okTable okArea okSheet unset set unsetSlots
 examples =
     -- the example of 02
     writing okTable okArea 30 okSheet
-    ∷ reading okSheet 4 20 5 3 (0 ∷ 0 ∷ 0 ∷ 1 ∷ 5 ∷ 2 ∷ 2 ∷ 7 ∷ 1 ∷ []) okArea
+    ∷ reading okSheet 4 20 5 3 (set 0 0 0 (set 1 5 2 (set 2 7 1 []))) okArea
     -- a table of no slots is a header alone; empty values; an unset slot is never bad
     ∷ writing [] [] 3 (1 ∷ 0 ∷ 0 ∷ [])
     ∷ reading (1 ∷ 0 ∷ 0 ∷ []) 2 4 4 0 [] []
-    ∷ writing (1 ∷ 1 ∷ 0 ∷ 3 ∷ 0 ∷ 0 ∷ 0 ∷ 99 ∷ 99 ∷ []) (65 ∷ []) 12 (1 ∷ 0 ∷ 9 ∷ 0 ∷ 1 ∷ 1 ∷ 0 ∷ 1 ∷ 3 ∷ 0 ∷ 1 ∷ 0 ∷ [])
-    ∷ reading (1 ∷ 0 ∷ 9 ∷ 0 ∷ 1 ∷ 1 ∷ 0 ∷ 1 ∷ 3 ∷ 0 ∷ 1 ∷ 0 ∷ []) 3 2 1 3 (1 ∷ 1 ∷ 0 ∷ 3 ∷ 1 ∷ 0 ∷ 0 ∷ 0 ∷ 0 ∷ []) []
+    ∷ writing (set 1 1 0 (set 3 0 0 (set 0 99 99 []))) (65 ∷ []) 12 (1 ∷ 0 ∷ 9 ∷ 0 ∷ 1 ∷ 1 ∷ 0 ∷ 1 ∷ 3 ∷ 0 ∷ 1 ∷ 0 ∷ [])
+    ∷ reading (1 ∷ 0 ∷ 9 ∷ 0 ∷ 1 ∷ 1 ∷ 0 ∷ 1 ∷ 3 ∷ 0 ∷ 1 ∷ 0 ∷ []) 3 2 1 3 (set 1 1 0 (set 3 1 0 (set 0 0 0 []))) []
     -- writing refused: sizes; the first bad slot; no room
-    ∷ notWritten (1 ∷ 0 ∷ []) [] 30 (1 ∷ 0 ∷ 0 ∷ [])
+    ∷ notWritten (1 ∷ 0 ∷ 0 ∷ []) [] 30 (1 ∷ 0 ∷ 0 ∷ [])
     ∷ notWritten (replicate (slotWidth * 65) 0) [] 30 (1 ∷ 0 ∷ 0 ∷ [])
-    ∷ notWritten (0 ∷ 7 ∷ 5 ∷ 4 ∷ 0 ∷ 0 ∷ 9 ∷ 0 ∷ 0 ∷ []) okArea 30 (7 ∷ 1 ∷ 0 ∷ [])
-    ∷ notWritten (1 ∷ 9 ∷ 2 ∷ []) okArea 0 (7 ∷ 0 ∷ 0 ∷ [])
-    ∷ notWritten (1 ∷ 11 ∷ 0 ∷ []) okArea 30 (7 ∷ 0 ∷ 0 ∷ [])
+    ∷ notWritten (set 0 7 5 (set 4 0 0 (set 9 0 0 []))) okArea 30 (7 ∷ 1 ∷ 0 ∷ [])
+    ∷ notWritten (set 1 9 2 []) okArea 0 (7 ∷ 0 ∷ 0 ∷ [])
+    ∷ notWritten (set 1 11 0 []) okArea 30 (7 ∷ 0 ∷ 0 ∷ [])
     ∷ notWritten okTable okArea 21 (11 ∷ 0 ∷ 0 ∷ [])
     -- reading refused: sizes and mark; version; header; entries; slots; room
     ∷ notRead okSheet 65 20 0 (1 ∷ 0 ∷ 0 ∷ [])
@@ -117,9 +126,9 @@ examples =
     ∷ notRead okSheet 2 0 0 (5 ∷ 0 ∷ 0 ∷ [])
     ∷ notRead okSheet 3 20 11 (11 ∷ 0 ∷ 0 ∷ [])
     -- 64 and 65 entries; a length of 65,535 and 65,536; a buffer of 65,538 and 65,539 bytes
-    ∷ reading (1 ∷ 0 ∷ 192 ∷ unset 64) 64 0 0 64 (replicate 192 0) []
+    ∷ reading (1 ∷ 0 ∷ 192 ∷ unset 64) 64 0 0 64 (unsetSlots 64) []
     ∷ notRead (1 ∷ 0 ∷ 195 ∷ unset 65) 64 0 0 (5 ∷ 0 ∷ 0 ∷ [])
-    ∷ writing (1 ∷ 0 ∷ 65532 ∷ []) (replicate 65532 65) 65538 (1 ∷ 255 ∷ 255 ∷ 255 ∷ 253 ∷ 1 ∷ replicate 65532 65)
-    ∷ notWritten (1 ∷ 0 ∷ 65533 ∷ []) (replicate 65533 65) 65538 (11 ∷ 0 ∷ 0 ∷ [])
+    ∷ writing (set 1 0 65532 []) (replicate 65532 65) 65538 (1 ∷ 255 ∷ 255 ∷ 255 ∷ 253 ∷ 1 ∷ replicate 65532 65)
+    ∷ notWritten (set 1 0 65533 []) (replicate 65533 65) 65538 (11 ∷ 0 ∷ 0 ∷ [])
     ∷ notWritten [] [] 65539 (1 ∷ 0 ∷ 0 ∷ [])
     ∷ []

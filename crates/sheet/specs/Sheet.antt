@@ -8,7 +8,7 @@ use Rattle.layout.specs.declared.Refusal.the-variants.{BadSize, WrongSlots, Bad
 use Rattle.layout.specs.Refusals.{if_then_else_, Result, ok, refused, _>>=_, demand}
 use Rattle.record.specs.Bytes.{part, storeAt, numberBytes, numberAt}
 use Rattle.record.specs.declared.slots.Slot.{Slot}
-use Rattle.record.specs.Table.{unset, slotsOf, slotWidth, itemSize}
+use Rattle.record.specs.Table.{unset, slotsOf, slotWidth, noPosition, itemSize}
 use Rattle.record.specs.Slots.{isInside}
 use Rattle.record.specs.Geometry.{tableFits}
 use Rattle.record.specs.Packing.{accepted, refusal, Packed, packEffect}
@@ -122,9 +122,9 @@ reads sheet slots area mark = do
   _ ← demand (leb (mark + length (valueBytes es)) (length area)) NoRoom 0
   ok es
 
--- the numbers of a slot whose value is put at the place `start`: an entry that is not set has start and length 0
+-- the numbers of a slot whose value is put at the place `start`: an entry that is not set has start and length 0, and no sheet knows a position
 abbrev pub entryNumbers : ℕ → Entry → List ℕ
-entryNumbers start e = e .kind ∷ (if eqb (e .kind) unset then 0 else start) ∷ (length (e .value) / itemSize (e .kind)) ∷ []
+entryNumbers start e = e .kind ∷ (if eqb (e .kind) unset then 0 else start) ∷ (length (e .value) / itemSize (e .kind)) ∷ noPosition ∷ []
 
 unfoldable pub slotNumbers : ℕ → List Entry → List ℕ
 slotNumbers start [] = []

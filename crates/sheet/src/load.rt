@@ -144,6 +144,7 @@ fn put(
         kind as u32,
         start_of(kind, to),
         items_of(kind, size),
+        record::slots::NO_POSITION,
     );
     text::bytes::copy(area, to, sheet, at + (w + 1), size);
     size

@@ -10,7 +10,7 @@ use Rattle.slots.specs.declared.Slot.{Slot}
 use Rattle.slots.specs.Slots.{numbersOf, slotsFrom, slotFrom, putAt}
 
 abbrev pub noSlot : Slot
-noSlot = record { kind = 0; start = 0; length = 0 }
+noSlot = record { kind = 0; start = 0; length = 0; position = 0 }
 
 abbrev pub slotOf : List Slot → ℕ → Slot
 slotOf ss i = getD ss i noSlot
@@ -28,7 +28,7 @@ saved ss ns zero = ss
 saved ss ns (suc i) = set (saved ss ns i) i (slotFrom ns (i * slotWidth))
 
 pub length-put : (ns : List ℕ) (k : ℕ) (s : Slot) → length (putAt ns k s) ≡ length ns
-length-put ns k s = length-set (set (set ns k (s .kind)) (k + 1) (s .start)) (k + 2) (s .length) ∙ length-set (set ns k (s .kind)) (k + 1) (s .start) ∙ length-set ns k (s .kind)
+length-put ns k s = simp length-set
 
 pub length-loaded : (ss : List Slot) (ns : List ℕ) (i : ℕ) → length (loaded ss ns i) ≡ length ns
 length-loaded ss ns zero = refl
@@ -40,24 +40,24 @@ length-saved ss ns (suc i) = length-set (saved ss ns i) i (slotFrom ns (i * slot
 
 -- ---- the numbers of slots
 
-abbrev three : Slot → List ℕ
-three s = s .kind ∷ s .start ∷ s .length ∷ []
+abbrev four : Slot → List ℕ
+four s = s .kind ∷ s .start ∷ s .length ∷ s .position ∷ []
 
 pub length-numbers : (ss : List Slot) → length (numbersOf ss) ≡ length ss * slotWidth
 unfolding numbersOf
 length-numbers [] = refl
-length-numbers (s ∷ ss) = ap (λ (k : ℕ). suc (suc (suc k))) (length-numbers ss) ∙ omega arith
+length-numbers (s ∷ ss) = ap (λ (k : ℕ). suc (suc (suc (suc k)))) (length-numbers ss) ∙ omega arith
 
 numbers-append : (ss ts : List Slot) → numbersOf (ss ++ ts) ≡ numbersOf ss ++ numbersOf ts
 unfolding numbersOf
 numbers-append [] ts = refl
 numbers-append (s ∷ ss) ts = rw (numbers-append ss ts)
 
-put-is : (ns : List ℕ) (k : ℕ) (s : Slot) → k + slotWidth ≤ length ns → putAt ns k s ≡ take k ns ++ three s ++ drop (k + slotWidth) ns
-put-is ns k s l = as-sets ∙ sets-eq (three s) ns k l
+put-is : (ns : List ℕ) (k : ℕ) (s : Slot) → k + slotWidth ≤ length ns → putAt ns k s ≡ take k ns ++ four s ++ drop (k + slotWidth) ns
+put-is ns k s l = as-sets ∙ sets-eq (four s) ns k l
   where
-    as-sets : putAt ns k s ≡ sets ns k (three s)
-    as-sets = λ i. set (set (set ns k (s .kind)) (one i) (s .start)) (two i) (s .length)
+    as-sets : putAt ns k s ≡ sets ns k (four s)
+    as-sets = λ i. set (set (set (set ns k (s .kind)) (one i) (s .start)) (two i) (s .length)) (three i) (s .position)
       where
         one : k + 1 ≡ suc k
         one = omega arith
@@ -65,14 +65,17 @@ put-is ns k s l = as-sets ∙ sets-eq (three s) ns k l
         two : k + 2 ≡ suc (suc k)
         two = omega arith
 
+        three : k + 3 ≡ suc (suc (suc k))
+        three = omega arith
+
 -- after i slots: their numbers, and then what was there
 pub loaded-is : (ss : List Slot) (ns : List ℕ) (i : ℕ) → i ≤ length ss → i * slotWidth ≤ length ns → loaded ss ns i ≡ numbersOf (take i ss) ++ drop (i * slotWidth) ns
 unfolding numbersOf
 loaded-is ss ns zero l g = refl
 loaded-is ss ns (suc i) l g =
     put-is (loaded ss ns i) (i * slotWidth) (slotOf ss i) (subst (λ (m : ℕ). i * slotWidth + slotWidth ≤ m) (sym (length-loaded ss ns i)) (omega arith))
-    ∙ ap (λ (z : List ℕ). take (i * slotWidth) z ++ three (slotOf ss i) ++ drop (i * slotWidth + slotWidth) z) (loaded-is ss ns i (omega arith) (omega arith))
-    ∙ (λ j. take-at front (drop (i * slotWidth) ns) (i * slotWidth) front-long j ++ three (slotOf ss i) ++ rest j)
+    ∙ ap (λ (z : List ℕ). take (i * slotWidth) z ++ four (slotOf ss i) ++ drop (i * slotWidth + slotWidth) z) (loaded-is ss ns i (omega arith) (omega arith))
+    ∙ (λ j. take-at front (drop (i * slotWidth) ns) (i * slotWidth) front-long j ++ four (slotOf ss i) ++ rest j)
     ∙ ap (λ (z : List ℕ). z ++ drop (suc i * slotWidth) ns) (sym (ap numbersOf (take-suc ss i noSlot l) ∙ numbers-append (take i ss) (slotOf ss i ∷ [])))
   where
     front : List ℕ
@@ -81,11 +84,11 @@ loaded-is ss ns (suc i) l g =
     front-long : length front ≡ i * slotWidth
     front-long = length-numbers (take i ss) ∙ ap (λ (k : ℕ). k * slotWidth) (length-take-le i ss (omega arith))
 
-    three-on : i * slotWidth + slotWidth ≡ suc i * slotWidth
-    three-on = omega arith
+    slot-on : i * slotWidth + slotWidth ≡ suc i * slotWidth
+    slot-on = omega arith
 
     rest : drop (i * slotWidth + slotWidth) (front ++ drop (i * slotWidth) ns) ≡ drop (suc i * slotWidth) ns
-    rest = ap (λ (k : ℕ). drop (k + slotWidth) (front ++ drop (i * slotWidth) ns)) (sym front-long) ∙ drop-append-add front (drop (i * slotWidth) ns) slotWidth ∙ drop-drop slotWidth (i * slotWidth) ns ∙ ap (λ (k : ℕ). drop k ns) three-on
+    rest = ap (λ (k : ℕ). drop (k + slotWidth) (front ++ drop (i * slotWidth) ns)) (sym front-long) ∙ drop-append-add front (drop (i * slotWidth) ns) slotWidth ∙ drop-drop slotWidth (i * slotWidth) ns ∙ ap (λ (k : ℕ). drop k ns) slot-on
 
 -- the scratch after k slots are taken apart
 abbrev pub filled : ℕ → List Slot → List ℕ → List ℕ
@@ -106,13 +109,14 @@ unfolding slotsFrom
 length-slots [] i e = omega arith
 length-slots (k ∷ []) i e = omega arith
 length-slots (k ∷ s ∷ []) i e = omega arith
-length-slots (k ∷ s ∷ n ∷ ns) zero e = omega arith
-length-slots (k ∷ s ∷ n ∷ ns) (suc i) e = ap suc (length-slots ns i (omega arith))
+length-slots (k ∷ s ∷ n ∷ []) i e = omega arith
+length-slots (k ∷ s ∷ n ∷ p ∷ ns) zero e = omega arith
+length-slots (k ∷ s ∷ n ∷ p ∷ ns) (suc i) e = ap suc (length-slots ns i (omega arith))
 
 part-of-one : (i m : ℕ) → 0 < m → m < slotWidth → m ≡ i * slotWidth → ⊥
 part-of-one i m l g e = omega arith
 
-more-than-none : (m : ℕ) → suc (suc (suc m)) ≡ 0 → ⊥
+more-than-none : (m : ℕ) → suc (suc (suc (suc m))) ≡ 0 → ⊥
 more-than-none m e = omega arith
 
 slots-append : (ns ms : List ℕ) (i : ℕ) → length ns ≡ i * slotWidth → slotsFrom (ns ++ ms) ≡ slotsFrom ns ++ slotsFrom ms
@@ -120,12 +124,13 @@ unfolding slotsFrom
 slots-append [] ms i e = refl
 slots-append (k ∷ []) ms i e = absurd (part-of-one i 1 (omega arith) (omega arith) e)
 slots-append (k ∷ s ∷ []) ms i e = absurd (part-of-one i 2 (omega arith) (omega arith) e)
-slots-append (k ∷ s ∷ n ∷ ns) ms zero e = absurd (more-than-none (length ns) e)
-slots-append (k ∷ s ∷ n ∷ ns) ms (suc i) e = ap (λ (l : List Slot). record { kind = k; start = s; length = n } ∷ l) (slots-append ns ms i (omega arith))
+slots-append (k ∷ s ∷ n ∷ []) ms i e = absurd (part-of-one i 3 (omega arith) (omega arith) e)
+slots-append (k ∷ s ∷ n ∷ p ∷ ns) ms zero e = absurd (more-than-none (length ns) e)
+slots-append (k ∷ s ∷ n ∷ p ∷ ns) ms (suc i) e = ap (λ (l : List Slot). record { kind = k; start = s; length = n; position = p } ∷ l) (slots-append ns ms i (omega arith))
 
--- the three numbers at k
-three-at : (ns : List ℕ) (k : ℕ) → k + slotWidth ≤ length ns → drop k ns ≡ getD ns k 0 ∷ getD ns (k + 1) 0 ∷ getD ns (k + 2) 0 ∷ drop (k + slotWidth) ns
-three-at ns k l = rw (drop-cons ns k 0 first, drop-cons ns (suc k) 0 second, drop-cons ns (suc (suc k)) 0 third, one, two, all)
+-- the numbers at k
+four-at : (ns : List ℕ) (k : ℕ) → k + slotWidth ≤ length ns → drop k ns ≡ getD ns k 0 ∷ getD ns (k + 1) 0 ∷ getD ns (k + 2) 0 ∷ getD ns (k + 3) 0 ∷ drop (k + slotWidth) ns
+four-at ns k l = rw (drop-cons ns k 0 first, drop-cons ns (suc k) 0 second, drop-cons ns (suc (suc k)) 0 third, drop-cons ns (suc (suc (suc k))) 0 fourth, one, two, three, all)
   where
     first : k < length ns
     first = omega arith
@@ -136,28 +141,34 @@ three-at ns k l = rw (drop-cons ns k 0 first, drop-cons ns (suc k) 0 second, dro
     third : suc (suc k) < length ns
     third = omega arith
 
+    fourth : suc (suc (suc k)) < length ns
+    fourth = omega arith
+
     one : k + 1 ≡ suc k
     one = omega arith
 
     two : k + 2 ≡ suc (suc k)
     two = omega arith
 
-    all : k + slotWidth ≡ suc (suc (suc k))
+    three : k + 3 ≡ suc (suc (suc k))
+    three = omega arith
+
+    all : k + slotWidth ≡ suc (suc (suc (suc k)))
     all = omega arith
 
 one-slot : (ns : List ℕ) (k : ℕ) → k + slotWidth ≤ length ns → slotsFrom (take slotWidth (drop k ns)) ≡ slotFrom ns k ∷ []
 unfolding slotsFrom
-one-slot ns k l = ap (λ (z : List ℕ). slotsFrom (take slotWidth z)) (three-at ns k l)
+one-slot ns k l = ap (λ (z : List ℕ). slotsFrom (take slotWidth z)) (four-at ns k l)
 
 slots-more : (ns : List ℕ) (i : ℕ) → suc i * slotWidth ≤ length ns → slotsFrom (take (suc i * slotWidth) ns) ≡ slotsFrom (take (i * slotWidth) ns) ++ (slotFrom ns (i * slotWidth) ∷ [])
 slots-more ns i l =
-    ap (λ (k : ℕ). slotsFrom (take k ns)) three-on
+    ap (λ (k : ℕ). slotsFrom (take k ns)) slot-on
     ∙ ap slotsFrom (take-add (i * slotWidth) slotWidth ns)
     ∙ slots-append (take (i * slotWidth) ns) (take slotWidth (drop (i * slotWidth) ns)) i (length-take-le (i * slotWidth) ns (omega arith))
     ∙ ap (λ (z : List Slot). slotsFrom (take (i * slotWidth) ns) ++ z) (one-slot ns (i * slotWidth) (omega arith))
   where
-    three-on : suc i * slotWidth ≡ i * slotWidth + slotWidth
-    three-on = omega arith
+    slot-on : suc i * slotWidth ≡ i * slotWidth + slotWidth
+    slot-on = omega arith
 
 -- after i slots: those that the numbers make, and then what was there
 pub saved-is : (ss : List Slot) (ns : List ℕ) (i : ℕ) → i ≤ length ss → i * slotWidth ≤ length ns → saved ss ns i ≡ slotsFrom (take (i * slotWidth) ns) ++ drop i ss

@@ -19,14 +19,15 @@ use Rattle.slots.specs.declared.Outcome.{Outcome}
 -- the numbers of a slot, in the order of 01, Slot tables
 unfoldable pub numbersOf : List Slot → List ℕ
 numbersOf [] = []
-numbersOf (s ∷ ss) = s .kind ∷ s .start ∷ s .length ∷ numbersOf ss
+numbersOf (s ∷ ss) = s .kind ∷ s .start ∷ s .length ∷ s .position ∷ numbersOf ss
 
--- the slots that a run of numbers makes, three to a slot
+-- the slots that a run of numbers makes
 unfoldable pub slotsFrom : List ℕ → List Slot
 slotsFrom [] = []
 slotsFrom (k ∷ []) = []
 slotsFrom (k ∷ s ∷ []) = []
-slotsFrom (k ∷ s ∷ n ∷ rest) = record { kind = k; start = s; length = n } ∷ slotsFrom rest
+slotsFrom (k ∷ s ∷ n ∷ []) = []
+slotsFrom (k ∷ s ∷ n ∷ p ∷ rest) = record { kind = k; start = s; length = n; position = p } ∷ slotsFrom rest
 
 -- the numbers of the most slots
 abbrev pub maxNumbers : ℕ
@@ -64,11 +65,11 @@ rows = suc maxSlots
 
 -- the slot at a place in the numbers
 abbrev pub slotFrom : List ℕ → ℕ → Slot
-slotFrom ns at = record { kind = getD ns at 0; start = getD ns (at + 1) 0; length = getD ns (at + 2) 0 }
+slotFrom ns at = record { kind = getD ns at 0; start = getD ns (at + 1) 0; length = getD ns (at + 2) 0; position = getD ns (at + 3) 0 }
 
 -- a slot's numbers, stored at a place
 abbrev pub putAt : List ℕ → ℕ → Slot → List ℕ
-putAt ns at s = set (set (set ns at (s .kind)) (at + 1) (s .start)) (at + 2) (s .length)
+putAt ns at s = set (set (set (set ns at (s .kind)) (at + 1) (s .start)) (at + 2) (s .length)) (at + 3) (s .position)
 
 -- how many of so many slots are taken apart: more than a table may have are refused with number 1
 unfoldable pub taken : ℕ → ℕ
@@ -81,7 +82,7 @@ packFirst layout ns n area output = if leb n maxSlots then pack layout (take (n 
 
 unfoldable pub readFirst : List ℕ → List ℕ → List ℕ → ℕ → List ℕ → ℕ → Read
 unfolding read
-readFirst layout bs ns n area mark = if leb n maxSlots then read layout bs (take (n * slotWidth) ns) area mark else readEffect (take (n * slotWidth) ns) area mark (refused BadSize 0)
+readFirst layout bs ns n area mark = if leb n maxSlots then read layout bs (take (n * slotWidth) ns) area mark else readEffect (take (n * slotWidth) ns) area mark [] (refused BadSize 0)
 
 -- the answer r, the numbers of the first n slots and the area are what the reader leaves
 abbrev pub ReadsFirst : Lent → Lent → Lent → ℕ → Lent → ℕ → Answer → Type 0

@@ -17,9 +17,10 @@ pub struct Slot {
     pub kind: u32,
     pub start: u32,
     pub length: u32,
+    pub position: u32,
 }
 
-// The slot that three numbers make.
+// The slot that the numbers at a place make.
 fn slot_from(numbers: &[u32], at: usize) -> Slot
     requires { ⌜ at + slotWidth ≤ length (now numbers) ⌝ }
     ensures { λ r. ⌜ r ≡ slotFrom (before numbers) at ⌝ }
@@ -27,14 +28,16 @@ fn slot_from(numbers: &[u32], at: usize) -> Slot
     let kind = numbers[at];
     let start = numbers[at + 1];
     let len = numbers[at + 2];
+    let position = numbers[at + 3];
     Slot {
         kind: kind,
         start: start,
         length: len,
+        position: position,
     }
 }
 
-// The three numbers of a slot.
+// The numbers of a slot, put at a place.
 fn put_slot(numbers: &mut [u32], at: usize, slot: Slot)
     requires { ⌜ at + slotWidth ≤ length (now numbers) ⌝ }
     ensures { λ _. ⌜ after numbers ≡ putAt (before numbers) at slot ⌝ }
@@ -42,6 +45,7 @@ fn put_slot(numbers: &mut [u32], at: usize, slot: Slot)
     numbers[at] = slot.kind;
     numbers[at + 1] = slot.start;
     numbers[at + 2] = slot.length;
+    numbers[at + 3] = slot.position;
 }
 
 // How many slots are taken apart: all of them, and none where there are more than a table may have.

@@ -31,6 +31,7 @@ fn write_slot(s: Slot) {
     write_number(s.kind);
     write_number(s.start);
     write_number(s.length);
+    write_number(s.position);
 }
 
 fn write_record(bytes: &[u8; 5]) {
@@ -67,6 +68,7 @@ fn string_at(start: u32) -> Slot {
         kind: 1,
         start: start,
         length: 1,
+        position: 1,
     }
 }
 
@@ -82,7 +84,7 @@ fn table() -> [Slot; slots::ROWS] {
 fn numbers() -> [u32; NUMBERS] {
     let mut ns: [u32; NUMBERS] = [1; NUMBERS];
     ns[1] = 0;
-    ns[record::MAX_NUMBERS - 2] = 2;
+    ns[record::MAX_NUMBERS - 3] = 2;
     ns
 }
 
@@ -167,11 +169,13 @@ fn read_same(layout: &[u8], count: usize) {
         kind: ns[0],
         start: ns[1],
         length: ns[2],
+        position: ns[3],
     });
     write_slot(Slot {
-        kind: ns[record::MAX_NUMBERS - 3],
-        start: ns[record::MAX_NUMBERS - 2],
-        length: ns[record::MAX_NUMBERS - 1],
+        kind: ns[record::MAX_NUMBERS - 4],
+        start: ns[record::MAX_NUMBERS - 3],
+        length: ns[record::MAX_NUMBERS - 2],
+        position: ns[record::MAX_NUMBERS - 1],
     });
     write_bytes(area[4], area[3 + record::MAX_SLOTS]);
 }
@@ -209,16 +213,19 @@ fn two() {
         kind: 1,
         start: 0,
         length: 3,
+        position: 0,
     };
     let integers = Slot {
         kind: 2,
         start: 3,
         length: 2,
+        position: 0,
     };
     let unset = Slot {
         kind: 0,
         start: 0,
         length: 0,
+        position: 0,
     };
     let mut bytes: [u8; 5] = [0; 5];
     let packed = slots::pack_some(b"a3c2", pair(string, integers), 2, &area, &mut bytes);

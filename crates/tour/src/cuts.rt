@@ -1,4 +1,5 @@
 // Demand 3, run: a record packed by an old layout, and one by a new layout that has fields added at its end; each is cut at every place and read by both layouts.
+use record::SLOT_WIDTH;
 use tour_text::print;
 use tour_text::values;
 
@@ -34,8 +35,22 @@ fn row(writer: &[u8], slots: &[u32], area: &[u8], cut: usize, reader: &[u8], tab
 
 // The record cut at one place, read by both layouts.
 fn both(writer: &[u8], slots: &[u32], area: &[u8], cut: usize) {
-    row(writer, slots, area, cut, b"a3S2b5", &mut [0; 9]);
-    row(writer, slots, area, cut, b"a3S2b5xIuh3", &mut [0; 15]);
+    row(
+        writer,
+        slots,
+        area,
+        cut,
+        b"a3S2b5",
+        &mut [0; 3 * SLOT_WIDTH],
+    );
+    row(
+        writer,
+        slots,
+        area,
+        cut,
+        b"a3S2b5xIuh3",
+        &mut [0; 5 * SLOT_WIDTH],
+    );
 }
 
 // Every cut below an end.
@@ -49,10 +64,31 @@ fn every(writer: &[u8], slots: &[u32], area: &[u8], end: usize) {
 
 // Both records over the same arguments: "abc", {258 -2}, "10110", {4000000000} and "7f1"; the old layout takes the first three.
 fn each(area: &[u8]) {
-    every(b"a3S2b5", &[1, 0, 3, 2, 3, 2, 1, 19, 5], area, 9);
+    every(b"a3S2b5", &[1, 0, 3, 0, 2, 3, 2, 0, 1, 19, 5, 0], area, 9);
     every(
         b"a3S2b5xIuh3",
-        &[1, 0, 3, 2, 3, 2, 1, 19, 5, 2, 24, 1, 1, 32, 3],
+        &[
+            1,
+            0,
+            3,
+            0,
+            2,
+            3,
+            2,
+            0,
+            1,
+            19,
+            5,
+            0,
+            2,
+            24,
+            1,
+            0,
+            1,
+            32,
+            3,
+            0,
+        ],
         area,
         16,
     );

@@ -49,6 +49,8 @@ fn read_edges(record: &mut [u8; 4096]) {
     examples::read_rulings(record);
     heading(b"\nReading: a table that holds an earlier reading");
     reading::kept();
+    heading(b"\nReading: where each field began");
+    reading::positions();
     heading(b"\nReading: refusals and limits");
     examples::read_refusals(record);
     read_limits();

@@ -1,4 +1,6 @@
 // Packing: a line for each call, with the layout, what it is lent, the answer's three numbers and the bytes of the result.
+use record::MAX_NUMBERS;
+use record::SLOT_WIDTH;
 use tour_text::notation;
 use tour_text::print;
 use tour_text::print::Style;
@@ -16,7 +18,7 @@ fn show(layout: &[u8], told: &[u8], slots: &[u32], area: &[u8], record: &mut [u8
 // Packs into eight bytes aa, and prints all that they then hold.
 fn whole(layout: &[u8]) {
     let mut output = [0xaau8; 8];
-    let a = packer::pack(layout, &[1, 0, 2], b"xy", &mut output);
+    let a = packer::pack(layout, &[1, 0, 2, 0], b"xy", &mut output);
     print::call(b"pack", layout);
     print::lent(b"slot 1 0 2, output of eight bytes aa");
     print::answer(a.number, a.first, a.second);
@@ -34,7 +36,7 @@ pub fn kept() {
 
 // Packs the arguments that a text names.
 pub fn example(layout: &[u8], told: &[u8], record: &mut [u8; 4096]) {
-    let mut slots = [0u32; 192];
+    let mut slots = [0u32; MAX_NUMBERS];
     let mut area = [0u8; 256];
     let used = notation::parse(told, &mut slots, &mut area);
     show(
@@ -53,22 +55,32 @@ fn placed(layout: &[u8], told: &[u8], slots: &[u32], record: &mut [u8; 4096]) {
 
 // A slot in its place, and one of no kind.
 fn kinds(record: &mut [u8; 4096]) {
-    placed(b"a", b"slot 1 1 1, area of 2 bytes", &[1, 1, 1], record);
-    placed(b"a", b"slot 4 0 1, area of 2 bytes", &[4, 0, 1], record);
+    placed(b"a", b"slot 1 1 1, area of 2 bytes", &[1, 1, 1, 0], record);
+    placed(b"a", b"slot 4 0 1, area of 2 bytes", &[4, 0, 1, 0], record);
+}
+
+// The position in a slot is not looked at.
+fn positions(record: &mut [u8; 4096]) {
+    placed(
+        b"a",
+        b"slot 1 1 1 4294967295, area of 2 bytes",
+        &[1, 1, 1, 4294967295],
+        record,
+    );
 }
 
 // A value past the area's end, and an empty one at it.
 fn ends(record: &mut [u8; 4096]) {
-    placed(b"a", b"slot 1 1 2, area of 2 bytes", &[1, 1, 2], record);
-    placed(b"a*", b"slot 1 2 0, area of 2 bytes", &[1, 2, 0], record);
+    placed(b"a", b"slot 1 1 2, area of 2 bytes", &[1, 1, 2, 0], record);
+    placed(b"a*", b"slot 1 2 0, area of 2 bytes", &[1, 2, 0, 0], record);
 }
 
 fn past(record: &mut [u8; 4096]) {
-    placed(b"a*", b"slot 1 3 0, area of 2 bytes", &[1, 3, 0], record);
+    placed(b"a*", b"slot 1 3 0, area of 2 bytes", &[1, 3, 0, 0], record);
     placed(
         b"a",
         b"slot 1 4294967295 1, area of 2 bytes",
-        &[1, 4294967295, 1],
+        &[1, 4294967295, 1, 0],
         record,
     );
 }
@@ -76,9 +88,10 @@ fn past(record: &mut [u8; 4096]) {
 // Number 7, and an empty value at the area's end.
 pub fn places(record: &mut [u8; 4096]) {
     kinds(record);
+    positions(record);
     ends(record);
     past(record);
-    placed(b"c", b"slot 2 0 1, area of 2 bytes", &[2, 0, 1], record);
+    placed(b"c", b"slot 2 0 1, area of 2 bytes", &[2, 0, 1, 0], record);
 }
 
 fn layouts(record: &mut [u8; 4096]) {
@@ -87,13 +100,18 @@ fn layouts(record: &mut [u8; 4096]) {
 }
 
 fn tables(record: &mut [u8; 4096]) {
-    placed(&[b'a'; 64], b"64 slots 1 1 1", &[1; 192], record);
-    placed(&[b'a'; 65], b"65 slots 1 1 1", &[1; 195], record);
+    placed(&[b'a'; 64], b"64 slots 1 1 1 1", &[1; MAX_NUMBERS], record);
+    placed(
+        &[b'a'; 65],
+        b"65 slots 1 1 1 1",
+        &[1; MAX_NUMBERS + SLOT_WIDTH],
+        record,
+    );
 }
 
 // Packs the last byte of an area.
 fn last(told: &[u8], area: &[u8], record: &mut [u8; 4096]) {
-    show(b"a", told, &[1, 65535, 1], area, record);
+    show(b"a", told, &[1, 65535, 1, 0], area, record);
 }
 
 fn areas(record: &mut [u8; 4096]) {
@@ -113,13 +131,13 @@ fn areas(record: &mut [u8; 4096]) {
 pub fn sizes(record: &mut [u8; 4096]) {
     layouts(record);
     tables(record);
-    placed(b"a", b"four numbers", &[1; 4], record);
+    placed(b"a", b"five numbers", &[1; 5], record);
     areas(record);
 }
 
 // Packs a string of n bytes into an output that is lent.
 fn output(layout: &[u8], told: &[u8], n: u32, record: &mut [u8]) {
-    show(layout, told, &[1, 0, n], b"xy", record);
+    show(layout, told, &[1, 0, n, 0], b"xy", record);
 }
 
 // Outputs above their limit, as long as the result, and shorter.
@@ -133,7 +151,7 @@ pub fn unsigned(record: &mut [u8; 4096]) {
     show(
         b"c",
         b"slot 3 0 1, area of 8 bytes",
-        &[3, 0, 1],
+        &[3, 0, 1, 0],
         b"\x00\x00\x00\x00\x00\x00\x01\xfe",
         record,
     );

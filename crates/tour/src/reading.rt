@@ -1,4 +1,6 @@
 // Reading: a line for each call, with the layout, the record, the answer's three numbers and the values that the slots then show.
+use record::MAX_NUMBERS;
+use record::SLOT_WIDTH;
 use tour_text::print;
 use tour_text::print::Style;
 use tour_text::values;
@@ -21,9 +23,9 @@ fn show(
     print::text(b"\n");
 }
 
-// Reads into six nines and eight bytes aa from the mark 1 on, and prints all that they then hold.
+// Reads into two slots of nines and eight bytes aa from the mark 1 on, and prints all that they then hold.
 fn whole(layout: &[u8]) {
-    let mut slots = [9u32; 6];
+    let mut slots = [9u32; 2 * SLOT_WIDTH];
     let mut area = [0xaau8; 8];
     let a = reader::read(layout, b"xy", &mut slots, &mut area, 1);
     print::call(b"read", layout);
@@ -40,18 +42,39 @@ pub fn lent() {
     whole(b"a2z");
 }
 
+// The position at which a field began: after a skip, also one past the end; before an empty field; again after a step back.
+pub fn positions() {
+    whole(b"xa");
+    whole(b"x9a0s*");
+    whole(b"aXa");
+}
+
 // One slot and two slots that are not set.
 pub fn one(layout: &[u8], record: &[u8]) {
-    show(layout, record, b"", &mut [0u32; 3], &mut [0u8; 512], 0);
+    show(
+        layout,
+        record,
+        b"",
+        &mut [0u32; SLOT_WIDTH],
+        &mut [0u8; 512],
+        0,
+    );
 }
 
 pub fn two(layout: &[u8], record: &[u8]) {
-    show(layout, record, b"", &mut [0u32; 6], &mut [0u8; 512], 0);
+    show(
+        layout,
+        record,
+        b"",
+        &mut [0u32; 2 * SLOT_WIDTH],
+        &mut [0u8; 512],
+        0,
+    );
 }
 
 // A second reading into the same table: a value that it leaves alone, below its mark, is shown as before.
 pub fn kept() {
-    let mut slots = [0u32; 6];
+    let mut slots = [0u32; 2 * SLOT_WIDTH];
     let mut area = [0u8; 512];
     show(
         b"a3a3",
@@ -77,32 +100,62 @@ fn sized(layout: &[u8], record: &[u8], told: &[u8], slots: &mut [u32]) {
 }
 
 fn layouts() {
-    sized(&[b'x'; 256], b"ab", b"layout of 256 bytes", &mut [0; 3]);
-    sized(&[b'x'; 257], b"ab", b"layout of 257 bytes", &mut [0; 3]);
+    sized(
+        &[b'x'; 256],
+        b"ab",
+        b"layout of 256 bytes",
+        &mut [0; SLOT_WIDTH],
+    );
+    sized(
+        &[b'x'; 257],
+        b"ab",
+        b"layout of 257 bytes",
+        &mut [0; SLOT_WIDTH],
+    );
 }
 
 fn tables() {
-    sized(&[b'c'; 64], &[7; 64], b"64 slots", &mut [0; 192]);
-    sized(&[b'c'; 65], &[7; 65], b"65 slots", &mut [0; 195]);
+    sized(&[b'c'; 64], &[7; 64], b"64 slots", &mut [0; MAX_NUMBERS]);
+    sized(
+        &[b'c'; 65],
+        &[7; 65],
+        b"65 slots",
+        &mut [0; MAX_NUMBERS + SLOT_WIDTH],
+    );
 }
 
 fn records() {
-    sized(b"c4096", &[9; 4096], b"record of 4096 bytes", &mut [0; 3]);
-    sized(b"b*", &[9; 4096], b"record of 4096 bytes", &mut [0; 3]);
-    sized(b"@4095c", &[9; 4097], b"record of 4097 bytes", &mut [0; 3]);
+    sized(
+        b"c4096",
+        &[9; 4096],
+        b"record of 4096 bytes",
+        &mut [0; SLOT_WIDTH],
+    );
+    sized(
+        b"b*",
+        &[9; 4096],
+        b"record of 4096 bytes",
+        &mut [0; SLOT_WIDTH],
+    );
+    sized(
+        b"@4095c",
+        &[9; 4097],
+        b"record of 4097 bytes",
+        &mut [0; SLOT_WIDTH],
+    );
 }
 
 // Number 1: layouts, slots and records at their limits and one above.
 pub fn sizes() {
     layouts();
     tables();
-    sized(b"c", b"\x07", b"four numbers", &mut [0; 4]);
+    sized(b"c", b"\x07", b"five numbers", &mut [0; 5]);
     records();
 }
 
 // Reads into an area that is lent, from a mark on.
 fn marked(layout: &[u8], record: &[u8], told: &[u8], area: &mut [u8], mark: usize) {
-    show(layout, record, told, &mut [0u32; 3], area, mark);
+    show(layout, record, told, &mut [0u32; SLOT_WIDTH], area, mark);
 }
 
 // Reads the last byte of an area.

@@ -106,7 +106,7 @@ fn unmarked() {
 ",
     );
     example(b"");
-    show(b"slot 0 4294967295 7", &[0, 4294967295, 7], b"");
+    show(b"slot 0 4294967295 7", &[0, 4294967295, 7, 0], b"");
     show(b"as many slots as can be, none set", &[0; MAX_NUMBERS], b"");
 }
 
@@ -136,21 +136,21 @@ fn placed(told: &[u8], slots: &[u32]) {
 
 // Kind 3; number 7 for a kind, a start and a length.
 fn bad_slots() {
-    placed(b"slot 3 0 1 over {50}", &[3, 0, 1]);
-    placed(b"slot 4 0 1 over {50}", &[4, 0, 1]);
-    placed(b"slot 2 1 1 over {50}", &[2, 1, 1]);
+    placed(b"slot 3 0 1 over {50}", &[3, 0, 1, 0]);
+    placed(b"slot 4 0 1 over {50}", &[4, 0, 1, 0]);
+    placed(b"slot 2 1 1 over {50}", &[2, 1, 1, 0]);
     placed(
         b"slots 2 0 1, 2 0 1, 4 0 1 over {50}",
-        &[2, 0, 1, 2, 0, 1, 4, 0, 1],
+        &[2, 0, 1, 0, 2, 0, 1, 0, 4, 0, 1, 0],
     );
 }
 
 // Number 7 comes before 8 and 9.
 fn bad_ends() {
-    placed(b"slot 2 0 2 over {50}", &[2, 0, 2]);
-    placed(b"slot 1 8 1 over {50}", &[1, 8, 1]);
-    placed(b"slot 2 9 0 over {50}", &[2, 9, 0]);
-    placed(b"slot 2 8 0 over {50}", &[2, 8, 0]);
+    placed(b"slot 2 0 2 over {50}", &[2, 0, 2, 0]);
+    placed(b"slot 1 8 1 over {50}", &[1, 8, 1, 0]);
+    placed(b"slot 2 9 0 over {50}", &[2, 9, 0, 0]);
+    placed(b"slot 2 8 0 over {50}", &[2, 8, 0, 0]);
 }
 
 // Number 1, which comes before every slot.
@@ -162,7 +162,7 @@ fn sizes() {
     );
     show(b"a number more than a slot", &[4; SLOT_WIDTH + 1], b"");
     show(b"area over its size", &[4; SLOT_WIDTH], &[0; MAX_AREA + 1]);
-    show(b"slot 3 0 1 over eight bytes 80", &[3, 0, 1], &[0x80; 8]);
+    show(b"slot 3 0 1 over eight bytes 80", &[3, 0, 1, 0], &[0x80; 8]);
 }
 
 fn refusals() {

@@ -57,40 +57,43 @@ pub fn slots() {
     placed(b"no slots", &[0; 0]);
     show(
         b"slot 3 0 1 over eight bytes ff",
-        &[3, 0, 1],
+        &[3, 0, 1, 0],
         &[255; 8],
         &mut [0; 64],
     );
-    placed(b"slot 0 4294967295 7", &[0, 4294967295, 7]);
-    placed(b"slot 1 2 0 over two bytes", &[1, 2, 0]);
+    placed(b"slot 0 4294967295 7", &[0, 4294967295, 7, 0]);
+    placed(b"slot 1 2 0 over two bytes", &[1, 2, 0, 0]);
 }
 
 // Number 7.
 fn bad_slots() {
-    placed(b"slot 1 3 0 over two bytes", &[1, 3, 0]);
-    placed(b"slot 1 1 2 over two bytes", &[1, 1, 2]);
-    placed(b"slot 2 0 1 over two bytes", &[2, 0, 1]);
-    placed(b"slots 0 0 0, 4 0 0, 5 0 0", &[0, 0, 0, 4, 0, 0, 5, 0, 0]);
+    placed(b"slot 1 3 0 over two bytes", &[1, 3, 0, 0]);
+    placed(b"slot 1 1 2 over two bytes", &[1, 1, 2, 0]);
+    placed(b"slot 2 0 1 over two bytes", &[2, 0, 1, 0]);
+    placed(
+        b"slots 0 0 0, 4 0 0, 5 0 0",
+        &[0, 0, 0, 0, 4, 0, 0, 0, 5, 0, 0, 0],
+    );
 }
 
 // Number 11, which comes after 7.
 fn rooms() {
     show(
         b"slot 1 0 2, buffer of 8 bytes",
-        &[1, 0, 2],
+        &[1, 0, 2, 0],
         b"OK",
         &mut [0; 8],
     );
     show(
         b"slot 1 0 2, buffer of 7 bytes",
-        &[1, 0, 2],
+        &[1, 0, 2, 0],
         b"OK",
         &mut [0; 7],
     );
     show(b"no slots, buffer of 2 bytes", &[0; 0], b"", &mut [0; 2]);
     show(
         b"slot 1 0 3, buffer of 2 bytes",
-        &[1, 0, 3],
+        &[1, 0, 3, 0],
         b"OK",
         &mut [0; 2],
     );
@@ -108,9 +111,12 @@ fn long(told: &[u8], slots: &[u32]) {
 
 // The longest that a sheet can be, and one byte more: number 11.
 fn lengths() {
-    long(b"slot 1 0 65532", &[1, 0, 65532]);
-    long(b"slot 1 0 65533", &[1, 0, 65533]);
-    long(b"slots 1 0 32768, 1 0 32768", &[1, 0, 32768, 1, 0, 32768]);
+    long(b"slot 1 0 65532", &[1, 0, 65532, 0]);
+    long(b"slot 1 0 65533", &[1, 0, 65533, 0]);
+    long(
+        b"slots 1 0 32768, 1 0 32768",
+        &[1, 0, 32768, 0, 1, 0, 32768, 0],
+    );
 }
 
 // Number 1: slots, area and buffer at their limits and above.
@@ -159,9 +165,9 @@ fn whole(told: &[u8], slots: &[u32]) {
 // Bytes past the sheet stay as lent, and all of the buffer of a refused call does.
 pub fn kept() {
     whole(b"no slots", &[0; 0]);
-    whole(b"slot 0 0 0", &[0, 0, 0]);
-    whole(b"slot 1 0 2", &[1, 0, 2]);
-    whole(b"slot 1 0 3", &[1, 0, 3]);
-    whole(b"slots 1 0 2, 1 4 1", &[1, 0, 2, 1, 4, 1]);
+    whole(b"slot 0 0 0", &[0, 0, 0, 0]);
+    whole(b"slot 1 0 2", &[1, 0, 2, 0]);
+    whole(b"slot 1 0 3", &[1, 0, 3, 0]);
+    whole(b"slots 1 0 2, 1 4 1", &[1, 0, 2, 0, 1, 4, 1, 0]);
     whole(b"a number more than a slot", &[0; SLOT_WIDTH + 1]);
 }

@@ -56,7 +56,8 @@ fn push_number(slots: &mut [u32], at: usize, n: u32) -> usize {
 fn push_slot(slots: &mut [u32], at: usize, kind: u32, start: u32, length: u32) -> usize {
     let a = push_number(slots, at, kind);
     let b = push_number(slots, a, start);
-    push_number(slots, b, length)
+    let c = push_number(slots, b, length);
+    push_number(slots, c, 0)
 }
 
 fn narrow(n: usize) -> u32 {

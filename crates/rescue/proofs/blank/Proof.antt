@@ -18,7 +18,7 @@ add-set-slot : tie.Need-add-set-slot Inv-loop μ-loop
 add-set-slot c = omega (arith, blanking-fits (c .before .before .loop .inv) (c .before .before .before .before .pre) (c .before .loop-test .taken))
 
 set-slot-requires : tie.Need-set-slot-requires Inv-loop μ-loop
-set-slot-requires c κs = (blanking-fits (c .before .before .loop .inv) (c .before .before .before .before .pre) (c .before .loop-test .taken), omega arith, omega arith)
+set-slot-requires c κs = (blanking-fits (c .before .before .loop .inv) (c .before .before .before .before .pre) (c .before .loop-test .taken), omega arith, omega arith, omega arith)
 
 loop-again : tie.Need-loop-again Inv-loop μ-loop
 loop-again c = blanking-more (c .before .before .before .before .before .loop .inv) (c .before .before .before .before .before .before .before .pre) (c .before .before .before .before .loop-test .taken) _ (c .before .before .set-slot .ensures)

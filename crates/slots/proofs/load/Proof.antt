@@ -50,7 +50,7 @@ use Rattle.record.specs.Table.{slotWidth, maxSlots}
 use Rattle.slots.specs.Slots.{maxNumbers, putAt, taken}
 use Rattle.slots.proofs.Runs.{noSlot, slotOf, loaded, length-loaded, loaded-is}
 use Rattle.slots.proofs.Calls.{taken-within}
-use Rattle.slots.proofs.Turns.{numbers-fit, bytes-fit, place-fits, next-fits, three-more, less-left, one-more, held, over}
+use Rattle.slots.proofs.Turns.{recordSize, numbers-fit, bytes-fit, place-fits, next-fits, slot-more, less-left, one-more, held, over}
 use Rattle.slots.proofs.Slot as T
 use Rattle.slots.proofs.Slot.Laws as T′
 use Rattle.slots.proofs.Requires.{no-requires}
@@ -225,7 +225,7 @@ module _ {M : Type 1} (𝓤 : URA M) (H : Heap 𝓤) (A : Atoms 𝓤) (W : Given
         assigns ! (bin ! (load ! (from ! (stop !)) (look ! 22 refl)) (lit ! tt) (record { fits = place-fits (i .0) n (inside i e) (gn .1) })) (from ! (stop !)) (init ! 10 refl (tt, record { fits = place-fits (i .0) n (inside i e) (gn .1) })) $
         assigns ! (bin ! (load ! (from ! (stop !)) (look ! 22 refl)) (lit ! tt) (record { fits = bytes-fit (i .0) n (inside i e) (gn .1) })) (from ! (stop !)) (init ! 8 refl (tt, record { fits = bytes-fit (i .0) n (inside i e) (gn .1) })) $
         assigns ! (bin ! (load ! (from ! (fld ! refl (stop !))) (look-in ! 28 (sub ! 0 refl (whole !)))) (load ! (from ! (stop !)) (look ! 8 refl)) tt) (from ! (stop !)) (init ! 6 refl (tt, tt)) $
-        rewrite ! 6 (λ (p : ℕ). ‵ (fat fullShare tyPtr l₁₂ 0 (vptr (x .ptr .0) p))) (sym (place-is 12 (x .ptr .1) (i .0))) refl $
+        rewrite ! 6 (λ (p : ℕ). ‵ (fat fullShare tyPtr l₁₂ 0 (vptr (x .ptr .0) p))) (sym (place-is recordSize (x .ptr .1) (i .0))) refl $
         -- the slot is copied
         elem-out ! R (Is R) (shows 𝓤 H A R) (LL.vals T.the-type T′.the-laws) (LL.tells T.the-type T′.the-laws) q′ ys (i .0) noSlot (x .ptr .0) (x .ptr .1) (inside i e) (λ is.
         assigns ! (of-opd ! (load ! (from ! (hop ! (look ! 8 refl) (stop !))) (look-raw ! 0 refl))) (from ! (stop !)) (init ! 6 refl (LL.lawful T.the-type T′.the-laws 𝓤 H A W .typed (slotOf ys (i .0)) _ is .0)) $
@@ -234,7 +234,7 @@ module _ {M : Type 1} (𝓤 : URA M) (H : Heap 𝓤) (A : Atoms 𝓤) (W : Given
         rewrite ! 3 (λ (k : ℕ). ‵ (Own₁ (done-at (i .0)) k)) (sym (length-loaded ys ms (i .0))) refl $ lft-new ! tt (λ ν. move ! (4 ∷ 3 ∷ []) $
         use2 W (later (some (λ (δ : GName). ‵ (Lent ν δ (i .0) (length (done-at (i .0)))) ⊛ ‵ (LentAgain u32 κ₁ (ν ∷ []) q₁ γ b o δ (done-at (i .0)))))) (lends-again u32 κ₁ (ν ∷ []) q₁ γ b o 𝓤 H A W (named 1) (named 0) (done-at (i .0))) $ await ! tt $ pick ! (λ δ. split ! $
         rewrite ! 0 (λ (k : ℕ). ‵ (Lent ν δ (i .0) k)) (length-loaded ys ms (i .0)) refl $ move ! (2 ∷ 0 ∷ []) $
-        use2 W (raw (PutSlot 𝓤 H A mem run .pre (to ν δ (i .0)))) (asked ν δ (i .0) (place-fits (i .0) n (inside i e) (gn .1)) is (subst (λ (k : ℕ). i .0 * slotWidth + slotWidth ≤ k) (sym (length-loaded ys ms (i .0))) (three-more (i .0) c m (held (i .0) c e) room))) $
+        use2 W (raw (PutSlot 𝓤 H A mem run .pre (to ν δ (i .0)))) (asked ν δ (i .0) (place-fits (i .0) n (inside i e) (gn .1)) is (subst (λ (k : ℕ). i .0 * slotWidth + slotWidth ≤ k) (sym (length-loaded ys ms (i .0))) (slot-more (i .0) c m (held (i .0) c e) room))) $
         -- [what the callee asks; what is kept meanwhile; the row; the open borrow; _11; …]
         calls-at ! (fmOf 𝓤 H (W .laws) 𝓣) (PutSlot 𝓤 H A mem run) known (to ν δ (i .0)) (and-then ! (load ! (from ! (stop !)) (look ! 12 refl)) (and-then ! (load ! (from ! (stop !)) (look ! 10 refl)) (and-then ! (load ! (from ! (stop !)) (look ! 4 refl)) (no-more !)))) (λ u.
         use1 W (later (some (λ (r : Unit {0}). ((‵ (flft (ν ∷ []) fullShare) ⊛ ‵ ftrue) ⊛ ‵ (unit .own r (u ∷ []))) ⊛ raw (ensured 𝓤 H A put-slot.ended (put-slot.clauses 𝓤 H A mem run) (ν ∷ [], tt) (args δ (i .0)) tt r)))) (id⊢ 𝓤 _) $ await ! tt $ pick ! (λ r.

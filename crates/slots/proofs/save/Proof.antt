@@ -48,7 +48,7 @@ use Rattle.record.specs.Table.{slotWidth}
 use Rattle.slots.specs.declared.Slot.{Slot}
 use Rattle.slots.specs.Slots.{slotFrom}
 use Rattle.slots.proofs.Runs.{noSlot, saved, length-saved, saved-is}
-use Rattle.slots.proofs.Turns.{bytes-fit, place-fits, next-fits, three-more, less-left, one-more, held, over}
+use Rattle.slots.proofs.Turns.{recordSize, bytes-fit, place-fits, next-fits, slot-more, less-left, one-more, held, over}
 use Rattle.slots.proofs.Slot as T
 use Rattle.slots.proofs.Slot.Laws as T′
 use Rattle.slots.proofs.slot_from as slot-from
@@ -165,7 +165,7 @@ module _ {M : Type 1} (𝓤 : URA M) (H : Heap 𝓤) (A : Atoms 𝓤) (W : Given
         assigns ! (bin ! (load ! (from ! (stop !)) (look ! 16 refl)) (lit ! tt) (record { fits = place-fits (i .0) n (inside i e) (gn .1) })) (from ! (stop !)) (init ! 10 refl (tt, record { fits = place-fits (i .0) n (inside i e) (gn .1) })) $
         -- the callee gets a copy of the numbers' reference, and the token
         move ! (2 ∷ []) $ use1 W (‵ Own₁ ⊛ ‵ Own₁) (shr-slice-copy 𝓤 H A W (named 1) κ₁ u32 .twice x₁ (v₁ ∷ [])) $ split ! $ move ! (3 ∷ 0 ∷ []) $
-        use2 W (raw (SlotAt 𝓤 H A mem run .pre (to (i .0 * slotWidth)))) (asked (i .0 * slotWidth) (place-fits (i .0) n (inside i e) (gn .1)) (three-more (i .0) c (length ns) (held (i .0) c e) enough)) $
+        use2 W (raw (SlotAt 𝓤 H A mem run .pre (to (i .0 * slotWidth)))) (asked (i .0 * slotWidth) (place-fits (i .0) n (inside i e) (gn .1)) (slot-more (i .0) c (length ns) (held (i .0) c e) enough)) $
         -- [what the callee asks; the numbers; the row; the open borrow; obs; auth; _8; …]
         calls-at ! (fmOf 𝓤 H (W .laws) 𝓣) (SlotAt 𝓤 H A mem run) known (to (i .0 * slotWidth)) (and-then ! (load ! (from ! (stop !)) (look ! 20 refl)) (and-then ! (load ! (from ! (stop !)) (look ! 10 refl)) (no-more !))) (λ u.
         use1 W (later (some (λ (r : Slot). ((‵ (flft κ₁ q₁) ⊛ ‵ ftrue) ⊛ ‵ (R .own r (u ∷ []))) ⊛ raw (ensured 𝓤 H A slot-from.ended (slot-from.clauses 𝓤 H A mem run) (κ₁, tt) (x₁, (i .0 * slotWidth, tt)) tt r)))) (id⊢ 𝓤 _) $ await ! tt $ pick ! (λ r.
@@ -175,7 +175,7 @@ module _ {M : Type 1} (𝓤 : URA M) (H : Heap 𝓤) (A : Atoms 𝓤) (W : Given
         land ! (from ! (stop !)) (init ! 13 refl (LL.lawful T.the-type T′.the-laws 𝓤 H A W .typed r _ is .0)) $ move ! (1 ∷ []) $ split ! $
         assigns ! (bin ! (load ! (from ! (stop !)) (look ! 18 refl)) (lit ! tt) (record { fits = bytes-fit (i .0) n (inside i e) (gn .1) })) (from ! (stop !)) (init ! 10 refl (tt, record { fits = bytes-fit (i .0) n (inside i e) (gn .1) })) $
         assigns ! (bin ! (load ! (from ! (fld ! refl (stop !))) (look-in ! 24 (sub ! 0 refl (whole !)))) (load ! (from ! (stop !)) (look ! 10 refl)) tt) (from ! (stop !)) (init ! 8 refl (tt, tt)) $
-        rewrite ! 8 (λ (p : ℕ). ‵ (fat fullShare tyPtr l₉ 0 (vptr b p))) (sym (place-is 12 o (i .0))) refl $
+        rewrite ! 8 (λ (p : ℕ). ‵ (fat fullShare tyPtr l₉ 0 (vptr b p))) (sym (place-is recordSize o (i .0))) refl $
         -- the row of slots: element i is taken out, stored to, and put back
         move ! (4 ∷ []) $ elem-out ! R (Is R) (shows 𝓤 H A R) (LL.vals T.the-type T′.the-laws) (LL.tells T.the-type T′.the-laws) fullShare (saved ys ns (i .0)) (i .0) noSlot b o (within i (inside i e)) (λ _.
         assigns ! (of-opd ! (load ! (from ! (stop !)) (look ! 16 refl))) (from ! (hop ! (look ! 10 refl) (stop !))) (store-raw ! 0 refl (LL.lawful T.the-type T′.the-laws 𝓤 H A W .typed r _ is .0)) $

@@ -44,14 +44,26 @@ shared-slice-read-t16 c = search needs
 cast-t17 : tie.Need-cast-t17
 cast-t17 c = omega (arith, c .shared-slice-known3 .given (slotWidth * c .before .before .before .args .k + 2))
 
+add-t18 : tie.Need-add-t18
+add-t18 c = search needs
+
+mul-t19 : tie.Need-mul-t19
+mul-t19 c = search needs
+
+shared-slice-read-t21 : tie.Need-shared-slice-read-t21
+shared-slice-read-t21 c = search needs
+
+cast-t22 : tie.Need-cast-t22
+cast-t22 c = omega (arith, c .shared-slice-known4 .given (slotWidth * c .before .before .before .before .args .k + 3))
+
 returns : tie.Need-returns
 unfolding slotAt
 returns c =
-    let k = c .before .before .before .args .k in
+    let k = c .before .before .before .before .args .k in
     record {
       same = refl;
-      start = omega (arith, c .before .shared-slice-known2 .given (slotWidth * k + 1));
-      len = omega (arith, c .shared-slice-known3 .given (slotWidth * k + 2));
+      start = omega (arith, c .before .before .shared-slice-known2 .given (slotWidth * k + 1));
+      len = omega (arith, c .before .shared-slice-known3 .given (slotWidth * k + 2));
     }
 
 pub slot-at-spec : {M : Type 1} → statement M
@@ -70,4 +82,8 @@ slot-at-spec =
     mul-t14
     shared-slice-read-t16
     cast-t17
+    add-t18
+    mul-t19
+    shared-slice-read-t21
+    cast-t22
     returns)

@@ -38,7 +38,7 @@ set-slot-requires c κs =
     let kind = getD (s .args .sheet .now) (s .args .at + s .args .w) 0 in
     let size = c .before .before .before .before .length-at .result - 1 in
     let room = s .pre .1 in
-    (room .row, omega (arith, c .before .start-of .ensures, start-small kind (s .args .to) maxArea (omega (arith, room .room, room .limit))), omega (arith, c .items-of .ensures, items-small kind size, t .long, c .before .before .before .before .length-at .ensures, room .room, room .limit))
+    (room .row, omega (arith, c .before .start-of .ensures, start-small kind (s .args .to) maxArea (omega (arith, room .room, room .limit))), omega (arith, c .items-of .ensures, items-small kind size, t .long, c .before .before .before .before .length-at .ensures, room .room, room .limit), omega arith)
 
 add-copy : tie.Need-add-copy
 add-copy c = search needs
