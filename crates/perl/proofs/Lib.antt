@@ -1,13 +1,8 @@
 -- Laws of Perl templates. Numbers, Texts and Readings are laws of the definitions; Blocks and Turns serve the readers of the code, and Whole the
--- call. Sound (over Layouts) and Places (over Local) prove what specs/Claim.antt states.
-mod Examples
-mod Numbers
-mod Texts
-mod Readings
+-- call.
+pub mod Numbers
+pub mod Texts
+pub mod Readings
 mod Blocks
 mod Turns
 mod Whole
-mod Layouts
-pub mod Sound
-mod Local
-pub mod Places

@@ -1,0 +1,6 @@
+-- Sound (over Layouts) and Places (over Local) prove what specs/Claim.antt states.
+mod Examples
+mod Layouts
+pub mod Sound
+mod Local
+pub mod Places

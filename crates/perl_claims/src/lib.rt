@@ -1,0 +1,1 @@
+// What is proved of Perl templates besides the call: claims about the definitions, worked examples, and no code.
