@@ -113,6 +113,17 @@
  * The result of packing is as long as the highest position reached; bytes in it that nothing stored are zero.
  *
  *
+ * COMPOSING RECORDS
+ *
+ * A record may be made of parts: a cover with the candidate's name, a leg with the marks. Put the layout of the leg
+ * right behind that of the cover, with or without a space, and its slots behind the cover's slots. Packing by the
+ * whole, over one area, then gives the bytes of the cover and behind them the bytes of the leg, just as each layout
+ * gives them alone: the cover `A8 Iu` and the leg `S2 c` make `A8 IuS2 c`. This is so for every two layouts without
+ * X and @, with `*` too, where each part alone is accepted, the whole keeps to the sizes and the output run has
+ * room for it. The empty layout, with no slots, adds nothing, in front or behind, and of three parts it does not
+ * matter which two are put together first. A part that has an X or an @ may reach into the part in front of it.
+ *
+ *
  * READING: THE MARK, AND RECORDS THAT ARE TOO SHORT
  *
  * The mark is the place in the area where the first value goes. The values follow one another from there

@@ -27,19 +27,24 @@ pub decoded-more : (n w : ℕ) (ws : List ℕ) → n < length ws → decoded (n 
 unfolding decoded
 decoded-more n w ws h = rw (add-one, take-suc-set ws n w h) (map-append fieldOf (take n ws) (w ∷ []))
 
+-- the slots of joined fields
+pub count-append : (fs gs : List Field) → slotCount (fs ++ gs) ≡ slotCount fs + slotCount gs
+unfolding slotCount
+count-append [] gs = omega arith
+count-append (f ∷ fs) gs = step (takesSlot (f .code)) (count-append fs gs)
+  where
+    step : (t : Bool) → slotCount (fs ++ gs) ≡ slotCount fs + slotCount gs
+        → (if t then suc (slotCount (fs ++ gs)) else slotCount (fs ++ gs)) ≡ (if t then suc (slotCount fs) else slotCount fs) + slotCount gs
+    step true h = omega arith
+    step false h = h
+
 pub slots-more : (fs : List Field) (f : Field) → slotCount (fs ++ (f ∷ [])) ≡ slotCount fs + slotsTaken f
 unfolding slotCount
-slots-more [] f = none (takesSlot (f .code))
+slots-more fs f = count-append fs (f ∷ []) ∙ ap (λ (n : ℕ). slotCount fs + n) (one (takesSlot (f .code)))
   where
-    none : (t : Bool) → (if t then 1 else 0) ≡ 0 + toNat t
-    none true = refl
-    none false = refl
-slots-more (g ∷ fs) f = step (takesSlot (g .code)) (slots-more fs f)
-  where
-    step : (t : Bool) → slotCount (fs ++ (f ∷ [])) ≡ slotCount fs + slotsTaken f
-        → (if t then suc (slotCount (fs ++ (f ∷ []))) else slotCount (fs ++ (f ∷ []))) ≡ (if t then suc (slotCount fs) else slotCount fs) + slotsTaken f
-    step true e = omega arith
-    step false e = e
+    one : (t : Bool) → (if t then 1 else 0) ≡ toNat t
+    one true = refl
+    one false = refl
 
 pub slots-le : (f : Field) → slotsTaken f ≤ 1
 slots-le f = bit-le (takesSlot (f .code))

@@ -48,6 +48,16 @@ pub demand-true : (t : Bool) (n : Refusal) (p : ℕ) → demand t n p ≡ ok tt 
 demand-true true n p e = refl
 demand-true false n p e = no-refusal e
 
+-- a check that passed at one place passes at another
+pub still : {A : Type 0} {a : A} (t : Bool) (why : Refusal) (i j : ℕ) (r s : Result A) → (r ≡ ok a → s ≡ ok a)
+    → (demand t why i >>= (λ _. r)) ≡ ok a → (demand t why j >>= (λ _. s)) ≡ ok a
+still true why i j r s k e = k e
+still false why i j r s k e = no-refusal e
+
+pub still-last : (t : Bool) (why : Refusal) (i j : ℕ) → demand t why i ≡ ok tt → demand t why j ≡ ok tt
+still-last true why i j e = refl
+still-last false why i j e = no-refusal e
+
 pub no-number-zero {ℓ} : {X : Type ℓ} (n : Refusal) → numberOf n ≡ 0 → X
 no-number-zero n e = absurd (suc-ne-zero _ e)
 

@@ -1,4 +1,4 @@
--- Laws of layout text. Laws, Numbered, Decoded, Places and the last laws of Steps are for the crates above; Letters, Steps and Turns serve `parse`.
+-- Laws of layout text. Laws, Numbered, Decoded, Places, Joining and the last laws of Steps are for the crates above; Letters, Steps and Turns serve `parse`.
 mod Letters
 pub mod Steps
 mod Turns
@@ -6,3 +6,4 @@ pub mod Laws
 pub mod Numbered
 pub mod Decoded
 pub mod Places
+pub mod Joining

@@ -10,3 +10,4 @@ pub mod Fields
 pub mod Moves
 pub mod Widening
 pub mod Readings
+pub mod Arguments

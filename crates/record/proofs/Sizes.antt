@@ -3,7 +3,7 @@ use Prim.Native.Nat.{ℕ, _*_, _%_, _≤_, _<_}
 use mathlib.Core.Path.{_≡_, refl}
 use mathlib.Core.Bool.{Bool, true, false, _&&_}
 use lib.Dec.{eqb, leb}
-use borrow.Author.Tests.{eqb-true, leb-true, lt-leb}
+use borrow.Author.Tests.{eq-eqb, eqb-true, le-leb, leb-true, lt-leb}
 use Rattle.layout.specs.Layout.{maxLayout}
 use Rattle.record.specs.Table.{slotWidth, maxSlots, maxRecord, maxArea}
 use Rattle.record.specs.Geometry.{recordFits, tableFits, lengthsFit}
@@ -30,6 +30,16 @@ sized {layout} {slots} {bytes} {area} h =
     let (fits, lent) = and-true (recordFits layout bytes) (tableFits slots area) h in
     let (text, whole) = and-true (leb layout maxLayout) (leb bytes maxRecord) fits in
     record { text = leb-true layout maxLayout text; whole = leb-true bytes maxRecord whole; lent = table-sized lent }
+
+pub sized-fits : {layout slots bytes area : ℕ} → Sized layout slots bytes area → lengthsFit layout slots bytes area ≡ true
+sized-fits {layout} {slots} {bytes} {area} h =
+    rw (
+      le-leb layout maxLayout (h .text),
+      le-leb bytes maxRecord (h .whole),
+      le-leb slots (slotWidth * maxSlots) (h .lent .table),
+      eq-eqb (slots % slotWidth) 0 (h .lent .rows),
+      le-leb area maxArea (h .lent .limit),
+    )
 
 and-false : (t : Bool) → (t && false) ≡ false
 and-false true = refl

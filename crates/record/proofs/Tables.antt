@@ -1,13 +1,13 @@
 -- Laws of slot tables: the slots are the numbers, so many to a slot; and what the kinds say of each other.
-use Prim.Native.Nat.{ℕ, zero, suc, _+_, _*_, _/_, _≤_, _<_}
+use Prim.Native.Nat.{ℕ, zero, suc, _+_, _*_, _/_, _%_, _≤_, _<_}
 use native.Mathlib.Nat.{eq-or-lt-of-le}
 use native.Mathlib.Omega.{arith}
-use mathlib.Core.Path.{_≡_, refl, sym, ap, _∙_}
+use mathlib.Core.Path.{_≡_, refl, sym, ap, ap₂, _∙_}
 use mathlib.Core.Bool.{Bool, true, false, _||_}
 use mathlib.Core.Logic.{⊎-elim}
-use mathlib.Core.List.{List, [], _∷_}
-use lib.ListN.{length, take, drop}
-use lib.Seq.{drop-nil}
+use mathlib.Core.List.{List, [], _∷_, _++_}
+use lib.ListN.{length, take, drop, take-append-drop}
+use lib.Seq.{drop-nil, take-at, drop-at}
 use lib.Dec.{eqb}
 use borrow.Author.Tests.{eqb-true, eq-eqb, ne-eqb}
 use Rattle.record.specs.declared.slots.Slot.{Slot}
@@ -48,6 +48,16 @@ slots-take (suc n) ns = rw (four n) (go ns (slots-take n))
     go (k ∷ s ∷ []) ih = refl
     go (k ∷ s ∷ c ∷ []) ih = refl
     go (k ∷ s ∷ c ∷ p ∷ rest) ih = ap (λ (r : List Slot). record { kind = k; start = s; len = c; position = p } ∷ r) (ih rest)
+
+-- whole slots in front of others
+pub slots-append : (xs ys : List ℕ) → length xs % slotWidth ≡ 0 → slotsOf (xs ++ ys) ≡ slotsOf xs ++ slotsOf ys
+slots-append xs ys h =
+    let n : ℕ = length xs / slotWidth in
+    let whole : length xs ≡ slotWidth * n = omega arith in
+    sym (take-append-drop n (slotsOf (xs ++ ys)))
+    ∙ ap₂ (λ (a b : List Slot). a ++ b)
+    (sym (slots-take n (xs ++ ys)) ∙ ap slotsOf (take-at xs ys (slotWidth * n) whole))
+    (drop-slots n (xs ++ ys) ∙ ap slotsOf (drop-at xs ys (slotWidth * n) whole))
 
 -- ---- kinds
 

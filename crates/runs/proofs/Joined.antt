@@ -1,7 +1,7 @@
 -- Where the cursor only goes forward every field stores its bytes at the end, so packing joins the fields' bytes.
 use Prim.Native.Nat.{ℕ, _+_, _<_}
 use native.Mathlib.Omega.{arith}
-use mathlib.Core.Path.{_≡_, refl, sym, ap, _∙_}
+use mathlib.Core.Path.{_≡_, refl, sym, ap, ap₂, _∙_}
 use mathlib.Core.Bool.{Bool}
 use mathlib.Core.List.{List, [], _∷_, _++_, append-nil, append-assoc}
 use lib.ListN.{length, drop, replicate, length-append, drop-of-length-le}
@@ -80,6 +80,14 @@ pub joined-append : (fs gs : List Filled) → joined (fs ++ gs) ≡ joined fs ++
 unfolding joined
 joined-append [] gs = refl
 joined-append (a ∷ fs) gs = ap (λ (r : List ℕ). bytesOf (a .field .code) (a .field .count) (a .items) ++ r) (joined-append fs gs) ∙ sym (append-assoc (bytesOf (a .field .code) (a .field .count) (a .items)) (joined fs) (joined gs))
+
+forward-both : (fs gs : List Filled) → Forward fs → Forward gs → Forward (fs ++ gs)
+forward-both [] gs h k = k
+forward-both (a ∷ fs) gs h k = (h .0, forward-both fs gs (h .1) k)
+
+pub packed-append : (fs gs : List Filled) → Forward fs → Forward gs → packed (fs ++ gs) ≡ packed fs ++ packed gs
+packed-append fs gs h k =
+    packed-joined (fs ++ gs) (forward-both fs gs h k) ∙ joined-append fs gs ∙ sym (ap₂ (λ (x y : List ℕ). x ++ y) (packed-joined fs h) (packed-joined gs k))
 
 -- what the fields say of the cursor holds of them with their arguments
 forward-step : (area : List ℕ) (fs : List Field) → ((ts : List Slot) → Forward (filled area ts fs)) → (ts : List Slot) (k : Code) (u : Bool) (n : Count) → T (plainCode k)
