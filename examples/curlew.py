@@ -36,7 +36,7 @@ SLOT_SIZE = 16
 NO_POSITION = 4294967295
 ITEM_SIZE = 8
 PACK_REPLY = 12
-READ_REPLY = 12
+READ_REPLY = 16
 SHEET_REPLY = 12
 RESCUE_REPLY = 16
 COMPARE_REPLY = 12
@@ -199,6 +199,12 @@ def positions(layout, record):
     """The bytes of the record at which the fields with values begin, for those that the record has."""
     reply, slots, _ = _read(layout, record)
     return [position for _, _, _, position in struct.iter_unpack(">4I", slots)][:_numbers(reply)[0]]
+
+
+def steps(layout, record):
+    """How many fields a reading carries out, those without a value and the one that comes up short included."""
+    reply, _, _ = _read(layout, record)
+    return struct.unpack_from(">I", reply, 12)[0]
 
 
 def sheet_write(values):

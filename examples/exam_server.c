@@ -27,6 +27,7 @@ struct table {
     size_t count;
     uint8_t area[AREA];
     size_t used;
+    size_t steps; /* fields that the reading carried out */
 };
 
 struct record {
@@ -140,6 +141,7 @@ static int read_record(const char *layout, const struct record *record, struct t
     }
     table->count = curlew_get_answer(reply).first;
     table->used = curlew_get_answer(reply).second;
+    table->steps = curlew_get_steps(reply);
     return 1;
 }
 
@@ -229,6 +231,23 @@ static void print_table(const char *layout, size_t fields, const struct record *
     for (i = 0; i < count; i++) {
         if (read_record(layout, &records[i], &table))
             print_row(&table, fields);
+    }
+}
+
+/* How much work a reading was: the fields that were set, and the one that came up short. */
+static void print_steps(const char *layout, const struct record *records, size_t count)
+{
+    struct table table;
+    char number[CELL];
+    size_t i;
+
+    printf("\nfields carried out in reading by %s\n", layout);
+    for (i = 0; i < count; i++) {
+        if (!read_record(layout, &records[i], &table))
+            continue;
+        show(&table, 0, number);
+        print_cell(number, 0);
+        printf("%u, %u of them set\n", (unsigned)table.steps, (unsigned)table.count);
     }
 }
 
@@ -445,6 +464,7 @@ int main(void)
     cut(&records[3], 23, candidates[3].number);
     print_table(old_layout, 4, records, CANDIDATES);
     print_table(new_layout, FIELDS, records, CANDIDATES);
+    print_steps(new_layout, records, CANDIDATES);
     show_sheets();
     show_rescue();
     show_means();

@@ -146,6 +146,10 @@
  * the length that its fields fill. Read such a record and pack the slots by the same layout, and you have it back;
  * two of them that show the same values are the same bytes.
  *
+ * The reply of a reading is CURLEW_READ_REPLY (16) bytes: behind the answer's three numbers it has the steps, how many
+ * fields were carried out, x X @ included, and the one that came up short; fields behind that one do not count. It is never
+ * more than the layout has bytes, and 0 where the reading is refused. curlew_get_steps gets it.
+ *
  *
  * SHEETS: A TABLE KEPT IN A FILE
  *
@@ -247,7 +251,7 @@
  * Every call returns a number and writes three big-endian 32-bit numbers into the reply, the same one first:
  *
  *   packed          CURLEW_OK, length of the result, 0
- *   read            CURLEW_OK, how many slots were set, place in the area after the last value
+ *   read            CURLEW_OK, how many slots were set, place in the area after the last value (and the steps behind them)
  *   sheet written   CURLEW_OK, length of the sheet, 0
  *   sheet read      CURLEW_OK, how many entries there were, place in the area after the last value
  *   sheet rescued   CURLEW_OK, entries kept, slots cleared (and the bytes dropped behind them)
@@ -395,7 +399,7 @@
 #define CURLEW_SLOT_SIZE 16
 #define CURLEW_ITEM_SIZE 8
 #define CURLEW_PACK_REPLY 12
-#define CURLEW_READ_REPLY 12
+#define CURLEW_READ_REPLY 16
 #define CURLEW_SHEET_REPLY 12
 #define CURLEW_RESCUE_REPLY 16
 #define CURLEW_COMPARE_REPLY 12
@@ -633,6 +637,12 @@ static inline struct curlew_answer curlew_get_answer(const uint8_t *reply)
 
 /* The bytes dropped, out of a reply of curlew_sheet_rescue. */
 static inline uint32_t curlew_get_dropped(const uint8_t *reply)
+{
+    return curlew_get_number(reply + 12);
+}
+
+/* The steps, out of a reply of curlew_read. */
+static inline uint32_t curlew_get_steps(const uint8_t *reply)
 {
     return curlew_get_number(reply + 12);
 }

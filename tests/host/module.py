@@ -46,6 +46,7 @@ def values():
     equal(curlew.read(" ".join("c" * 64), bytes(range(40))), [[k] for k in range(40)] + [None] * 24)
     equal(curlew.positions("a2 x c* @1 c", b"abcde"), [0, 3, 1])
     equal(curlew.positions("a2 c S", b"abc"), [0, 2])
+    equal([curlew.steps("a2 x c S", record) for record in (b"", b"ab", b"abcde", b"abcdef")], [1, 3, 4, 4])
     equal(curlew.pack("", []), b"")
     equal(curlew.pack("A6", ["Zoë"]), b"Zo\xc3\xab  ")
     equal(curlew.read("A6", b"Zo\xc3\xab  ", text="utf-8"), ["Zoë"])

@@ -42,10 +42,10 @@ pub fn compare(
         fields,
         first_slots,
         first_area,
-        p.first as usize,
+        p.answer.first as usize,
         second_slots,
         second_area,
-        q.first as usize,
+        q.answer.first as usize,
     );
     b
 }

@@ -1,7 +1,7 @@
 -- Laws of a packing followed by a reading: the record lies in the buffer, and demand 3 of the two calls.
 use Prim.Native.Nat.{ℕ, _≤_, _<_, min}
 use native.Mathlib.Omega.{arith}
-use mathlib.Core.Path.{sym, _≡_, ap, _∙_, subst}
+use mathlib.Core.Path.{sym, _≡_, ap, ap₂, _∙_, subst}
 use mathlib.Core.Bool.{Bool}
 use mathlib.Core.List.{List, map}
 use lib.ListN.{length-append, length, take, length-take}
@@ -10,13 +10,14 @@ use borrow.Author.Tests.{eq-eqb, ne-eqb}
 use Rattle.layout.specs.Refusals.{Result, ok, refused, _>>=_}
 use Rattle.layout.proofs.Laws.{no-number-zero}
 use Rattle.record.specs.declared.Answer.{Answer}
+use Rattle.record.specs.declared.ReadAnswer.{ReadAnswer}
 use Rattle.record.specs.Table.{slotsOf, shown}
 use Rattle.record.specs.Slots.{slotAt}
 use Rattle.record.specs.Packing.{packs, pack, packEffect, Packed, accepted}
-use Rattle.record.specs.Reading.{Read, read, putInto}
+use Rattle.record.specs.Reading.{Read, putInto, withSteps, readAll}
 use Rattle.record.proofs.Fields.{split}
 use Rattle.runs.specs.Ends.{endOf}
-use Rattle.evolution.specs.Claim.{Layouts, packedBy, fieldsBy, due, starts, ReadsBack}
+use Rattle.evolution.specs.Claim.{Layouts, packedBy, fieldsBy, due, starts, carriedOut, ReadsBack}
 use Rattle.evolution.specs.Calls.{Lent, PackedAndRead, packing, thenRead, packedAndRead, Meant, KeepsBack, ReadsBackAs}
 use Rattle.evolution.proofs.ReadsBack.{reads-back}
 
@@ -41,22 +42,22 @@ take-least cut n xs =
 -- ---- the two calls
 
 abbrev readPart : PackedAndRead → Read
-readPart x = record { answer = x .answer; slots = x .table; area = x .values }
+readPart x = record { answer = x .answer .answer; slots = x .table; area = x .values }
 
 module _ (c : Lent) where
   module _ (a : Answer) (out : List ℕ) (called : record { answer = a; output = out } ≡ packing c) where
-    pub then-refused : (a .number ≡ 0 → ⊥) → record { answer = a; output = out; table = c .table; values = c .values } ≡ packedAndRead c
+    pub then-refused : (a .number ≡ 0 → ⊥) → record { answer = record { answer = a; steps = 0 }; output = out; table = c .table; values = c .values } ≡ packedAndRead c
     unfolding packedAndRead
     then-refused h = rw (← called, ne-eqb (a .number) 0 h)
 
-    pub then-read : a .number ≡ 0 → (k : ℕ) → k ≡ min (c .cut) (a .first) → (r : Answer) (table′ values′ : List ℕ)
-        → record { answer = r; slots = table′; area = values′ } ≡ read (c .readBy) (take k out) (c .table) (c .values) (c .mark)
+    pub then-read : a .number ≡ 0 → (k : ℕ) → k ≡ min (c .cut) (a .first) → (r : ReadAnswer) (table′ values′ : List ℕ)
+        → record { answer = r; slots = table′; area = values′ } ≡ readAll (c .readBy) (take k out) (c .table) (c .values) (c .mark)
         → record { answer = r; output = out; table = table′; values = values′ } ≡ packedAndRead c
     unfolding packedAndRead
     then-read h k least r table′ values′ e =
         rw (← called, eq-eqb (a .number) 0 h)
         (ap (thenRead (record { answer = a; output = out }))
-        (e ∙ ap (λ (bs : List ℕ). read (c .readBy) bs (c .table) (c .values) (c .mark)) (ap (λ (i : ℕ). take i out) least ∙ sym (take-least (c .cut) (a .first) out))))
+        (e ∙ ap (λ (bs : List ℕ). readAll (c .readBy) bs (c .table) (c .values) (c .mark)) (ap (λ (i : ℕ). take i out) least ∙ sym (take-least (c .cut) (a .first) out))))
 
   -- demand 3, of two calls that are such as it speaks of
   module _ (l : Layouts) (packed layout : Bool) (h : Meant l packed layout c) where
@@ -70,11 +71,13 @@ module _ (c : Lent) where
     accepts = ap (λ (a : Answer). a .number) (back .packings packed)
 
     -- what is left, as the claim says it
-    left : packedAndRead c ≡ thenRead (packedBy l packed) (putInto (c .table) (c .values) (c .mark) (starts l) (due l layout (c .cut)))
+    left : packedAndRead c ≡ thenRead (packedBy l packed) (withSteps (putInto (c .table) (c .values) (c .mark) (starts l) (due l layout (c .cut))) (carriedOut (c .cut) 0 (fieldsBy l layout)))
     unfolding packedAndRead
     left =
         rw (same-packing, eq-eqb (packedBy l packed .answer .number) 0 accepts, h .reader)
-        (ap (thenRead (packedBy l packed)) (back .readings packed layout (c .cut) (c .table) (c .values) (c .mark) (h .reading)))
+        (ap₂ (λ (x : Read) (k : ℕ). thenRead (packedBy l packed) (withSteps x k))
+        (back .readings packed layout (c .cut) (c .table) (c .values) (c .mark) (h .reading))
+        (back .steps packed layout (c .cut) (c .table) (c .values) (c .mark) (h .reading)))
 
     kept : KeepsBack l packed layout c (packedAndRead c)
     kept =
@@ -93,6 +96,7 @@ module _ (c : Lent) where
               ap (λ (x : PackedAndRead). slotAt (x .table) i .position) left
               ∙ ap (λ (r : Read). slotAt (r .slots) i .position) (sym (back .readings packed layout (c .cut) (c .table) (c .values) (c .mark) (h .reading)))
               ∙ back .positions packed layout (c .cut) (c .table) (c .values) (c .mark) (h .reading) i inside;
+          steps = ap (λ (x : PackedAndRead). x .answer .steps) left;
         }
 
   -- so the effect of the calls keeps the whole promise

@@ -16,7 +16,7 @@ use Rattle.layout.specs.Quoted.{bytes}
 use Rattle.record.specs.Table.{slotsOf, valueBytes}
 use Rattle.record.specs.Packing.{pack, filled, argumentsFit}
 use Rattle.runs.specs.Ends.{endOf}
-use Rattle.evolution.specs.Claim.{Layouts, Reading, plain, due, setBy, startsFrom, starts}
+use Rattle.evolution.specs.Claim.{Layouts, Reading, plain, due, setBy, startsFrom, starts, carriedOut, fieldsBy}
 
 -- `a3` and then `a03 xS`, with the arguments "ab" and {-2}
 pair : Layouts
@@ -68,6 +68,11 @@ due-six = refl
 starts-pair : starts pair ≡ 0 ∷ 4 ∷ []
 unfolding pair startsFrom
 starts-pair = refl
+
+-- cut at 5, and at 3 already, the new layout's steps are `a03`, `x` and the short `S`; the old layout has one
+steps-cut : (carriedOut 5 0 (fieldsBy pair true) ≡ 3) × (carriedOut 3 0 (fieldsBy pair true) ≡ 3) × (carriedOut 6 0 (fieldsBy pair false) ≡ 1)
+unfolding pair carriedOut
+steps-cut = (refl, refl, refl)
 
 due-old : due pair false 6 ≡ record { kind = 1; items = 97 ∷ 98 ∷ 0 ∷ [] } ∷ []
 unfolding pair setBy filled slotsOf

@@ -17,15 +17,15 @@ use Rattle.record.specs.Table.{slotsOf, noPosition, shown}
 use Rattle.record.specs.Slots.{slotAt}
 use Rattle.record.specs.Packing.{accepted, Filled, filled, argumentsFit, packed, pack, packEffect, Packed}
 use Rattle.record.specs.Geometry.{sizesFit}
-use Rattle.record.specs.Reading.{Read, valuesFrom, positionsFrom, read, putInto}
+use Rattle.record.specs.Reading.{Read, valuesFrom, positionsFrom, read, readSteps, putInto}
 use Rattle.runs.specs.Ends.{plainCode, plainCount, endOf, recordOf}
 use Rattle.runs.proofs.Joined.{joined, joined-append, packed-joined}
-use Rattle.runs.proofs.Calls.{T→true, packs-by, read-by}
+use Rattle.runs.proofs.Calls.{T→true, packs-by, read-by, steps-by}
 use Rattle.runs.proofs.Shown.{shows-put, put-same, position-put}
-use Rattle.evolution.specs.Claim.{startsFrom, starts, plain, Layouts, packedBy, textOf, outputBy, slotsBy, fieldsBy, due, cutRecord, Reading, ReadsBack}
+use Rattle.evolution.specs.Claim.{startsFrom, starts, carriedOut, plain, Layouts, packedBy, textOf, outputBy, slotsBy, fieldsBy, due, cutRecord, Reading, ReadsBack}
 use Rattle.record.proofs.Tables.{slots-take}
 use Rattle.record.proofs.Bytes.{both}
-use Rattle.evolution.proofs.Run.{AllGood, length-joined, all-forward, agree, begun}
+use Rattle.evolution.proofs.Run.{AllGood, length-joined, all-forward, agree, begun, carried}
 use Rattle.evolution.proofs.Proper.{set-proper}
 use Rattle.evolution.proofs.Arguments.{fields-filled, front, spare, fit-front, all-good}
 
@@ -182,5 +182,10 @@ module _ (l : Layouts) where
     placing : (i : ℕ) → i < length (due l q cut) → slotAt (read (textOf l q) (cutRecord l p cut) slots area mark .slots) i .position ≡ getD (starts l) i noPosition
     placing i inside = ap (λ (r : Read). slotAt (r .slots) i .position) reading ∙ position-put slots area mark (starts l) (due l q cut) i inside
 
+    working : readSteps (textOf l q) (cutRecord l p cut) slots area mark ≡ carriedOut cut 0 (fieldsBy l q)
+    working =
+        steps-by (textOf l q) (cutRecord l p cut) slots area mark (fieldsBy l q) (text-reads q .0) (T→true _ (h .sizes)) (h .enough-slots) (rw v (h .room))
+        ∙ rw (cut-is p cut (h .within), length-take-le cut whole (inside p cut (h .within)), ← fields-filled (l .area) (slotsOf (l .slots)) (fieldsBy l q)) (carried cut (args q) (good q) 0 (omega arith))
+
   pub reads-back : ReadsBack l
-  reads-back = record { packings = packings; readings = reading; shows = showing; positions = placing }
+  reads-back = record { packings = packings; readings = reading; shows = showing; positions = placing; steps = working }

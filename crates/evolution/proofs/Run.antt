@@ -17,10 +17,10 @@ use Rattle.layout.specs.Words.{FitCode}
 use Rattle.record.specs.Table.{noPosition, Value}
 use Rattle.record.specs.Geometry.{amount, bytesFor, itemsIn}
 use Rattle.record.specs.Packing.{stored, Filled}
-use Rattle.record.specs.Reading.{loaded, valuesFrom, positionsFrom}
+use Rattle.record.specs.Reading.{loaded, valuesFrom, positionsFrom, stepsFrom}
 use Rattle.runs.specs.Ends.{plainCode, fills, endOf}
 use Rattle.runs.proofs.Joined.{bytesOf, joined, Forward}
-use Rattle.evolution.specs.Claim.{setBy, startsFrom}
+use Rattle.evolution.specs.Claim.{setBy, startsFrom, carriedOut}
 use Rattle.record.proofs.Bytes.{drop-take}
 use Rattle.record.proofs.Fields.{Served, length-stored, fills-some, split}
 use Rattle.evolution.proofs.Fields.{back}
@@ -203,3 +203,43 @@ module _ (bs : List ℕ) (gs : List Field) where
   unfolding valuesFrom fieldsIn
   begun [] h = λ at le i l. none i l _ _
   begun (a ∷ rest) h = begun-step rest (h .1) (begun rest (h .1)) (a .field .code) (a .field .unsigned) (a .field .count) (a .items) (h .0)
+
+-- ---- steps: the reader takes as many as are due, also where an `x` has taken it to the cut
+
+module _ (cut : ℕ) where
+  -- at the cut, with fields due past it
+  at-cut-step : (rest : List Filled) → ((b : ℕ) → cut < b → stepsFrom cut cut (fieldsIn rest) ≡ carriedOut cut b (fieldsIn rest))
+      → (k : Code) (u : Bool) (n : Count) (xs : List ℕ) → Good k n xs → (b : ℕ) → cut < b → stepsFrom cut cut (fieldsIn (one k u n xs ∷ rest)) ≡ carriedOut cut b (fieldsIn (one k u n xs ∷ rest))
+  unfolding stepsFrom carriedOut fills fieldsIn
+  at-cut-step rest ih (Data s) u n xs h b l =
+      rw (h .3 (itemsIn s (cut - cut)), lt-leb (bytesFor s (amount n 0)) (cut - cut) (omega (arith, fills-some s (amount n 0) (h .0) (h .2))), lt-leb (b + bytesFor s (amount n 0)) cut (omega arith))
+  at-cut-step rest ih (Move Skip) u n xs h b l = let e : min (cut + amount n cut) cut ≡ cut = omega arith in rw e (ap suc (ih (b + amount n 0) (omega arith)))
+  at-cut-step rest ih (Move Back) u n xs h b l = absurd h
+  at-cut-step rest ih (Move Goto) u n xs h b l = absurd h
+
+  at-cut : (fs : List Filled) → AllGood fs → (b : ℕ) → cut < b → stepsFrom cut cut (fieldsIn fs) ≡ carriedOut cut b (fieldsIn fs)
+  unfolding stepsFrom carriedOut fieldsIn
+  at-cut [] h = λ b l. refl
+  at-cut (a ∷ rest) h = at-cut-step rest (at-cut rest (h .1)) (a .field .code) (a .field .unsigned) (a .field .count) (a .items) (h .0)
+
+  carried-step : (rest : List Filled) → AllGood rest → ((at : ℕ) → at ≤ cut → stepsFrom cut at (fieldsIn rest) ≡ carriedOut cut at (fieldsIn rest))
+      → (k : Code) (u : Bool) (n : Count) (xs : List ℕ) → Good k n xs → (at : ℕ) → at ≤ cut → stepsFrom cut at (fieldsIn (one k u n xs ∷ rest)) ≡ carriedOut cut at (fieldsIn (one k u n xs ∷ rest))
+  unfolding stepsFrom carriedOut fills fieldsIn
+  carried-step rest hs ih (Data s) u n xs h at le =
+      let need : ℕ = bytesFor s (amount n 0) in
+      rw (h .3 (itemsIn s (cut - at)))
+      (split (at + need) cut
+      (λ (k : at + need ≤ cut). rw (le-leb need (cut - at) (omega arith), le-leb (at + need) cut k) (ap suc (ih (at + need) k)))
+      (λ (k : cut < at + need). rw (lt-leb need (cut - at) (omega arith), lt-leb (at + need) cut k)))
+  carried-step rest hs ih (Move Skip) u n xs h at le =
+      rw (h cut)
+      (split (at + amount n 0) cut
+      (λ (k : at + amount n 0 ≤ cut). let here : min (at + amount n 0) cut ≡ at + amount n 0 = omega arith in rw here (ap suc (ih (at + amount n 0) k)))
+      (λ (k : cut < at + amount n 0). let end : min (at + amount n 0) cut ≡ cut = omega arith in rw end (ap suc (at-cut rest hs (at + amount n 0) k))))
+  carried-step rest hs ih (Move Back) u n xs h at le = absurd h
+  carried-step rest hs ih (Move Goto) u n xs h at le = absurd h
+
+  pub carried : (fs : List Filled) → AllGood fs → (at : ℕ) → at ≤ cut → stepsFrom cut at (fieldsIn fs) ≡ carriedOut cut at (fieldsIn fs)
+  unfolding stepsFrom carriedOut fieldsIn
+  carried [] h = λ at le. refl
+  carried (a ∷ rest) h = carried-step rest (h .1) (carried rest (h .1)) (a .field .code) (a .field .unsigned) (a .field .count) (a .items) (h .0)

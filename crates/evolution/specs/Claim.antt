@@ -1,6 +1,6 @@
 -- Demand 3 (document 01, "What demand 3 reads back"): one claim about both packings and every reading.
 -- Each definition names the part of that section that it states. The proof is in proofs/ReadsBack.antt.
-use Prim.Native.Nat.{ℕ, _+_, _*_, _%_, _^_, _≤_, _<_}
+use Prim.Native.Nat.{ℕ, suc, _+_, _*_, _%_, _^_, _≤_, _<_}
 use mathlib.Core.Path.{_≡_}
 use mathlib.Core.Bool.{Bool, true, false, _&&_}
 use mathlib.Core.List.{List, [], _∷_, _++_, map}
@@ -17,7 +17,7 @@ use Rattle.record.specs.Table.{string, integerKind, slotsOf, Value, shown, slot
 use Rattle.record.specs.Slots.{slotAt}
 use Rattle.record.specs.Geometry.{amount, sizesFit}
 use Rattle.record.specs.Packing.{Filled, filled, argumentsFit, accepted, Packed, pack}
-use Rattle.record.specs.Reading.{trimmed, widened, putInto, read}
+use Rattle.record.specs.Reading.{trimmed, widened, putInto, read, readSteps}
 use Rattle.runs.specs.Ends.{plainCode, plainCount, fills, endOf, recordOf}
 
 -- ---- a plain layout: no star, no `X`, no `@`, no count of 0
@@ -71,6 +71,21 @@ startsFrom before (f ∷ fs) =
     elim (f .code) [
       | Data s ↦ before ∷ later
       | Move m ↦ later
+    ]
+
+-- ---- the steps of a reading of a cut record
+
+-- All fields up to the first value field that ends past the cut, and that one, which comes up short (02, M-112). `before` is the end of the fields
+-- before. An `x` is carried out wherever it ends; behind one that ends past the cut the next value field is short.
+unfoldable pub carriedOut : ℕ → ℕ → List Field → ℕ
+unfolding fills
+carriedOut cut before [] = 0
+carriedOut cut before (f ∷ fs) =
+    let end = before + fills (f .code) (f .count) in
+    let on = suc (carriedOut cut end fs) in
+    elim (f .code) [
+      | Data s ↦ if leb end cut then on else 1
+      | Move m ↦ on
     ]
 
 -- ---- the premises
@@ -162,3 +177,7 @@ pub record ReadsBack (l : Layouts) : Type 0 where
       (packing layout : Bool) (k : ℕ) (slots area : List ℕ) (mark : ℕ) → Reading l packing layout k slots area mark
       → (i : ℕ) → i < length (due l layout k)
       → slotAt (read (textOf l layout) (cutRecord l packing k) slots area mark .slots) i .position ≡ getD (starts l) i noPosition
+  -- The fourth number of the answer: the steps.
+  pub steps :
+      (packing layout : Bool) (k : ℕ) (slots area : List ℕ) (mark : ℕ) → Reading l packing layout k slots area mark
+      → readSteps (textOf l layout) (cutRecord l packing k) slots area mark ≡ carriedOut k 0 (fieldsBy l layout)

@@ -1,10 +1,10 @@
 // Old and new layouts over old and new records: what one layout packs, cut anywhere, read by another.
 // The claim of demand 3 is in specs/Claim.antt and its proof in proofs/ReadsBack.antt; `read_back` makes the calls of which it speaks.
 ghost use Rattle.evolution.specs.Calls.{ReadsBackAs};
-use record::Answer;
+use record::ReadAnswer;
 
 // Packs by one layout into `out`, cuts the record at `cut` (or not, where it is shorter), and reads it by another layout.
-// Answers what the reader does, or the packer where that refuses.
+// Answers what the reader does, or the packer where that refuses (and no steps).
 pub fn read_back(
     written_by: &[u8],
     slots: &[u32],
@@ -15,7 +15,7 @@ pub fn read_back(
     table: &mut [u32],
     values: &mut [u8],
     mark: usize,
-) -> Answer
+) -> ReadAnswer
     ensures { λ r. ⌜ ReadsBackAs
         (record {
           writtenBy = now («written_by» .entry);
@@ -33,7 +33,10 @@ pub fn read_back(
     let a = packer::pack(written_by, slots, area, out);
     let number = a.number;
     if number != 0 {
-        return a;
+        return ReadAnswer {
+            answer: a,
+            steps: 0,
+        };
     }
     let k = record::least(cut, a.first as usize);
     reader::read(read_by, &out[..k], table, values, mark)

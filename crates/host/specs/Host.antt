@@ -23,6 +23,10 @@ slotSize = numberSize * slotWidth
 abbrev pub replySize : ℕ
 replySize = numberSize * 3
 
+-- of a reply that has a fourth number
+abbrev pub longReplySize : ℕ
+longReplySize = numberSize * 4
+
 -- the numbers of a run of bytes, and the bytes of a run of numbers
 unfoldable pub numbersIn : List ℕ → List ℕ
 unfolding bigEndianIn
@@ -36,6 +40,11 @@ bytesOf xs = bigEndian numberSize xs
 unfoldable pub replyOf : Answer → List ℕ
 unfolding bytesOf
 replyOf a = bytesOf (a .number ∷ a .first ∷ a .second ∷ [])
+
+-- the same with a fourth number
+unfoldable pub longReply : Answer → ℕ → List ℕ
+unfolding bytesOf
+longReply a fourth = bytesOf (a .number ∷ a .first ∷ a .second ∷ fourth ∷ [])
 
 -- ---- what the calls share
 
@@ -79,3 +88,7 @@ readCall slots r =
       area = r .area;
       reply = replyOf (r .answer);
     }
+
+-- the same with another reply
+abbrev pub withReply : List ℕ → ReadCall → ReadCall
+withReply reply c = record { returned = c .returned; slots = c .slots; area = c .area; reply = reply }

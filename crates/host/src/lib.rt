@@ -2,7 +2,7 @@
 ghost use mathlib.Core.Path.{_≡_};
 ghost use lib.Dec.{eqb};
 ghost use lib.ListN.{length};
-ghost use Rattle.host.specs.Host.{replySize, replyOf, slotsFit};
+ghost use Rattle.host.specs.Host.{replySize, longReplySize, replyOf, longReply, slotsFit};
 use record::Answer;
 
 pub mod numbers;
@@ -19,6 +19,15 @@ pub fn reply_fits(size: usize) -> bool
     ensures { λ r. ⌜ r ≡ eqb size replySize ⌝ }
 {
     size == REPLY_SIZE
+}
+
+// The same for one of four numbers.
+pub const LONG_REPLY_SIZE: usize = 16;
+
+pub fn long_reply_fits(size: usize) -> bool
+    ensures { λ r. ⌜ r ≡ eqb size longReplySize ⌝ }
+{
+    size == LONG_REPLY_SIZE
 }
 
 // Whether a run of so many slot bytes is served: whole slots, and no more than a call may be lent.
@@ -39,4 +48,15 @@ pub fn reply_with(reply: &mut [u8], a: Answer) -> u32
     let three: [u32; 3] = [a.number, a.first, a.second];
     numbers::encode_run(reply, &three, 0, 3);
     a.number
+}
+
+// Writes an answer and a fourth number into the reply, and hands back the answer's number.
+pub fn reply_long(reply: &mut [u8], a: Answer, fourth: u32) -> u32
+    requires { ⌜ length (now reply) ≡ longReplySize ⌝ }
+    ensures { λ r. ⌜ (r ≡ a .number) × (now (reply .exit) ≡ longReply a fourth) ⌝ }
+{
+    let number = a.number;
+    let four: [u32; 4] = [number, a.first, a.second, fourth];
+    numbers::encode_run(reply, &four, 0, 4);
+    number
 }

@@ -6,8 +6,8 @@ use Rattle.layout.specs.declared.Refusal.the-variants.{BadSize}
 use Rattle.layout.specs.Refusals.{numberOf}
 use Rattle.layout.specs.Lent.{Lent, before, after}
 use Rattle.record.specs.Packing.{refusal, pack}
-use Rattle.record.specs.Reading.{read}
-use Rattle.host.specs.Host.{replySize, numbersIn, PackCall, packCall, ReadCall, readCall, guarded}
+use Rattle.record.specs.Reading.{read, readSteps, ReadAll, leftOf, readAll}
+use Rattle.host.specs.Host.{replySize, longReplySize, numbersIn, longReply, PackCall, packCall, ReadCall, readCall, withReply, guarded}
 
 -- ---- packing
 
@@ -30,13 +30,18 @@ PackServed layout slots area out reply r =
 
 -- ---- reading
 
+-- what the call on numbers leaves, as a C host sees it; the reply's fourth number are the steps (02, M-112)
+unfoldable pub stepsCall : List ℕ → ReadAll → ReadCall
+unfolding readCall longReply
+stepsCall slots x = withReply (longReply (x .answer .answer) (x .answer .steps)) (readCall slots (leftOf x))
+
 unfoldable pub curlewRead : List ℕ → List ℕ → List ℕ → List ℕ → ℕ → List ℕ → ReadCall
-unfolding readCall numbersIn read
+unfolding stepsCall numbersIn read readSteps
 curlewRead layout bytes slots area mark reply =
-    guarded replySize reply slots
+    guarded longReplySize reply slots
     (record { returned = numberOf BadSize; slots = slots; area = area; reply = reply })
-    (readCall slots (record { answer = refusal BadSize 0; slots = numbersIn slots; area = area }))
-    (readCall slots (read layout bytes (numbersIn slots) area mark))
+    (stepsCall slots (record { answer = record { answer = refusal BadSize 0; steps = 0 }; slots = numbersIn slots; area = area }))
+    (stepsCall slots (readAll layout bytes (numbersIn slots) area mark))
 
 -- what a call promises that returned r; and the same where the reply is written and the slots are whole
 abbrev pub HostReads : Lent → Lent → Lent → Lent → ℕ → Lent → ℕ → Type 0
@@ -47,4 +52,4 @@ HostReads layout bytes slots area mark reply r =
 abbrev pub ReadServed : Lent → Lent → Lent → Lent → ℕ → Lent → ℕ → Type 0
 ReadServed layout bytes slots area mark reply r =
     record { returned = r; slots = after slots; area = after area; reply = after reply }
-    ≡ readCall (before slots) (read (before layout) (before bytes) (numbersIn (before slots)) (before area) mark)
+    ≡ stepsCall (before slots) (readAll (before layout) (before bytes) (numbersIn (before slots)) (before area) mark)

@@ -3,7 +3,7 @@ ghost use mathlib.Core.Path.{_≡_};
 ghost use Prim.Native.Nat.{_*_, _%_};
 ghost use lib.ListN.{length};
 ghost use Rattle.record.specs.Table.{slotWidth};
-ghost use Rattle.host.specs.Host.{numberSize, replySize};
+ghost use Rattle.host.specs.Host.{numberSize, replySize, longReplySize};
 ghost use Rattle.host_record.specs.Calls.{PackServed, ReadServed, HostPacks, HostReads};
 use layout::Refusal;
 use record::Answer;
@@ -35,15 +35,16 @@ fn read_by(
     reply: &mut [u8],
     room: &mut [u32],
 ) -> u32
-    requires { ⌜ (length (now reply) ≡ replySize) × (length (now slots) ≡ length (now room) * numberSize) ⌝ }
+    requires { ⌜ (length (now reply) ≡ longReplySize) × (length (now slots) ≡ length (now room) * numberSize) ⌝ }
     ensures { λ r. ⌜ ReadServed layout bytes slots area mark reply r ⌝ }
 {
-    let a = reader::read(layout, bytes, room, area, mark);
+    let r = reader::read(layout, bytes, room, area, mark);
+    let a = r.answer;
     if a.number != 0 {
-        return host::reply_with(reply, a);
+        return host::reply_long(reply, a, r.steps);
     }
     host::numbers::encode(slots, room, a.first as usize);
-    host::reply_with(reply, a)
+    host::reply_long(reply, a, r.steps)
 }
 
 // Packs the arguments into `out` by the layout (Tcl's `binary format`).
@@ -72,11 +73,11 @@ pub fn read(
 ) -> u32
     ensures { λ r. ⌜ HostReads layout bytes slots area mark reply r ⌝ }
 {
-    if !host::reply_fits(reply.len()) {
+    if !host::long_reply_fits(reply.len()) {
         return 1;
     }
     if !host::slots_fit(slots.len()) {
-        return host::reply_with(reply, Answer::refused(Refusal::BadSize, 0));
+        return host::reply_long(reply, Answer::refused(Refusal::BadSize, 0), 0);
     }
     let n = slots.len() / host::numbers::NUMBER_SIZE;
     let mut room: [u32; host::MAX_NUMBERS] = [0; host::MAX_NUMBERS];

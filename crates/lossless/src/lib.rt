@@ -24,7 +24,8 @@ pub fn read_and_pack(
         })
         (record { answer = r; slots = now (slots .exit); area = now (area .exit); output = now (out .exit) }) ⌝ }
 {
-    let a = reader::read(layout, bytes, slots, area, mark);
+    let r = reader::read(layout, bytes, slots, area, mark);
+    let a = r.answer;
     let number = a.number;
     if number != 0 {
         return a;

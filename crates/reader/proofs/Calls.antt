@@ -19,7 +19,7 @@ use Rattle.record.proofs.Bytes.{and-true}
 use Rattle.record.proofs.Fields.{split}
 use Rattle.record.specs.Table.{slotWidth, maxSlots, maxRecord, maxArea, slotsOf, Value, valueBytes}
 use Rattle.record.specs.Packing.{accepted, refusal}
-use Rattle.record.specs.Reading.{valuesFrom, positionsFrom, reads, Read, putInto, read}
+use Rattle.record.specs.Reading.{valuesFrom, positionsFrom, stepsFrom, reads, putInto, read, readSteps, ReadAll, withSteps, readAll}
 use Rattle.reader.specs.Sizes.{lentFits}
 use Rattle.reader.specs.Tables.{TableRoom}
 use Rattle.record.specs.Geometry.{lengthsFit}
@@ -71,13 +71,14 @@ module _ (layout bs slots area : List ℕ) (mark : ℕ) where
   unfolding reads
   sizes-refuse e = rw e
 
-  pub read-refused : {r : Answer} {why : Refusal} {p : ℕ} → reads layout bs slots area mark ≡ refused why p → r ≡ refusal why p → record { answer = r; slots = slots; area = area } ≡ read layout bs slots area mark
-  unfolding read
+  pub read-refused : {r : Answer} {why : Refusal} {p : ℕ} → reads layout bs slots area mark ≡ refused why p → r ≡ refusal why p
+      → record { answer = record { answer = r; steps = 0 }; slots = slots; area = area } ≡ readAll layout bs slots area mark
+  unfolding read readSteps
   read-refused e q = rw (e, q)
 
-  pub read-put : {e : Read} {vs : List Value} {n taken : ℕ} {ws : List ℕ} → Learnt (fieldsOf false layout) n taken ws → reads layout bs slots area mark ≡ ok vs
-      → e ≡ putInto slots area mark (positionsFrom (length bs) 0 (decoded n ws)) vs → e ≡ read layout bs slots area mark
-  unfolding read
+  pub read-put : {e : ReadAll} {vs : List Value} {n taken : ℕ} {ws : List ℕ} → Learnt (fieldsOf false layout) n taken ws → reads layout bs slots area mark ≡ ok vs
+      → e ≡ withSteps (putInto slots area mark (positionsFrom (length bs) 0 (decoded n ws)) vs) (stepsFrom (length bs) 0 (decoded n ws)) → e ≡ readAll layout bs slots area mark
+  unfolding read readSteps
   read-put l h q = q ∙ rw (h, l .fields)
 
   pub check-refused : {r : Answer} {why : Refusal} {p : ℕ} → reads layout bs slots area mark ≡ refused why p → r ≡ refusal why p → r ≡ checked layout bs slots area mark
@@ -142,7 +143,7 @@ module _ (layout bs slots area : List ℕ) (mark : ℕ) where
         pub check-fits : r ≡ checked layout bs slots area mark
         check-fits = fitted e (λ why h q z. check-refused h q) (λ h room q. check-accepted l h q)
 
-        pub read-unfit : (r .number ≡ 0 → ⊥) → record { answer = r; slots = slots; area = area } ≡ read layout bs slots area mark
+        pub read-unfit : (r .number ≡ 0 → ⊥) → record { answer = record { answer = r; steps = 0 }; slots = slots; area = area } ≡ readAll layout bs slots area mark
         read-unfit k = fitted e (λ why h q z. read-refused h q) (λ h room q. absurd (k (ap (λ (a : Answer). a .number) q)))
 
         pub read-fits : r .number ≡ 0 → (reads layout bs slots area mark ≡ ok (valuesFrom bs 0 (decoded n ws))) × TableRoom (valuesFrom bs 0 (decoded n ws)) slots area mark

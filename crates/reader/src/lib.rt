@@ -6,13 +6,14 @@ ghost use lib.ListN.{length};
 ghost use Rattle.layout.specs.Layout.{maxLayout};
 ghost use Rattle.layout.specs.Lent.{before, after};
 ghost use Rattle.record.specs.Table.{slotWidth, maxSlots, maxRecord, valueBytes};
-ghost use Rattle.record.specs.Reading.{read};
+ghost use Rattle.record.specs.Reading.{readAll};
 ghost use Rattle.reader.specs.Sizes.{lentFits};
 ghost use Rattle.reader.specs.Tables.{valuesOf};
 ghost use Rattle.reader.specs.Checks.{checked, fitting};
 use layout::Parsed;
 use layout::Refusal;
 use record::Answer;
+use record::ReadAnswer;
 
 mod measure;
 mod run;
@@ -70,20 +71,35 @@ pub fn check(layout: &[u8], bytes: &[u8], slots: &[u32], area: &[u8], mark: usiz
 
 // Reads a record by a layout: sets slots from the first on, and puts their values into the area from the mark on. A refusal changes nothing.
 // (It checks as `check` does and does not call it: the words stay here, and a call that fills them for its caller costs more than the checks.)
-pub fn read(layout: &[u8], bytes: &[u8], slots: &mut [u32], area: &mut [u8], mark: usize) -> Answer
-    ensures { λ r. ⌜ record { answer = r; slots = after slots; area = after area } ≡ read (before layout) (before bytes) (before slots) (before area) mark ⌝ }
+pub fn read(
+    layout: &[u8],
+    bytes: &[u8],
+    slots: &mut [u32],
+    area: &mut [u8],
+    mark: usize,
+) -> ReadAnswer
+    ensures { λ r. ⌜ record { answer = r; slots = after slots; area = after area } ≡ readAll (before layout) (before bytes) (before slots) (before area) mark ⌝ }
 {
     if !sizes_fit(layout.len(), slots.len(), bytes.len(), area.len(), mark) {
-        return Answer::refused(Refusal::BadSize, 0);
+        return ReadAnswer {
+            answer: Answer::refused(Refusal::BadSize, 0),
+            steps: 0,
+        };
     }
     let mut words: [u32; layout::MAX_LAYOUT] = [0; layout::MAX_LAYOUT];
     let p = layout::parse(layout, false, &mut words);
     match p {
-        Parsed::Refused(why, place) => Answer::refused(why, place as u32),
+        Parsed::Refused(why, place) => ReadAnswer {
+            answer: Answer::refused(why, place as u32),
+            steps: 0,
+        },
         Parsed::Fields(n, taken) => {
             let a = fits(&words, n, taken, bytes, slots.len(), area.len() - mark);
             if a.number != 0 {
-                return a;
+                return ReadAnswer {
+                    answer: a,
+                    steps: 0,
+                };
             }
             table::fill(&words, n, bytes, slots, area, mark)
         }

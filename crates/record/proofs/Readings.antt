@@ -21,7 +21,7 @@ use Rattle.record.specs.declared.Answer.{Answer}
 use Rattle.record.specs.Bytes.{part, storeAt}
 use Rattle.record.specs.Table.{maxSlots, slotWidth, slotsOf, Value, areaBytes, slotNumbers, valueBytes}
 use Rattle.record.specs.Geometry.{amount, bytesFor, itemsIn, movedIn, sizesFit}
-use Rattle.record.specs.Reading.{Read, loaded, valuesFrom, reads, putInto, readEffect, positionsOf, read}
+use Rattle.record.specs.Reading.{Read, loaded, valuesFrom, reads, putInto, readEffect, positionsOf, read, readSteps}
 use Rattle.record.proofs.Bytes.{and-true}
 use Rattle.record.proofs.Tables.{length-slots}
 use Rattle.record.proofs.Sizes.{Sized, sized}
@@ -120,6 +120,10 @@ module _ (layout bs area : List ℕ) (mark : ℕ) (xs : List ℕ) where
     pub read-over : read layout bs ys area mark ≡ over ys (read layout bs xs area mark)
     unfolding read
     read-over = rw reads-same (effect-over xs area mark (positionsOf (length bs) (fieldsOf false layout)) ys (reads layout bs xs area mark))
+
+    pub steps-same : readSteps layout bs ys area mark ≡ readSteps layout bs xs area mark
+    unfolding readSteps
+    steps-same = rw reads-same
 
   module _ (z : read layout bs xs area mark .answer .number ≡ 0) where
     -- the slots after those that are set stay as lent

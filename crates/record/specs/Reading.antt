@@ -1,5 +1,5 @@
--- The reader (document 01, Reading, and Numbers that come back): THE EFFECT OF A CALL is `read`, at the end.
-use Prim.Native.Nat.{ℕ, _+_, _-_, _*_, _^_}
+-- The reader (document 01, Reading, and Numbers that come back): THE EFFECT OF A CALL is `read`, with its steps `readAll`, at the end.
+use Prim.Native.Nat.{ℕ, suc, _+_, _-_, _*_, _^_, _≤_}
 use mathlib.Core.Bool.{Bool, false, _&&_, _||_}
 use mathlib.Core.List.{List, [], _∷_, _++_, map}
 use lib.ListN.{length, take, drop}
@@ -12,6 +12,7 @@ use Rattle.layout.specs.declared.Refusal.the-variants.{BadSize, WrongSlots, NoR
 use Rattle.layout.specs.Refusals.{if_then_else_, Result, ok, refused, _>>=_, demand}
 use Rattle.layout.specs.Layout.{fieldsOf, slotCount}
 use Rattle.record.specs.declared.Answer.{Answer}
+use Rattle.record.specs.declared.ReadAnswer.{ReadAnswer}
 use Rattle.record.specs.Bytes.{part, storeAt, pieces, join, digits, number, ordered}
 use Rattle.record.specs.Table.{string, integerKind, slotsOf, Value, slotWidth, slotNumbers, valueBytes}
 use Rattle.record.specs.Geometry.{base, perByte, bytesFor, itemsOf, movedIn, sizesFit}
@@ -79,6 +80,16 @@ positionsFrom size at (f ∷ fs) = elim (f .code) [
   | Move m ↦ positionsFrom size (movedIn size m (f .count) at) fs
 ]
 
+-- the steps of the run: the fields that are carried out, moves included, and the one that comes up short (02, M-112)
+unfoldable pub stepsFrom : ℕ → ℕ → List Field → ℕ
+stepsFrom size at [] = 0
+stepsFrom size at (f ∷ fs) = elim (f .code) [
+  | Data s ↦
+      let need = bytesFor s (itemsOf s (f .count) (size - at)) in
+      if leb need (size - at) then suc (stepsFrom size (at + need) fs) else 1
+  | Move m ↦ suc (stepsFrom size (movedIn size m (f .count) at) fs)
+]
+
 -- ---- the call
 
 -- the values that a layout shows of a record, or the first refusal in 01's order
@@ -121,3 +132,36 @@ positionsOf size (refused why place) = []
 unfoldable pub read : List ℕ → List ℕ → List ℕ → List ℕ → ℕ → Read
 unfolding reads positionsFrom putInto
 read layout bs slots area mark = readEffect slots area mark (positionsOf (length bs) (fieldsOf false layout)) (reads layout bs slots area mark)
+
+-- the steps of a call: those of the layout's fields, and none where it is refused
+abbrev pub stepsIn : ℕ → Result (List Field) → ℕ
+stepsIn size (ok fs) = stepsFrom size 0 fs
+stepsIn size (refused why place) = 0
+
+abbrev pub stepsOf : ℕ → Result (List Field) → Result (List Value) → ℕ
+stepsOf size fields (ok vs) = stepsIn size fields
+stepsOf size fields (refused why place) = 0
+
+unfoldable pub readSteps : List ℕ → List ℕ → List ℕ → List ℕ → ℕ → ℕ
+unfolding reads stepsFrom
+readSteps layout bs slots area mark = stepsOf (length bs) (fieldsOf false layout) (reads layout bs slots area mark)
+
+-- they are never more than the layout has bytes (proved in proofs/Steps.antt)
+abbrev pub StepsWithin : Type 0
+StepsWithin = (layout bs slots area : List ℕ) (mark : ℕ) → readSteps layout bs slots area mark ≤ length layout
+
+-- ALL OF A CALL of the reader: the answer with its fourth number, the slots and the area
+pub record ReadAll : Type 0 where
+  pub answer : ReadAnswer
+  pub slots : List ℕ
+  pub area : List ℕ
+
+abbrev pub withSteps : Read → ℕ → ReadAll
+withSteps r steps = record { answer = record { answer = r .answer; steps = steps }; slots = r .slots; area = r .area }
+
+-- the same without that number
+abbrev pub leftOf : ReadAll → Read
+leftOf x = record { answer = x .answer .answer; slots = x .slots; area = x .area }
+
+abbrev pub readAll : List ℕ → List ℕ → List ℕ → List ℕ → ℕ → ReadAll
+readAll layout bs slots area mark = withSteps (read layout bs slots area mark) (readSteps layout bs slots area mark)

@@ -68,6 +68,12 @@ pub struct Answer {
     pub second: u32,
 }
 
+// What a reading answers: the three numbers, and its steps, the fields that were carried out and the one that came up short.
+pub struct ReadAnswer {
+    pub answer: Answer,
+    pub steps: u32,
+}
+
 // The line of the table of numbers that a refusal stands on, from 0 on.
 fn line_of(why: Refusal) -> u8
     ensures { λ r. ⌜ r ≡ lineOf why ⌝ }

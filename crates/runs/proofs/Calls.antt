@@ -15,7 +15,7 @@ use Rattle.layout.proofs.Laws.{bound, demanded, ok-inj, no-number-zero}
 use Rattle.record.specs.Table.{slotsOf, valueBytes}
 use Rattle.record.specs.Packing.{filled, argumentsFit, packed, finished, packs, Packed, packEffect}
 use Rattle.record.specs.Geometry.{sizesFit}
-use Rattle.record.specs.Reading.{valuesFrom, positionsFrom, reads, putInto, read}
+use Rattle.record.specs.Reading.{valuesFrom, positionsFrom, stepsFrom, reads, putInto, read, readSteps}
 use Rattle.runs.specs.Ends.{recordOf}
 
 pub T→true : (t : Bool) → T t → t ≡ true
@@ -33,6 +33,12 @@ pub read-by : (text bs slots area : List ℕ) (mark : ℕ) (fs : List Field) →
     → read text bs slots area mark ≡ putInto slots area mark (positionsFrom (length bs) 0 fs) (valuesFrom bs 0 fs)
 unfolding read reads
 read-by text bs slots area mark fs f s c r = rw (s, f, le-leb _ _ c, le-leb _ _ r)
+
+pub steps-by : (text bs slots area : List ℕ) (mark : ℕ) (fs : List Field) → fieldsOf false text ≡ ok fs → (sizesFit text slots bs area && leb mark (length area)) ≡ true
+    → slotCount fs ≤ length (slotsOf slots) → mark + length (valueBytes (valuesFrom bs 0 fs)) ≤ length area
+    → readSteps text bs slots area mark ≡ stepsFrom (length bs) 0 fs
+unfolding readSteps reads
+steps-by text bs slots area mark fs f s c r = rw (s, f, le-leb _ _ c, le-leb _ _ r)
 
 -- ---- the other way round: what an accepted packing has passed
 

@@ -10,12 +10,12 @@ use lib.ListN.{length, take, drop}
 use lib.Seq.{take-at, take-length, drop-length, length-take-le}
 use borrow.Author.Tests.{le-leb, lt-leb}
 use Rattle.layout.specs.declared.Refusal.the-variants.{BadSize}
-use Rattle.record.specs.declared.Answer.{Answer}
+use Rattle.record.specs.declared.ReadAnswer.{ReadAnswer}
 use Rattle.record.specs.Geometry.{sizesFit}
 use Rattle.record.proofs.Sizes.{too-many}
 use Rattle.record.specs.Table.{slotWidth, maxSlots}
 use Rattle.record.specs.Packing.{pack, packs, refusal}
-use Rattle.record.specs.Reading.{Read, read, reads}
+use Rattle.record.specs.Reading.{read, readSteps, reads, ReadAll, readAll}
 use Rattle.slots.specs.declared.Slot.{Slot}
 use Rattle.slots.specs.Slots.{maxNumbers, numbersOf, slotsFrom, taken, packFirst, readFirst, readSlots, readPart, withSlots, withRest}
 use Rattle.slots.proofs.Runs.{filled, length-numbers, slots-back}
@@ -58,16 +58,16 @@ module _ (layout ns area output : List ℕ) (n : ℕ) where
   pack-many l = rw (lt-leb n maxSlots l)
 
 module _ (layout bs ns area : List ℕ) (n mark : ℕ) where
-  pub read-few : n ≤ maxSlots → read layout bs (take (n * slotWidth) ns) area mark ≡ readFirst layout bs ns n area mark
+  pub read-few : n ≤ maxSlots → readAll layout bs (take (n * slotWidth) ns) area mark ≡ readFirst layout bs ns n area mark
   unfolding readFirst
   read-few l = rw (le-leb n maxSlots l)
 
-  pub read-many : maxSlots < n → record { answer = refusal BadSize 0; slots = take (n * slotWidth) ns; area = area } ≡ readFirst layout bs ns n area mark
+  pub read-many : maxSlots < n → record { answer = record { answer = refusal BadSize 0; steps = 0 }; slots = take (n * slotWidth) ns; area = area } ≡ readFirst layout bs ns n area mark
   unfolding readFirst
   read-many l = rw (lt-leb n maxSlots l)
 
 -- what the call leaves at the front of the scratch
-pub read-front : (zs rest : List ℕ) (k : ℕ) → length zs ≡ k → {a : Answer} {z : List ℕ} {e : Read} → record { answer = a; slots = zs; area = z } ≡ e → record { answer = a; slots = take k (zs ++ rest); area = z } ≡ e
+pub read-front : (zs rest : List ℕ) (k : ℕ) → length zs ≡ k → {a : ReadAnswer} {z : List ℕ} {e : ReadAll} → record { answer = a; slots = zs; area = z } ≡ e → record { answer = a; slots = take k (zs ++ rest); area = z } ≡ e
 read-front zs rest k l {a} {z} r = ap (λ (s : List ℕ). record { answer = a; slots = s; area = z }) (take-at zs rest k l) ∙ r
 
 -- ---- more slots than a table may have: number 1
@@ -79,8 +79,8 @@ pack-over : (layout area output : List ℕ) (ss : List Slot) → maxSlots < leng
 unfolding pack packs
 pack-over layout area output ss l = rw (over layout output area ss l)
 
-read-over : (layout bs area : List ℕ) (ss : List Slot) (mark : ℕ) → maxSlots < length ss → record { answer = refusal BadSize 0; slots = numbersOf ss; area = area } ≡ read layout bs (numbersOf ss) area mark
-unfolding read reads
+read-over : (layout bs area : List ℕ) (ss : List Slot) (mark : ℕ) → maxSlots < length ss → record { answer = record { answer = refusal BadSize 0; steps = 0 }; slots = numbersOf ss; area = area } ≡ readAll layout bs (numbersOf ss) area mark
+unfolding read readSteps reads
 read-over layout bs area ss mark l = rw (over layout bs area ss l)
 
 -- ---- the calls over slots
@@ -91,7 +91,7 @@ pack-loaded layout ns area output ss = elim (decLe (length ss) maxSlots) [
   | no l ↦ sym (pack-many layout _ area output (length ss) (lt-of-not-le l)) ∙ pack-over layout area output ss (lt-of-not-le l)
 ]
 
-module _ (layout bs ns ws area z : List ℕ) (ss ts : List Slot) (mark : ℕ) (a : Answer) where
+module _ (layout bs ns ws area z : List ℕ) (ss ts : List Slot) (mark : ℕ) (a : ReadAnswer) where
   pub read-loaded :
       record { answer = a; slots = take (length ss * slotWidth) ws; area = z } ≡ readFirst layout bs (filled (taken (length ss)) ss ns) (length ss) area mark
       → ts ≡ slotsFrom (take (taken (length ss) * slotWidth) ws) ++ drop (taken (length ss)) ss
@@ -102,16 +102,16 @@ module _ (layout bs ns ws area z : List ℕ) (ss ts : List Slot) (mark : ℕ) (a
     | no l ↦ many (lt-of-not-le l)
   ]
     where
-      few : length ss ≤ maxSlots → record { answer = a; slots = ts; area = z } ≡ withSlots (read layout bs (numbersOf ss) area mark)
-      few l = ap (λ (t : List Slot). record { answer = a; slots = t; area = z }) whole ∙ ap withSlots (r ∙ sym (read-few layout bs _ area (length ss) mark l) ∙ ap (λ (m : List ℕ). read layout bs m area mark) (first-numbers ss ns l))
+      few : length ss ≤ maxSlots → record { answer = a; slots = ts; area = z } ≡ withSlots (readAll layout bs (numbersOf ss) area mark)
+      few l = ap (λ (t : List Slot). record { answer = a; slots = t; area = z }) whole ∙ ap withSlots (r ∙ sym (read-few layout bs _ area (length ss) mark l) ∙ ap (λ (m : List ℕ). readAll layout bs m area mark) (first-numbers ss ns l))
         where
           whole : ts ≡ slotsFrom (take (length ss * slotWidth) ws)
           whole = s ∙ ap (λ (k : ℕ). slotsFrom (take (k * slotWidth) ws) ++ drop k ss) (taken-few (length ss) l) ∙ ap (λ (t : List Slot). slotsFrom (take (length ss * slotWidth) ws) ++ t) (drop-length ss) ∙ append-nil (slotsFrom (take (length ss * slotWidth) ws))
 
-      many : maxSlots < length ss → record { answer = a; slots = ts; area = z } ≡ withSlots (read layout bs (numbersOf ss) area mark)
+      many : maxSlots < length ss → record { answer = a; slots = ts; area = z } ≡ withSlots (readAll layout bs (numbersOf ss) area mark)
       many l = (λ i. record { answer = same i .answer; slots = kept i; area = same i .area }) ∙ ap withSlots (read-over layout bs area ss mark l)
         where
-          same : _≡_ {A = Read} (record { answer = a; slots = take (length ss * slotWidth) ws; area = z }) (record { answer = refusal BadSize 0; slots = take (length ss * slotWidth) (filled (taken (length ss)) ss ns); area = area })
+          same : _≡_ {A = ReadAll} (record { answer = a; slots = take (length ss * slotWidth) ws; area = z }) (record { answer = record { answer = refusal BadSize 0; steps = 0 }; slots = take (length ss * slotWidth) (filled (taken (length ss)) ss ns); area = area })
           same = r ∙ sym (read-many layout bs _ area (length ss) mark l)
 
           kept : ts ≡ slotsFrom (numbersOf ss)
@@ -119,6 +119,6 @@ module _ (layout bs ns ws area z : List ℕ) (ss ts : List Slot) (mark : ℕ) (a
 
 -- ---- the reader on the first slots of a table
 
-pub read-part : (layout bs area z : List ℕ) (ss ts : List Slot) (n mark : ℕ) (a : Answer) → record { answer = a; slots = ts; area = z } ≡ readSlots layout bs (take n ss) area mark → record { answer = a; slots = ts ++ drop n ss; area = z } ≡ readPart layout bs ss n area mark
+pub read-part : (layout bs area z : List ℕ) (ss ts : List Slot) (n mark : ℕ) (a : ReadAnswer) → record { answer = a; slots = ts; area = z } ≡ readSlots layout bs (take n ss) area mark → record { answer = a; slots = ts ++ drop n ss; area = z } ≡ readPart layout bs ss n area mark
 unfolding readPart
 read-part layout bs area z ss ts n mark a e = ap (withRest (drop n ss)) e

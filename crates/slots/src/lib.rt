@@ -10,6 +10,7 @@ ghost use Rattle.record.specs.Packing.{pack};
 ghost use Rattle.slots.specs.Slots.{maxNumbers, numbersOf, slotsFrom, slotFrom, putAt, taken, packFirst, ReadsFirst, readSlots, rows, ReadsRows};
 use layout::Refusal;
 use record::Answer;
+use record::ReadAnswer;
 
 // A slot as a caller lends it: 12 bytes, three numbers of 32 bits. (`record::slots::Slot` holds the same three as numbers that code counts with; it is
 // read out of a run of numbers and never lent.)
@@ -107,12 +108,15 @@ fn read_first(
     count: usize,
     area: &mut [u8],
     mark: usize,
-) -> Answer
+) -> ReadAnswer
     requires { ⌜ maxNumbers ≤ length (now numbers) ⌝ }
     ensures { λ r. ⌜ ReadsFirst layout bytes numbers count area mark r ⌝ }
 {
     if record::MAX_SLOTS < count {
-        return Answer::refused(Refusal::BadSize, 0);
+        return ReadAnswer {
+            answer: Answer::refused(Refusal::BadSize, 0),
+            steps: 0,
+        };
     }
     let end = count * record::SLOT_WIDTH;
     reader::read(layout, bytes, &mut numbers[..end], area, mark)
@@ -134,7 +138,7 @@ pub fn read_slots(
     slots: &mut [Slot],
     area: &mut [u8],
     mark: usize,
-) -> Answer
+) -> ReadAnswer
     ensures { λ r. ⌜ record { answer = r; slots = after slots; area = after area } ≡ readSlots (before layout) (before bytes) (before slots) (before area) mark ⌝ }
 {
     let mut numbers = [0; record::MAX_NUMBERS];
@@ -148,11 +152,11 @@ pub fn read_slots(
 pub const ROWS: usize = record::MAX_SLOTS + 1;
 
 pub struct Outcome {
-    pub answer: Answer,
+    pub answer: ReadAnswer,
     pub slots: [Slot; ROWS],
 }
 
-fn together(answer: Answer, slots: [Slot; ROWS]) -> Outcome
+fn together(answer: ReadAnswer, slots: [Slot; ROWS]) -> Outcome
     ensures { λ r. ⌜ r ≡ record { answer = answer; slots = slots } ⌝ }
 {
     Outcome {

@@ -2,6 +2,7 @@
 // then none, one, the most and one more than the most slots go beside the same slots as numbers: the two lines of a pair are the same.
 use libc::STDOUT_FILENO;
 use record::Answer;
+use record::ReadAnswer;
 use slots::Slot;
 
 fn digit(n: u32) -> u8 {
@@ -26,6 +27,11 @@ fn write_answer(name: &[u8], a: Answer) {
     write_number(a.second);
 }
 
+fn write_read(name: &[u8], r: ReadAnswer) {
+    write_answer(name, r.answer);
+    write_number(r.steps);
+}
+
 fn write_slot(s: Slot) {
     io::write_all(STDOUT_FILENO, b" ;");
     write_number(s.kind);
@@ -47,7 +53,7 @@ fn write_record(bytes: &[u8; 5]) {
 fn show_read(name: &[u8], layout: &[u8], bytes: &[u8; 5], slots: [Slot; slots::ROWS]) {
     let mut area: [u8; 32] = [0; 32];
     let read = slots::read_some(layout, bytes, slots, 2, &mut area, 4);
-    write_answer(name, read.answer);
+    write_read(name, read.answer);
     let s = read.slots;
     write_slot(s[0]);
     write_slot(s[1]);
@@ -103,7 +109,7 @@ fn pack_numbers(layout: &[u8], ns: &[u32], end: usize, output: &mut [u8]) -> Ans
     packer::pack(layout, &ns[..end], b"xyz", output)
 }
 
-fn read_numbers(layout: &[u8], ns: &mut [u32], end: usize, area: &mut [u8]) -> Answer {
+fn read_numbers(layout: &[u8], ns: &mut [u32], end: usize, area: &mut [u8]) -> ReadAnswer {
     if ns.len() < end {
         return reader::read(
             layout,
@@ -150,7 +156,7 @@ fn read_slots(layout: &[u8], count: usize) {
         &mut area,
         4,
     );
-    write_answer(b"read", read.answer);
+    write_read(b"read", read.answer);
     let s = read.slots;
     write_slot(s[0]);
     write_slot(s[record::MAX_SLOTS - 1]);
@@ -164,7 +170,7 @@ fn read_same(layout: &[u8], count: usize) {
     let mut area: [u8; 4 + slots::ROWS] = [0; 4 + slots::ROWS];
     let mut ns = numbers();
     let answer = read_numbers(layout, &mut ns, count * record::SLOT_WIDTH, &mut area);
-    write_answer(b"read", answer);
+    write_read(b"read", answer);
     write_slot(Slot {
         kind: ns[0],
         start: ns[1],

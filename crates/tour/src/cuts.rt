@@ -15,7 +15,7 @@ fn told(writer: &[u8], cut: usize, reader: &[u8]) {
 fn row(writer: &[u8], slots: &[u32], area: &[u8], cut: usize, reader: &[u8], table: &mut [u32]) {
     let mut output = [0u8; 16];
     let mut values = [0u8; 64];
-    let a = evolution::read_back(
+    let r = evolution::read_back(
         writer,
         slots,
         area,
@@ -27,7 +27,7 @@ fn row(writer: &[u8], slots: &[u32], area: &[u8], cut: usize, reader: &[u8], tab
         0,
     );
     told(writer, cut, reader);
-    print::answer(a.number, a.first, a.second);
+    print::read_answer(r);
     print::text(b": ");
     values::table(table, &values);
     print::text(b"\n");

@@ -30,7 +30,7 @@ fn pack_edges(record: &mut [u8; 4096]) {
 }
 
 fn read_examples(record: &mut [u8; 4096]) {
-    heading(b"\nReading: layout, record -> number, first, second: values");
+    heading(b"\nReading: layout, record -> number, first, second, steps: values");
     examples::read_strings(record);
     examples::read_integers(record);
     heading(b"\nReading: the runs of 004");

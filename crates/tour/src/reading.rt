@@ -1,4 +1,4 @@
-// Reading: a line for each call, with the layout, the record, the answer's three numbers and the values that the slots then show.
+// Reading: a line for each call, with the layout, the record, the answer's four numbers and the values that the slots then show.
 use record::MAX_NUMBERS;
 use record::SLOT_WIDTH;
 use tour_text::print;
@@ -14,11 +14,12 @@ fn show(
     area: &mut [u8],
     mark: usize,
 ) {
-    let a = reader::read(layout, record, slots, area, mark);
+    let r = reader::read(layout, record, slots, area, mark);
+    let a = r.answer;
     print::call(b"read", layout);
     print::shortened(record, Style::Hex);
     print::lent(told);
-    print::answer(a.number, a.first, a.second);
+    print::read_answer(r);
     values::result(a.number, slots, area);
     print::text(b"\n");
 }
@@ -27,10 +28,10 @@ fn show(
 fn whole(layout: &[u8]) {
     let mut slots = [9u32; 2 * SLOT_WIDTH];
     let mut area = [0xaau8; 8];
-    let a = reader::read(layout, b"xy", &mut slots, &mut area, 1);
+    let r = reader::read(layout, b"xy", &mut slots, &mut area, 1);
     print::call(b"read", layout);
     print::lent(b"78 79 into slots of 9, eight bytes aa, mark 1");
-    print::answer(a.number, a.first, a.second);
+    print::read_answer(r);
     values::whole(&slots, &area);
     print::text(b"\n");
 }

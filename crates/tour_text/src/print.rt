@@ -1,5 +1,6 @@
 // What a program prints: runs of bytes, numbers and answers, each written out at once.
 use libc::STDOUT_FILENO;
+use record::ReadAnswer;
 
 // How a byte is shown: as a character or `\x` and two digits, or as a space and two digits.
 pub enum Style {
@@ -122,6 +123,13 @@ pub fn answer(n: u32, first: u32, second: u32) {
     small(n);
     spaced(first);
     spaced(second);
+}
+
+// The same with the steps of a reading.
+pub fn read_answer(r: ReadAnswer) {
+    let a = r.answer;
+    answer(a.number, a.first, a.second);
+    spaced(r.steps);
 }
 
 fn spaced(n: u32) {

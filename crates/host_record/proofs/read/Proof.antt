@@ -5,7 +5,7 @@ use borrow.Author.Tests.{not-true, not-false, eqb-true}
 use mathlib.Core.Bool.{true}
 use lib.Dec.{eqb}
 use lib.ListN.{length}
-use Rattle.host.specs.Host.{replySize}
+use Rattle.host.specs.Host.{longReplySize}
 use lib.Seq.{length-take-le}
 use Rattle.host.proofs.Guards.{Fit, fit, room-for}
 use Rattle.host_record.proofs.Calls.{read-unwritten, read-refused, read-served}
@@ -13,14 +13,14 @@ use borrow.Author.Needs.{needs}
 use Rattle.host_record.proofs.read.Statement.{statement}
 use Rattle.host_record.proofs.read.Tie as tie
 
-reply-fits-requires : tie.Need-reply-fits-requires
-reply-fits-requires c κs = search needs
+long-reply-fits-requires : tie.Need-long-reply-fits-requires
+long-reply-fits-requires c κs = search needs
 
 returns : tie.Need-returns
-returns c = read-unwritten _ _ _ _ _ _ (sym (c .before .reply-fits .ensures) ∙ not-true _ (c .if1 .taken))
+returns c = read-unwritten _ _ _ _ _ _ (sym (c .before .long-reply-fits .ensures) ∙ not-true _ (c .if1 .taken))
 
-sized : (c : tie.Else1) → eqb (length (c .before .before .before .before .before .before .before .args .reply .now)) replySize ≡ true
-sized c = sym (c .before .reply-fits .ensures) ∙ not-false _ (c .if1 .left)
+sized : (c : tie.Else1) → eqb (length (c .before .before .before .before .before .before .before .args .reply .now)) longReplySize ≡ true
+sized c = sym (c .before .long-reply-fits .ensures) ∙ not-false _ (c .if1 .left)
 
 slots-fit-requires : tie.Need-slots-fit-requires
 slots-fit-requires c κs = search needs
@@ -28,8 +28,8 @@ slots-fit-requires c κs = search needs
 refused-requires : tie.Need-refused-requires
 refused-requires c κs = search needs
 
-reply-with-requires : tie.Need-reply-with-requires
-reply-with-requires c κs = eqb-true _ _ (sized (c .before .before .before .before))
+reply-long-requires : tie.Need-reply-long-requires
+reply-long-requires c κs = eqb-true _ _ (sized (c .before .before .before .before))
 
 same-length : tie.Need-same-length
 same-length c = search needs
@@ -38,7 +38,7 @@ returns-2 : tie.Need-returns-2
 returns-2 c =
     let replied = c .before .before in
     let tested = replied .before .before .before in
-    read-refused _ _ _ _ _ _ (sized (tested .before .before)) (sym (tested .before .slots-fit .ensures) ∙ not-true _ (tested .if2 .taken)) (replied .before .refused .ensures) (replied .reply-with .ensures)
+    read-refused _ _ _ _ _ _ (sized (tested .before .before)) (sym (tested .before .slots-fit .ensures) ∙ not-true _ (tested .if2 .taken)) (replied .before .refused .ensures) (replied .reply-long .ensures)
 
 served : (c : tie.Else2) → Fit (length (c .before .before .before .before .before .before .before .before .before .args .slots .now))
 served c = fit _ (sym (c .before .slots-fit .ensures) ∙ not-false _ (c .if2 .left))
@@ -73,11 +73,11 @@ pub read-spec : {M : Type 1} → statement M
 read-spec =
     tie.close
     (tie.spec
-    reply-fits-requires
+    long-reply-fits-requires
     returns
     slots-fit-requires
     refused-requires
-    reply-with-requires
+    reply-long-requires
     same-length
     returns-2
     array-borrow-prefix-room

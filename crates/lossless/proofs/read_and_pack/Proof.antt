@@ -1,4 +1,6 @@
 -- The effect is that of the two calls one after the other, and M-107 follows from it by the theorem.
+use mathlib.Core.Path.{ap}
+use Rattle.record.specs.Reading.{leftOf}
 use borrow.Author.Needs.{needs}
 use Rattle.lossless.proofs.Calls.{then-refused, then-packed, promised}
 use Rattle.lossless.proofs.read_and_pack.Statement.{statement}
@@ -15,7 +17,7 @@ same-length-2 c = search needs
 
 returns : tie.Need-returns
 returns c =
-    promised _ _ (then-refused _ _ _ _ (c .before .before .before .before .before .read .ensures) (c .if1 .taken))
+    promised _ _ (then-refused _ _ _ _ (ap leftOf (c .before .before .before .before .before .before .read .ensures)) (c .if1 .taken))
 
 pack-requires : tie.Need-pack-requires
 pack-requires c κs = search needs
@@ -34,7 +36,7 @@ returns-2 c =
     let pack = c .before .before in
     let branch = pack .before .before .before .before in
     promised _ _
-    (then-packed _ _ _ _ (branch .before .before .before .before .before .read .ensures) (branch .if1 .left) _ _ (pack .pack .ensures))
+    (then-packed _ _ _ _ (ap leftOf (branch .before .before .before .before .before .before .read .ensures)) (branch .if1 .left) _ _ (pack .pack .ensures))
 
 pub read-and-pack-spec : {M : Type 1} → statement M
 read-and-pack-spec =

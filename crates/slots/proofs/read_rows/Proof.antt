@@ -43,7 +43,7 @@ use denote.Triple.Table.{entered, cited}
 use denote.Triple.Walked.{says, needs, Stays, stay-dropped, gave-slice, walkOf, goes-dropped, goes-gave-slice, Walks, ends-at, walked, walk-meets}
 use denote.Exit.{yes}
 use borrow.Table.Elements.{same-len}
-use Rattle.record.specs.declared.Answer.{Answer}
+use Rattle.record.specs.declared.ReadAnswer.{ReadAnswer}
 use Rattle.slots.specs.declared.Slot.{Slot}
 use Rattle.slots.specs.Slots.{ReadSlots, readSlots, readPart, rows}
 use Rattle.slots.proofs.Slot as T
@@ -52,8 +52,8 @@ use Rattle.slots.proofs.Arrays.{arr, apart, made-whole, Behind, cut, jo
 use Rattle.slots.proofs.Calls.{read-part}
 use Rattle.slots.proofs.Turns.{rows-fit}
 use Rattle.slots.proofs.Requires.{no-requires}
-use Rattle.record.proofs.Answer as TA
-use Rattle.record.proofs.Answer.Laws as TA′
+use Rattle.record.proofs.ReadAnswer as TA
+use Rattle.record.proofs.ReadAnswer.Laws as TA′
 use Rattle.slots.specs.declared.Outcome.{Outcome}
 use Rattle.slots.proofs.Outcome as TO
 use Rattle.slots.proofs.Outcome.Laws as TO′
@@ -142,7 +142,7 @@ module _ {M : Type 1} (𝓤 : URA M) (H : Heap 𝓤) (A : Atoms 𝓤) (W : Given
 
   -- what is known of the answer, of the slots' last list and of the area's
   abbrev Left : Type 0
-  Left = Answer × List Slot × List ℕ
+  Left = ReadAnswer × List Slot × List ℕ
 
   abbrev Fine : Left → Type 0
   Fine p = (_≡_ {A = ReadSlots} (record { answer = p .0; slots = p .1; area = p .2 }) (readPart (t .now) (y .now) xs n (a .now) k)) × (length (p .1) ≡ length xs) × (length (p .2) ≡ length (a .now))
@@ -196,7 +196,7 @@ module _ {M : Type 1} (𝓤 : URA M) (H : Heap 𝓤) (A : Atoms 𝓤) (W : Given
     back : (u : Val) → ent 𝓤 (sep 𝓤 (ReadRun 𝓤 H A mem run .post to u) (sem 𝓤 H A Kept)) (H .⇛ (ex 𝓤 (Got u)))
     back u =
         qed W (raw (ReadRun 𝓤 H A mem run .post to u) ∷ ‵ Kept ∷ []) ∵ updating ! $
-        use1 W (later (some (λ (r : Answer). ((‵ (flft κ₀ q₀) ⊛ (‵ (flft κ₁ q₁) ⊛ (‵ (flft (ν ∷ []) fullShare) ⊛ (‵ (flft κ₂ q₂) ⊛ ‵ ftrue)))) ⊛ ‵ (Ans .own r (u ∷ []))) ⊛ raw (ensured 𝓤 H A rs.ended (rs.clauses 𝓤 H A mem run) κs args tt r)))) (id⊢ 𝓤 _) $ await ! tt $ pick ! (λ r.
+        use1 W (later (some (λ (r : ReadAnswer). ((‵ (flft κ₀ q₀) ⊛ (‵ (flft κ₁ q₁) ⊛ (‵ (flft (ν ∷ []) fullShare) ⊛ (‵ (flft κ₂ q₂) ⊛ ‵ ftrue)))) ⊛ ‵ (Ans .own r (u ∷ []))) ⊛ raw (ensured 𝓤 H A rs.ended (rs.clauses 𝓤 H A mem run) κs args tt r)))) (id⊢ 𝓤 _) $ await ! tt $ pick ! (λ r.
         split ! $ move ! (1 ∷ []) $ use1 W (some (λ (z : Last). ‵ (lasts rs.ended κs args z) ⊛ raw (fact 𝓤 (_≡_ {A = ReadSlots} (record { answer = r; slots = z .1 .1 .0; area = z .1 .1 .1 .0 }) (readSlots (t .now) (y .now) firsts (a .now) k))))) (id⊢ 𝓤 _) $ pick ! (λ z.
         split ! $ move ! (1 ∷ []) $ heard ! (_≡_ {A = ReadSlots} (record { answer = r; slots = z .1 .1 .0; area = z .1 .1 .1 .0 }) (readSlots (t .now) (y .now) firsts (a .now) k)) (λ e.
         fsplit ! $ drop ! $ fsplit ! $ drop ! $ fsplit ! $ fsplit ! $ move ! (1 ∷ []) $ feqL ! (λ still. move ! (1 ∷ []) $ fsplit ! $ fsplit ! $ move ! (1 ∷ []) $ feqL ! (λ long.
@@ -208,7 +208,7 @@ module _ {M : Type 1} (𝓤 : URA M) (H : Heap 𝓤) (A : Atoms 𝓤) (W : Given
         move ! (1 ∷ []) $ split ! $ at-once ! $ show ! (Got u) (r, z .1 .1 .0 ++ drop-list n xs, z .1 .1 .1 .0) $ check ! (read-part (t .now) (y .now) (a .now) (z .1 .1 .1 .0) xs (z .1 .1 .0) n k r e, same-len n xs (z .1 .1 .0) still, long) $ keep ! (5 ∷ 6 ∷ 0 ∷ 3 ∷ 4 ∷ 2 ∷ []) $ done !)))))
 
   -- ---- `together`: the answer and the array go by value
-  module _ (r : Answer) (zs : List Slot) (u w : Val) where
+  module _ (r : ReadAnswer) (zs : List Slot) (u w : Val) where
     abbrev to-tg : Together 𝓤 H A mem run .Ghost
     to-tg = ((tt, tt, tt, (r, (zs, tt)), (u ∷ [], (w ∷ [], tt))), tt)
 

@@ -43,7 +43,7 @@ use denote.Triple.Spec.{Meets, tripleOf}
 use denote.Triple.Table.{entered, cited}
 use denote.Triple.Walked.{says, Stays, stay-dropped, gave-slice, walkOf, goes-dropped, goes-gave-slice, Walks, ends-at, walked, walk-meets}
 use denote.Exit.{yes}
-use Rattle.record.specs.declared.Answer.{Answer}
+use Rattle.record.specs.declared.ReadAnswer.{ReadAnswer}
 use Rattle.slots.specs.declared.Slot.{Slot}
 use Rattle.slots.specs.Slots.{maxNumbers, slotsFrom, taken, readFirst}
 use Rattle.slots.proofs.Calls.{taken-within, read-loaded}
@@ -51,9 +51,9 @@ use Rattle.slots.proofs.Turns.{numbers-fit}
 use Rattle.slots.proofs.Arrays.{arr, cells-part, part-cells, room-back}
 use Rattle.slots.proofs.Zeros.{zeros, zeros-fit, zeros-apart}
 use Rattle.slots.proofs.Slot as T
-use Rattle.record.proofs.Answer as TA
-use Rattle.record.proofs.Answer.Laws as TA′
-use Rattle.record.specs.Reading.{Read}
+use Rattle.record.proofs.ReadAnswer as TA
+use Rattle.record.proofs.ReadAnswer.Laws as TA′
+use Rattle.record.specs.Reading.{ReadAll}
 use Rattle.record.specs.Table.{slotWidth}
 use Rattle.slots.proofs.Shared.{LentShared, lends-shared, comes-back-shared}
 use Rattle.slots.proofs.Loads.{Load, zeros-long, room-numbers, scratch, scratch-long, Own-zeros, to-load, asked-load, back-load}
@@ -146,10 +146,10 @@ module _ {M : Type 1} (𝓤 : URA M) (H : Heap 𝓤) (A : Atoms 𝓤) (W : Given
 
   -- what is known of the answer, of the numbers' list and of the area's last list; and of the slots' last list
   abbrev Left : Type 0
-  Left = Answer × List ℕ × List ℕ
+  Left = ReadAnswer × List ℕ × List ℕ
 
   abbrev Fine : Left → Type 0
-  Fine p = (_≡_ {A = Read} (record { answer = p .0; slots = take (n * slotWidth) (p .1); area = p .2 }) (readFirst (t .now) (y .now) (scratch ys) n (a .now) k)) × (length (p .1) ≡ length (scratch ys)) × (length (p .2) ≡ length (a .now))
+  Fine p = (_≡_ {A = ReadAll} (record { answer = p .0; slots = take (n * slotWidth) (p .1); area = p .2 }) (readFirst (t .now) (y .now) (scratch ys) n (a .now) k)) × (length (p .1) ≡ length (scratch ys)) × (length (p .2) ≡ length (a .now))
 
   abbrev Saved : List ℕ → List Slot → Type 0
   Saved ws zs = (zs ≡ slotsFrom (take (c * slotWidth) ws) ++ rest c ys) × (length zs ≡ n)
@@ -196,15 +196,15 @@ module _ {M : Type 1} (𝓤 : URA M) (H : Heap 𝓤) (A : Atoms 𝓤) (W : Given
     abbrev Last : Type 0
     Last = Unit {0} × (Unit {0} × (List ℕ × (Unit {0} × (List ℕ × (Unit {0} × Unit {0})))))
 
-    abbrev left : Answer → Last → Left
+    abbrev left : ReadAnswer → Last → Left
     left r z = (r, z .1 .1 .0, z .1 .1 .1 .1 .0)
 
     back-read : (u : Val) → ent 𝓤 (sep 𝓤 (ReadFirst 𝓤 H A mem run .post to-read u) (sem 𝓤 H A Lent-n)) (H .⇛ (ex 𝓤 (Got-read u)))
     back-read u =
         qed W (raw (ReadFirst 𝓤 H A mem run .post to-read u) ∷ ‵ Lent-n ∷ []) ∵ updating ! $
-        use1 W (later (some (λ (r : Answer). ((‵ (flft κ₀ q₀) ⊛ (‵ (flft κ₁ q₁) ⊛ (‵ (flft (μ ∷ []) fullShare) ⊛ (‵ (flft κ₃ q₃) ⊛ ‵ ftrue)))) ⊛ ‵ (Ans .own r (u ∷ []))) ⊛ raw (ensured 𝓤 H A rf.ended (rf.clauses 𝓤 H A mem run) κs args tt r)))) (id⊢ 𝓤 _) $ await ! tt $ pick ! (λ r.
-        split ! $ move ! (1 ∷ []) $ use1 W (some (λ (z : Last). ‵ (lasts rf.ended κs args z) ⊛ raw (fact 𝓤 (_≡_ {A = Read} (record { answer = r; slots = take (n * slotWidth) (z .1 .1 .0); area = z .1 .1 .1 .1 .0 }) (readFirst (t .now) (y .now) (scratch ys) n (a .now) k))))) (id⊢ 𝓤 _) $ pick ! (λ z.
-        split ! $ move ! (1 ∷ []) $ heard ! (_≡_ {A = Read} (record { answer = r; slots = take (n * slotWidth) (z .1 .1 .0); area = z .1 .1 .1 .1 .0 }) (readFirst (t .now) (y .now) (scratch ys) n (a .now) k)) (λ e.
+        use1 W (later (some (λ (r : ReadAnswer). ((‵ (flft κ₀ q₀) ⊛ (‵ (flft κ₁ q₁) ⊛ (‵ (flft (μ ∷ []) fullShare) ⊛ (‵ (flft κ₃ q₃) ⊛ ‵ ftrue)))) ⊛ ‵ (Ans .own r (u ∷ []))) ⊛ raw (ensured 𝓤 H A rf.ended (rf.clauses 𝓤 H A mem run) κs args tt r)))) (id⊢ 𝓤 _) $ await ! tt $ pick ! (λ r.
+        split ! $ move ! (1 ∷ []) $ use1 W (some (λ (z : Last). ‵ (lasts rf.ended κs args z) ⊛ raw (fact 𝓤 (_≡_ {A = ReadAll} (record { answer = r; slots = take (n * slotWidth) (z .1 .1 .0); area = z .1 .1 .1 .1 .0 }) (readFirst (t .now) (y .now) (scratch ys) n (a .now) k))))) (id⊢ 𝓤 _) $ pick ! (λ z.
+        split ! $ move ! (1 ∷ []) $ heard ! (_≡_ {A = ReadAll} (record { answer = r; slots = take (n * slotWidth) (z .1 .1 .0); area = z .1 .1 .1 .1 .0 }) (readFirst (t .now) (y .now) (scratch ys) n (a .now) k)) (λ e.
         fsplit ! $ drop ! $ fsplit ! $ drop ! $ fsplit ! $ fsplit ! $ move ! (1 ∷ []) $ feqL ! (λ as-many. move ! (1 ∷ []) $ fsplit ! $ drop ! $ fsplit ! $ fsplit ! $ move ! (1 ∷ []) $ feqL ! (λ long.
         -- [the area's last list; true; the numbers' last list; the tokens and the result; the lender's part]
         move ! (3 ∷ []) $ split ! $ split ! $ move ! (1 ∷ []) $ split ! $ move ! (1 ∷ []) $ split ! $ lft-end ! tt $ move ! (0 ∷ 8 ∷ 7 ∷ []) $
