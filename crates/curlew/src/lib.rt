@@ -1,8 +1,7 @@
 // The calls that a C host links to, each under its C name: the crates host_* hold what they do.
-ghost use mathlib.Core.Path.{_≡_};
 ghost use Rattle.host_record.specs.Calls.{HostPacks, HostReads};
 ghost use Rattle.host_sheet.specs.Calls.{HostWritesSheet, HostReadsSheet};
-ghost use Rattle.host_rescue.specs.Calls.{curlewSheetRescue};
+ghost use Rattle.host_rescue.specs.Calls.{HostRescues};
 ghost use Rattle.host_compare.specs.Calls.{HostCompares};
 ghost use Rattle.host_mean.specs.Calls.{HostMeans};
 ghost use Rattle.host_perl.specs.Calls.{HostConverts};
@@ -73,7 +72,7 @@ pub extern "C" fn curlew_sheet_rescue(
     mark: usize,
     reply: &mut [u8],
 ) -> u32
-    ensures { λ r. ⌜ record { returned = r; slots = now (slots .exit); area = now (area .exit); reply = now (reply .exit) } ≡ curlewSheetRescue (now (sheet .entry)) legs (now (slots .entry)) (now (area .entry)) mark (now (reply .entry)) ⌝ }
+    ensures { λ r. ⌜ HostRescues sheet legs slots area mark reply r ⌝ }
 {
     host_rescue::rescue(sheet, legs, slots, area, mark, reply)
 }

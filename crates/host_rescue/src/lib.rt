@@ -3,9 +3,8 @@ ghost use mathlib.Core.Path.{_≡_};
 ghost use Prim.Native.Nat.{_*_};
 ghost use lib.Dec.{eqb};
 ghost use lib.ListN.{length};
-ghost use Rattle.host.specs.Host.{numberSize, numbersIn};
-ghost use Rattle.rescue.specs.Rescue.{rescue};
-ghost use Rattle.host_rescue.specs.Calls.{rescueReplySize, rescueReply, rescueCall, curlewSheetRescue};
+ghost use Rattle.host.specs.Host.{numberSize};
+ghost use Rattle.host_rescue.specs.Calls.{rescueReplySize, rescueReply, RescueServed, HostRescues};
 use layout::Refusal;
 use rescue::Rescued;
 
@@ -40,7 +39,7 @@ fn rescue_by(
     room: &mut [u32],
 ) -> u32
     requires { ⌜ (length (now reply) ≡ rescueReplySize) × (length (now slots) ≡ length (now room) * numberSize) ⌝ }
-    ensures { λ r. ⌜ record { returned = r; slots = now (slots .exit); area = now (area .exit); reply = now (reply .exit) } ≡ rescueCall (now (slots .entry)) (rescue (now (sheet .entry)) legs (numbersIn (now (slots .entry))) (now (area .entry)) mark) ⌝ }
+    ensures { λ r. ⌜ RescueServed sheet legs slots area mark reply r ⌝ }
 {
     let a = rescue::rescue(sheet, legs, room, area, mark);
     if a.number != 0 {
@@ -59,7 +58,7 @@ pub fn rescue(
     mark: usize,
     reply: &mut [u8],
 ) -> u32
-    ensures { λ r. ⌜ record { returned = r; slots = now (slots .exit); area = now (area .exit); reply = now (reply .exit) } ≡ curlewSheetRescue (now (sheet .entry)) legs (now (slots .entry)) (now (area .entry)) mark (now (reply .entry)) ⌝ }
+    ensures { λ r. ⌜ HostRescues sheet legs slots area mark reply r ⌝ }
 {
     if !reply_fits(reply.len()) {
         return 1;

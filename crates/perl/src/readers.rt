@@ -4,6 +4,7 @@ ghost use mathlib.Core.Bool.{false};
 ghost use mathlib.Core.List.{_∷_, _++_};
 ghost use Prim.Native.Nat.{suc, _+_, _≤_, _<_};
 ghost use lib.ListN.{length, drop, getD};
+ghost use Rattle.layout.specs.Lent.{before, after};
 ghost use Rattle.layout.specs.Layout.{maxLayout};
 ghost use Rattle.record.specs.Bytes.{part, storeAt};
 ghost use Rattle.perl.specs.Template.{maxRepeat, letterOf, letterAt};
@@ -80,7 +81,7 @@ fn again(out: &mut [u8], to: usize, end: usize, times: usize) -> usize
 // the letter at p with its count
 fn single(text: &[u8], p: usize, out: &mut [u8], to: usize) -> Span
     requires { ⌜ (p < length (now text)) × (length (now text) ≤ maxLayout) × (length (now out) ≡ maxLayout) × (to ≤ suc maxLayout) ⌝ }
-    ensures { λ r. ⌜ Written itemText (letterAt p (letterOf (getD (now (text .entry)) p 0)) (drop (suc p) (now (text .entry)))) to (now (out .entry)) r (now (out .exit)) ⌝ }
+    ensures { λ r. ⌜ Written itemText (letterAt p (letterOf (getD (before text) p 0)) (drop (suc p) (before text))) to (before out) r (after out) ⌝ }
 {
     let c = text[p];
     let l = tokens::letter(c);
