@@ -25,7 +25,8 @@ use Rattle.reader.specs.Checks.{checked}
 use Rattle.reader.specs.Tables.{TableRoom}
 use Rattle.reader.proofs.Calls.{Fit, fit}
 use Rattle.record.proofs.Readings.{values-few}
-use Rattle.compare.specs.Comparing.{reportWidth, rows, Shown, compares, compareEffect, compare}
+use Rattle.difference.specs.Rows.{reportWidth}
+use Rattle.compare.specs.Comparing.{rows, Shown, compares, compareEffect, compare}
 use Rattle.compare.specs.Shown.{shownBytes, Holds}
 use Rattle.compare.proofs.Shown.{length-rows, put-shows, put-holds}
 

@@ -17,7 +17,8 @@ use Rattle.record.specs.Table.{slotWidth, maxSlots, Value, areaBytes, slotNumbe
 use Rattle.record.specs.Reading.{reads, putInto}
 use Rattle.record.proofs.Readings.{values-few, length-slot-numbers}
 use Rattle.record.proofs.Fields.{split}
-use Rattle.compare.specs.Comparing.{reportWidth, rows, Shown, compares, compareEffect, Compared, compare}
+use Rattle.difference.specs.Rows.{reportWidth}
+use Rattle.compare.specs.Comparing.{rows, Shown, compares, compareEffect, Compared, compare}
 use Rattle.compare.proofs.Shown.{length-rows}
 use Rattle.compare.proofs.Calls.{accepted-reads, accepted-call, left}
 

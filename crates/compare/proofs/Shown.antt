@@ -21,10 +21,12 @@ use Rattle.record.proofs.SlotLaws.{next-slot}
 use Rattle.record.proofs.Stores.{length-storeAt, runs, runs-first, Wrote, wrote-more}
 use Rattle.record.proofs.Tables.{length-slots}
 use Rattle.reader.specs.Tables.{TableRoom}
-use Rattle.compare.specs.Comparing.{reportWidth, same, firstDifference, differingBits, onlyFirst, onlySecond, inNeither, bothSame, bothDiffer, plainRow, bothRow, row, rows}
-use Rattle.compare.specs.Shown.{numbers, sizeOf, spanAt, bytesOf, shownBytes, Holds}
+use Rattle.difference.specs.Rows.{reportWidth, same, firstDifference, differingBits, onlyFirst, onlySecond, inNeither, bothSame, bothDiffer, plainRow, bothRow}
+use Rattle.compare.specs.Comparing.{row, rows}
+use Rattle.difference.specs.Rows.{numbers}
+use Rattle.compare.specs.Shown.{sizeOf, spanAt, bytesOf, shownBytes, Holds}
 use Rattle.compare.specs.declared.report.Span.{Span}
-use Rattle.compare.specs.declared.value.Row.{Row}
+use Rattle.difference.specs.declared.Row.{Row}
 
 -- ---- the rows one by one
 

@@ -1,79 +1,21 @@
 -- Two copies of one record compared, value field by value field (02, M-102): THE EFFECT OF A CALL is `compare`, at the end.
-use Prim.Native.Nat.{ℕ, zero, suc, _+_, _*_}
+use Prim.Native.Nat.{ℕ, zero, suc, _*_}
 use mathlib.Core.Path.{_≡_}
-use mathlib.Core.Bool.{Bool, true, false, _&&_}
+use mathlib.Core.Bool.{false}
 use mathlib.Core.List.{List, [], _∷_, _++_, map}
 use lib.ListN.{length, drop}
-use lib.Dec.{eqb, leb}
+use lib.Dec.{leb}
 use Rattle.layout.specs.declared.Refusal.the-variants.{NoRoom}
-use Rattle.layout.specs.Refusals.{if_then_else_, Result, ok, refused, _>>=_, demand}
+use Rattle.layout.specs.Refusals.{Result, ok, refused, _>>=_, demand}
 use Rattle.layout.specs.Layout.{fieldsOf, slotCount}
 use Rattle.layout.specs.Lent.{Lent, before, after}
 use Rattle.record.specs.declared.Answer.{Answer}
-use Rattle.record.specs.Bytes.{join, digits}
 use Rattle.record.specs.Table.{Value, areaBytes}
 use Rattle.record.specs.Packing.{accepted, refusal}
 use Rattle.record.specs.Reading.{reads, positionsFrom, putInto}
+use Rattle.difference.specs.Rows.{reportWidth, onlyFirst, onlySecond, inNeither, plainRow, bothRow}
 
--- ---- two values, as the bytes that they have in their areas
-
--- byte for byte the same, and none longer
-unfoldable pub same : List ℕ → List ℕ → Bool
-same [] [] = true
-same [] (y ∷ ys) = false
-same (x ∷ xs) [] = false
-same (x ∷ xs) (y ∷ ys) = eqb x y && same xs ys
-
--- the place of the first byte that differs; the length of the shorter, if it is the front of the other
-unfoldable pub firstDifference : List ℕ → List ℕ → ℕ
-firstDifference [] ys = 0
-firstDifference (x ∷ xs) [] = 0
-firstDifference (x ∷ xs) (y ∷ ys) = if eqb x y then suc (firstDifference xs ys) else 0
-
--- at how many of the places that both have their elements differ
-unfoldable pub differing : List ℕ → List ℕ → ℕ
-differing [] ys = 0
-differing (x ∷ xs) [] = 0
-differing (x ∷ xs) (y ∷ ys) = (if eqb x y then 0 else 1) + differing xs ys
-
--- the binary digits of a run of bytes, eight to a byte
-unfoldable pub bitsOf : List ℕ → List ℕ
-unfolding join digits
-bitsOf bs = join (map (digits 2 8) bs)
-
--- the bits at which the bytes that both have differ
-abbrev pub differingBits : List ℕ → List ℕ → ℕ
-differingBits xs ys = differing (bitsOf xs) (bitsOf ys)
-
--- ---- the report: a row of three numbers for each value field
-
-abbrev pub reportWidth : ℕ
-reportWidth = 3
-
--- the five verdicts
-abbrev pub bothSame : ℕ
-bothSame = 0
-
-abbrev pub onlyFirst : ℕ
-onlyFirst = 1
-
-abbrev pub onlySecond : ℕ
-onlySecond = 2
-
-abbrev pub inNeither : ℕ
-inNeither = 3
-
-abbrev pub bothDiffer : ℕ
-bothDiffer = 4
-
--- the row of a verdict that says all: the other two numbers are 0
-abbrev pub plainRow : ℕ → List ℕ
-plainRow verdict = verdict ∷ 0 ∷ 0 ∷ []
-
--- the row of two values that are both set
-unfoldable pub bothRow : List ℕ → List ℕ → List ℕ
-unfolding same firstDifference bitsOf differing
-bothRow xs ys = if same xs ys then plainRow bothSame else (bothDiffer ∷ firstDifference xs ys ∷ differingBits xs ys ∷ [])
+-- ---- the report: a row for each value field (the row of two values is in the crate `difference`)
 
 -- The row of a field, from the values that each reading set for it and the fields after it.
 -- (A reading sets its fields from the first on and then no more: this field is set where any value is left.)

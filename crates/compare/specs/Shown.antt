@@ -10,11 +10,7 @@ use Rattle.record.specs.Packing.{nextSlot}
 use Rattle.record.specs.Slots.{slotAt, valueEnd}
 use Rattle.compare.specs.Comparing.{row}
 use Rattle.compare.specs.declared.report.Span.{Span}
-use Rattle.compare.specs.declared.value.Row.{Row}
-
--- the three numbers of a row
-abbrev pub numbers : Row → List ℕ
-numbers r = r .verdict ∷ r .place ∷ r .bits ∷ []
+use Rattle.difference.specs.declared.Row.{Row}
 
 -- how many bytes of the area a slot's value takes, where those of slot i lie, and which they are
 abbrev pub sizeOf : Slot → ℕ

@@ -5,7 +5,6 @@ use layout::Refusal;
 use record::Answer;
 
 mod report;
-mod value;
 
 // The numbers of a row of the report.
 pub const REPORT_WIDTH: usize = 3;

@@ -5,11 +5,12 @@ ghost use lib.ListN.{length};
 ghost use Rattle.layout.specs.Lent.{before, after};
 ghost use Rattle.record.specs.Bytes.{storeAt};
 ghost use Rattle.record.specs.Table.{slotWidth};
-ghost use Rattle.compare.specs.Comparing.{reportWidth, rows};
-ghost use Rattle.compare.specs.Shown.{numbers, spanAt, shownBy, rowAt, Holds};
+ghost use Rattle.difference.specs.Rows.{reportWidth};
+ghost use Rattle.compare.specs.Comparing.{rows};
+ghost use Rattle.difference.specs.Rows.{numbers};
+ghost use Rattle.compare.specs.Shown.{spanAt, shownBy, rowAt, Holds};
 use super::REPORT_WIDTH;
-use super::value;
-use super::value::Row;
+use difference::Row;
 
 // A value's bytes in the area: where they start, and how many there are.
 pub struct Span {
@@ -46,14 +47,14 @@ fn field_row(
         if i < m {
             let a = value_span(first_slots, i);
             let b = value_span(second_slots, i);
-            return value::both_row(first_area, a.start, a.size, second_area, b.start, b.size);
+            return difference::both_row(first_area, a.start, a.size, second_area, b.start, b.size);
         }
-        return value::plain_row(value::ONLY_FIRST);
+        return difference::plain_row(difference::ONLY_FIRST);
     }
     if i < m {
-        return value::plain_row(value::ONLY_SECOND);
+        return difference::plain_row(difference::ONLY_SECOND);
     }
-    value::plain_row(value::IN_NEITHER)
+    difference::plain_row(difference::IN_NEITHER)
 }
 
 fn put_row(report: &mut [u32], i: usize, r: Row)

@@ -6,10 +6,10 @@ use lib.Dec.{T}
 use lib.ListN.{replicate, take}
 use Rattle.layout.specs.Quoted.{bytes}
 use Rattle.record.specs.Table.{slotWidth}
 use Rattle.compare.specs.Comparing.{Compared, compare}
-use Rattle.compare.specs.Claims.{WithItself, sameOrNeither, OtherWayRound, otherWay}
-use Rattle.compare.specs.Examples.{all, examples}
-use Rattle.compare.proofs.Claims.{with-itself, other-way-round}
+use Rattle.compare_claims.specs.Claims.{WithItself, sameOrNeither, OtherWayRound, otherWay}
+use Rattle.compare_claims.specs.Examples.{all, examples}
+use Rattle.compare_claims.proofs.Claims.{with-itself, other-way-round}
 
 examples-hold : T (all examples)
 unfolding all examples

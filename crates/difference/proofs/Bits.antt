@@ -14,8 +14,8 @@ use Rattle.layout.specs.Refusals.{if_then_else_}
 use Rattle.record.specs.Bytes.{part, join, digits}
 use Rattle.record.proofs.Bytes.{length-digits}
 use Rattle.record.proofs.Stores.{length-part}
-use Rattle.compare.specs.Comparing.{differing, bitsOf, differingBits}
-use Rattle.compare.proofs.Runs.{part-more}
+use Rattle.difference.specs.Rows.{differing, bitsOf, differingBits}
+use Rattle.difference.proofs.Runs.{part-more}
 
 -- ---- two bytes
 

@@ -8,9 +8,9 @@ use lib.ListN.{length, take, drop}
 use lib.Seq.{take-take}
 use Rattle.record.specs.Bytes.{part}
 use Rattle.record.proofs.Stores.{length-part}
-use Rattle.compare.specs.Comparing.{same, firstDifference, differingBits, bothSame, bothDiffer, plainRow, bothRow}
-use Rattle.compare.proofs.Runs.{difference-common}
-use Rattle.compare.proofs.Bits.{bits-common}
+use Rattle.difference.specs.Rows.{same, firstDifference, differingBits, bothSame, bothDiffer, plainRow, bothRow}
+use Rattle.difference.proofs.Runs.{difference-common}
+use Rattle.difference.proofs.Bits.{bits-common}
 
 pub both-same : (xs ys : List ℕ) {t : Bool} {r : List ℕ} → t ≡ same xs ys → t ≡ true → r ≡ plainRow bothSame → r ≡ bothRow xs ys
 unfolding bothRow

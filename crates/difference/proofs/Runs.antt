@@ -13,7 +13,7 @@ use lib.Seq.{drop-cons, take-suc, getD-drop}
 use Rattle.layout.specs.Refusals.{if_then_else_}
 use Rattle.record.specs.Bytes.{part}
 use Rattle.record.proofs.Stores.{length-part}
-use Rattle.compare.specs.Comparing.{same, firstDifference}
+use Rattle.difference.specs.Rows.{same, firstDifference}
 
 -- ---- parts of a run
 

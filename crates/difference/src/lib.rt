@@ -5,8 +5,8 @@ ghost use mathlib.Core.Bool.{_&&_};
 ghost use lib.ListN.{length};
 ghost use Rattle.record.specs.Bytes.{part, digits};
 ghost use Rattle.record.specs.Table.{maxArea};
-ghost use Rattle.compare.specs.Comparing.{same, firstDifference, differing, differingBits, plainRow, bothRow};
-ghost use Rattle.compare.specs.Shown.{numbers};
+ghost use Rattle.difference.specs.Rows.{same, firstDifference, differing, differingBits, plainRow, bothRow};
+ghost use Rattle.difference.specs.Rows.{numbers};
 
 // The verdicts on a value field.
 const BOTH_SAME: u32 = 0;

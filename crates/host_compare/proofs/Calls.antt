@@ -23,7 +23,8 @@ use Rattle.record.proofs.Bytes.{All}
 use Rattle.record.proofs.Sizes.{too-many as sizes-many}
 use Rattle.record.proofs.Tables.{length-slots}
 use Rattle.reader.specs.Checks.{checked}
-use Rattle.compare.specs.Comparing.{reportWidth, Shown, compares, compareEffect, Compared, compare}
+use Rattle.difference.specs.Rows.{reportWidth}
+use Rattle.compare.specs.Comparing.{Shown, compares, compareEffect, Compared, compare}
 use Rattle.compare.proofs.Calls.{accepted-reads}
 use Rattle.compare.proofs.Lent.{Kept, Settled, settled, reportOver, report-over}
 use Rattle.host.specs.Host.{numberSize, slotSize, replySize, numbersIn, bytesOf, replyOf, slotsFit}

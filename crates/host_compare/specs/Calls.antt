@@ -9,7 +9,8 @@ use Rattle.layout.specs.declared.Refusal.the-variants.{BadSize}
 use Rattle.layout.specs.Refusals.{if_then_else_, numberOf, Result, ok, refused, _>>=_, demand}
 use Rattle.layout.specs.Lent.{Lent, before, after}
 use Rattle.record.specs.Reading.{reads}
-use Rattle.compare.specs.Comparing.{reportWidth, Shown, compares, compareEffect, Compared, compare}
+use Rattle.difference.specs.Rows.{reportWidth}
+use Rattle.compare.specs.Comparing.{Shown, compares, compareEffect, Compared, compare}
 use Rattle.host.specs.Host.{numberSize, slotSize, replySize, numbersIn, bytesOf, replyOf}
 
 -- the bytes of a row of the report

@@ -4,7 +4,7 @@ ghost use Prim.Native.Nat.{_*_, _/_, _%_, min};
 ghost use lib.ListN.{length};
 ghost use Rattle.record.specs.Table.{slotWidth, maxSlots};
 ghost use Rattle.host.specs.Host.{numberSize, replySize};
-ghost use Rattle.compare.specs.Comparing.{reportWidth};
+ghost use Rattle.difference.specs.Rows.{reportWidth};
 ghost use Rattle.host_compare.specs.Calls.{CompareServed, HostCompares};
 ghost use Rattle.host_compare.specs.Steps.{SecondRefused};
 use host::numbers;

@@ -2,11 +2,11 @@
 use Prim.Native.Nat.{_+_, _≤_}
 use native.Mathlib.Omega.{arith}
 use lib.ListN.{length}
-use Rattle.compare.proofs.Runs.{place-small}
-use Rattle.compare.proofs.Both.{both-same, both-differ}
+use Rattle.difference.proofs.Runs.{place-small}
+use Rattle.difference.proofs.Pairs.{both-same, both-differ}
 use borrow.Author.Needs.{needs}
-use Rattle.compare.proofs.value.both_row.Statement.{statement}
-use Rattle.compare.proofs.value.both_row.Tie as tie
+use Rattle.difference.proofs.both_row.Statement.{statement}
+use Rattle.difference.proofs.both_row.Tie as tie
 
 same-requires : tie.Need-same-requires
 same-requires c κs = search needs

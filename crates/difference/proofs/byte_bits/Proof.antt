@@ -1,8 +1,8 @@
 -- The ones of the exclusive or are the places at which the digits differ.
 use native.Mathlib.Omega.{arith}
-use Rattle.compare.proofs.Bits.{xor-bits}
-use Rattle.compare.proofs.value.byte_bits.Statement.{statement}
-use Rattle.compare.proofs.value.byte_bits.Tie as tie
+use Rattle.difference.proofs.Bits.{xor-bits}
+use Rattle.difference.proofs.byte_bits.Statement.{statement}
+use Rattle.difference.proofs.byte_bits.Tie as tie
 
 returns : tie.Need-returns
 returns c = xor-bits 8 _ _ (omega arith) (omega arith)

@@ -1,9 +1,9 @@
 -- The sum so far is that of the bytes so far.
 use Prim.Native.Nat.{_-_, _≤_}
 use native.Mathlib.Omega.{arith}
-use Rattle.compare.proofs.Bits.{byte-few, Counted, counted-none, counted-more, counted-done}
-use Rattle.compare.proofs.value.differing_bits.Statement.{statement}
-use Rattle.compare.proofs.value.differing_bits.Tie as tie
+use Rattle.difference.proofs.Bits.{byte-few, Counted, counted-none, counted-more, counted-done}
+use Rattle.difference.proofs.differing_bits.Statement.{statement}
+use Rattle.difference.proofs.differing_bits.Tie as tie
 
 abbrev Inv-loop : tie.InvT-loop
 Inv-loop first at second to n sum₀ i₀ sum i = (i ≤ n) × Counted first at second to sum i

@@ -1,9 +1,9 @@
 -- The bytes before i are the same, so the two part where those from i on do.
 use Prim.Native.Nat.{_-_}
 use native.Mathlib.Omega.{arith}
-use Rattle.compare.proofs.Runs.{Alike, alike-none, alike-more, alike-parts, alike-done}
-use Rattle.compare.proofs.value.first_difference.Statement.{statement}
-use Rattle.compare.proofs.value.first_difference.Tie as tie
+use Rattle.difference.proofs.Runs.{Alike, alike-none, alike-more, alike-parts, alike-done}
+use Rattle.difference.proofs.first_difference.Statement.{statement}
+use Rattle.difference.proofs.first_difference.Tie as tie
 
 abbrev Inv-loop : tie.InvT-loop
 Inv-loop first at second to n i₀ i = Alike first at second to n i

@@ -1,8 +1,8 @@
 -- Runs of different lengths are not the same.
-use Rattle.compare.proofs.Runs.{parts-long}
+use Rattle.difference.proofs.Runs.{parts-long}
 use borrow.Author.Needs.{needs}
-use Rattle.compare.proofs.value.same.Statement.{statement}
-use Rattle.compare.proofs.value.same.Tie as tie
+use Rattle.difference.proofs.same.Statement.{statement}
+use Rattle.difference.proofs.same.Tie as tie
 
 returns : tie.Need-returns
 returns c = let p = c .before .before .before .pre in parts-long _ _ _ _ _ _ (p .0) (p .1) (c .if1 .taken)

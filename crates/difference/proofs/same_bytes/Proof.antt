@@ -4,10 +4,10 @@ use native.Mathlib.Omega.{arith}
 use mathlib.Core.Path.{_≡_, refl}
 use borrow.Author.Needs.{needs}
 use Rattle.record.specs.Bytes.{part}
-use Rattle.compare.specs.Comparing.{same}
-use Rattle.compare.proofs.Runs.{part-same}
-use Rattle.compare.proofs.value.same_bytes.Statement.{statement}
-use Rattle.compare.proofs.value.same_bytes.Tie as tie
+use Rattle.difference.specs.Rows.{same}
+use Rattle.difference.proofs.Runs.{part-same}
+use Rattle.difference.proofs.same_bytes.Statement.{statement}
+use Rattle.difference.proofs.same_bytes.Tie as tie
 
 abbrev Inv-loop : tie.InvT-loop
 Inv-loop first at second to n good₀ i₀ good i = (i ≤ n) × (good ≡ same (part first at i) (part second to i))

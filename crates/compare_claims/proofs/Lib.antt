@@ -1,0 +1,3 @@
+-- Claims proves what specs/Claims.antt states.
+mod Examples
+pub mod Claims

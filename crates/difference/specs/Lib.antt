@@ -1,0 +1,2 @@
+-- What two values differ in.
+pub mod Rows
