@@ -8,7 +8,7 @@
  * curlew_sheet_write and curlew_sheet_read keep a whole table of values in a file, as a sheet, with the values
  * that are not set; curlew_sheet_rescue keeps what is whole of a damaged one. curlew_compare reads two copies of
  * one record and says what differs. curlew_mean gives the mean of a candidate's marks. curlew_from_perl turns a
- * pack template of Perl into a layout.
+ * pack template of Perl into a layout. curlew_layout says how many slots a layout takes and how long its records are.
  *
  * Link with libcurlew.a or libcurlew.so. The header serves C99 and C++, the library x86-64. Of other libraries it
  * needs memcpy, memmove and memset alone, which every C library has. It allocates nothing, keeps no state and does no
@@ -111,6 +111,17 @@
  *            `x*` goes to the end in reading and is refused in packing.
  *
  * The result of packing is as long as the highest position reached; bytes in it that nothing stored are zero.
+ *
+ *
+ * A LAYOUT LOOKED AT BEFORE IT IS USED
+ *
+ * curlew_layout takes a layout alone and answers how many slots packing by it takes, and how long the record is
+ * that it packs where every starred value is empty. No record that is packed by the layout is shorter, and without
+ * stars every one has just this length: it sizes your buffers. A starred value may add to it what it fills. X, x
+ * and @ are counted as packing makes them: `a5X2a1` packs 5 bytes, `@10` packs 10. The length is the true one, up
+ * to 8 times CURLEW_MAX_COUNT for a field; above CURLEW_MAX_RECORD no packing by the layout is accepted, and
+ * neither is one with more slots than CURLEW_MAX_SLOTS. A layout that packing would refuse is refused just so: 1
+ * for its size, 2, 3 or 4 with the place.
  *
  *
  * COMPOSING RECORDS
@@ -258,6 +269,7 @@
  *   compared        CURLEW_OK, how many findings there are, 0
  *   mean            CURLEW_OK, how many slots are not set, 0 (and the mean behind them)
  *   from Perl       CURLEW_OK, length of the layout, 0
+ *   layout          CURLEW_OK, slots that it takes, length of its shortest record
  *   refused         the number of the refusal, the place of the fault, 0
  *
  *   no.  constant            refused because                                        place
@@ -297,7 +309,7 @@
  * then 5; then 6 to 10 for each slot in turn, the lower number first; then 11. Writing a sheet: 1; 7 for each
  * slot in turn; 11. Reading a sheet: 1; 13; 12; 5; 11. Rescuing one: 1; 13; 5; 11. Comparing: all of reading the first copy, then all of
  * reading the second, then 11 for the report. Mean: 1; then 7, 8, 9 and 14 for each slot in turn. From Perl: 1;
- * 15; 11.
+ * 15; 11. Layout: 1; then 2, 3 and 4 for each field in turn.
  *
  * No byte is written before the last of them: a refusal writes the reply and nothing else. A reply of a wrong size
  * makes the call return 1 and write nothing at all.
@@ -316,7 +328,8 @@
  *   template of Perl        at most CURLEW_MAX_TEMPLATE  256 bytes
  *   legs of a rescue        at most CURLEW_MAX_SLOTS      64
  *   reply                   exactly CURLEW_PACK_REPLY, CURLEW_READ_REPLY, CURLEW_SHEET_REPLY, CURLEW_RESCUE_REPLY,
- *                           CURLEW_COMPARE_REPLY, CURLEW_MEAN_REPLY or CURLEW_PERL_REPLY bytes
+ *                           CURLEW_COMPARE_REPLY, CURLEW_MEAN_REPLY, CURLEW_PERL_REPLY or
+ *                           CURLEW_LAYOUT_REPLY bytes
  *
  * Number 1 compares the lengths that you give to a call with these limits. The output run must be no larger than a
  * record may be, even where the result is short, and so must the run for a sheet. The report of curlew_compare and the
@@ -405,6 +418,7 @@
 #define CURLEW_COMPARE_REPLY 12
 #define CURLEW_MEAN_REPLY 24
 #define CURLEW_PERL_REPLY 12
+#define CURLEW_LAYOUT_REPLY 12
 #define CURLEW_FINDING_SIZE 12
 
 /* Limits. */
@@ -511,6 +525,10 @@ uint32_t curlew_mean(const uint8_t *slots, size_t slots_len,
 uint32_t curlew_from_perl(const void *perl_template, size_t perl_template_len,
                           void *layout, size_t layout_len,
                           uint8_t *reply, size_t reply_len);
+
+/* Describes a layout: the slots that it takes and the length of its shortest record. Writes reply. */
+uint32_t curlew_layout(const void *layout, size_t layout_len,
+                       uint8_t *reply, size_t reply_len);
 
 #ifdef __cplusplus
 }

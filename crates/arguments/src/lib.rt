@@ -29,7 +29,7 @@ pub enum Measured {
 }
 
 // The cursor after `x X @`.
-fn moved(m: Motion, n: Count, c: Cursor) -> Cursor
+pub fn moved(m: Motion, n: Count, c: Cursor) -> Cursor
     requires { ⌜ (c .at < 1152921504606846976) × FitCount n ⌝ }
     ensures { λ r. ⌜ r ≡ moved c m n ⌝ }
 {

@@ -5,6 +5,7 @@ ghost use Rattle.host_rescue.specs.Calls.{HostRescues};
 ghost use Rattle.host_compare.specs.Calls.{HostCompares};
 ghost use Rattle.host_mean.specs.Calls.{HostMeans};
 ghost use Rattle.host_perl.specs.Calls.{HostConverts};
+ghost use Rattle.host_describe.specs.Calls.{HostDescribes};
 
 // Packs the arguments into `out` by the layout (Tcl's `binary format`).
 #[no_mangle]
@@ -119,4 +120,12 @@ pub extern "C" fn curlew_from_perl(template: &[u8], layout: &mut [u8], reply: &m
     ensures { λ r. ⌜ HostConverts template layout reply r ⌝ }
 {
     host_perl::from_perl(template, layout, reply)
+}
+
+// Says how many slots a layout takes and how long its shortest record is.
+#[no_mangle]
+pub extern "C" fn curlew_layout(layout: &[u8], reply: &mut [u8]) -> u32
+    ensures { λ r. ⌜ HostDescribes layout reply r ⌝ }
+{
+    host_describe::describe(layout, reply)
 }

@@ -1,5 +1,5 @@
--- Laws of the writing pass and of the whole call.
+-- Laws of the writing pass and of the whole call; RunLaws is for the crates above too.
 mod StoreLaws
-mod RunLaws
+pub mod RunLaws
 mod WriteLaws
 mod WholeLaws

@@ -1,0 +1,62 @@
+// A layout looked at before it is used: how many slots it takes, and how long its shortest record is.
+// The definition is in specs/Description.antt; what it has to do with packing is claimed in specs/Claim.antt and proved in proofs/Describes.antt.
+ghost use mathlib.Core.Path.{_≡_};
+ghost use Prim.Native.Nat.{_<_};
+ghost use Rattle.layout.specs.Lent.{before};
+ghost use Rattle.layout.specs.Words.{decoded, FitCode, FitCount};
+ghost use Rattle.arguments.specs.Measure.{advance};
+ghost use Rattle.describe.specs.Description.{described};
+ghost use Rattle.describe.specs.Measure.{Holds, Least};
+use layout::Code;
+use layout::Count;
+use layout::Parsed;
+use layout::Refusal;
+use record::Answer;
+use record::Cursor;
+
+// Past one field, whose starred value is empty.
+fn step(code: Code, n: Count, c: Cursor) -> Cursor
+    requires { ⌜ FitCode code × FitCount n × (c .at < 1152921504606846976) ⌝ }
+    ensures { λ r. ⌜ r ≡ advance c code n 0 ⌝ }
+{
+    match code {
+        Code::Data(s) => c.store(record::bytes_for(s, record::amount(n, 0))),
+        Code::Move(m) => arguments::moved(m, n, c),
+    }
+}
+
+// The length of the shortest record of the fields in the first n words.
+fn least_length(words: &[u32; layout::MAX_LAYOUT], n: usize) -> usize
+    requires { ⌜ Holds n (now words) ⌝ }
+    ensures { λ r. ⌜ Least (decoded n (before words)) r ⌝ }
+{
+    let mut c = Cursor::new(0);
+    let mut i: usize = 0;
+    while i < n {
+        let f = layout::field_of(words[i]);
+        let code = f.code;
+        let count = f.count;
+        c = step(code, count, c);
+        i += 1;
+    }
+    c.end
+}
+
+// Describes a layout: 0, the slots that it takes, and the length of the record that is packed where every starred value is empty; or the refusal that packing
+// by it would give, 1 to 4, and its place.
+pub fn describe(layout: &[u8]) -> Answer
+    ensures { λ r. ⌜ r ≡ described (before layout) ⌝ }
+{
+    if layout::MAX_LAYOUT < layout.len() {
+        return Answer::refused(Refusal::BadSize, 0);
+    }
+    let mut words: [u32; layout::MAX_LAYOUT] = [0; layout::MAX_LAYOUT];
+    let p = layout::parse(layout, true, &mut words);
+    match p {
+        Parsed::Refused(why, place) => Answer::refused(why, place as u32),
+        Parsed::Fields(n, needed) => {
+            let length = least_length(&words, n);
+            Answer::accepted(needed as u32, length as u32)
+        }
+    }
+}

@@ -1,0 +1,2 @@
+-- Laws of the call that describes a layout for a C host.
+mod Calls

@@ -1,0 +1,2 @@
+-- What the call that describes a layout means for a C host.
+pub mod Calls
