@@ -185,10 +185,16 @@
  * have CURLEW_NO_POSITION. Slots beyond the entries stay as they were. Writing a table and reading it back shows the same
  * values, and the slots of a sheet that was read are written as the same sheet, byte for byte.
  *
- * A sheet that was cut, or damaged in its lengths or kinds, is refused whole: 13 where its first byte is not
- * the version, 12 at 0 where it is shorter than three bytes or the length in its header is not that of the
- * rest, 12 at the first byte of the first entry that is wrong: too few bytes left for its length, a length of
- * 0 or beyond the end, a kind above 3, a value behind CURLEW_UNSET, or integers that are no multiple of 8 bytes.
+ * Version 2 is for larger tables: its lengths have four bytes in both places, so its header has five bytes. A table
+ * is written as version 1 wherever all lengths of that version are at most 65,535, whatever room the run has, and as
+ * version 2 otherwise; a version 2 sheet whose table version 1 could hold is refused, so that a table has one sheet
+ * only. Readers from before version 2 refuse it: with 1 where it is whole, since it is longer than they take, with 13
+ * where it was cut to what they take.
+ *
+ * A sheet that was cut, or damaged in its lengths or kinds, is refused whole: 13 where its first byte is neither
+ * version, 12 at 0 where it is shorter than its header or the length in the header is not that of the rest, 12 at the
+ * first byte of the first entry that is wrong: too few bytes left for its length, a length of 0 or beyond the end, a
+ * kind above 3, a value behind CURLEW_UNSET, or integers that are no multiple of 8 bytes.
  *
  *
  * A SHEET THAT WAS DAMAGED
@@ -198,7 +204,8 @@
  * that is wrong: nothing behind a wrong entry can be trusted. The kept entries go into slots and area as that call puts
  * them, and the slots of the other legs are cleared to CURLEW_UNSET, start 0, length 0, without a position, so that a lost
  * leg reads "not set" and never as a mark. Slots past the legs, and bytes of the area that no kept value covers, stay as they were.
- * The length in the header is not looked at. The reply is CURLEW_RESCUE_REPLY (16) bytes, four numbers:
+ * The length in the header is not looked at, and both versions are taken, whichever the kept entries would be written as.
+ * The reply is CURLEW_RESCUE_REPLY (16) bytes, four numbers:
  *
  *   CURLEW_OK, entries kept, slots cleared, bytes dropped
  *
@@ -293,14 +300,13 @@
  *                            mean: not exactly one integer
  *   10   CURLEW_BAD_DIGIT    packing: a digit that counts is not a digit            the slot
  *   11   CURLEW_NO_ROOM      the result does not fit the output run, or the         0
- *                            values do not fit the area from the mark on; a
- *                            sheet's lengths do not fit their two bytes; the
+ *                            values do not fit the area from the mark on; the
  *                            report does not hold the findings; a layout from
  *                            Perl is longer than its run or CURLEW_MAX_LAYOUT
  *   12   CURLEW_BAD_SHEET    the sheet is too short or its header's length is       0
- *                            wrong;
+ *                            wrong, or a version 2 sheet would fit version 1;
  *                            the length or the kind of an entry is wrong            the entry's first byte
- *   13   CURLEW_BAD_VERSION  the sheet's first byte is not 1                        0
+ *   13   CURLEW_BAD_VERSION  the sheet's first byte is neither 1 nor 2              0
  *   14   CURLEW_BAD_MARK     mean: the mark is below 0 or above CURLEW_MAX_MARK     the slot
  *   15   CURLEW_BAD_TEMPLATE from Perl: no template goes on with this byte, or the  its byte; the template's
  *                            template ends inside a group                           length
@@ -321,10 +327,10 @@
  *
  *   layout                  at most CURLEW_MAX_LAYOUT    256 bytes
  *   slots                   at most CURLEW_MAX_SLOTS      64 slots, CURLEW_SLOT_SIZE bytes each
- *   record, output run      at most CURLEW_MAX_RECORD  4,096 bytes
- *   area                    at most CURLEW_MAX_AREA   65,536 bytes
- *   sheet, run for one      at most CURLEW_MAX_SHEET  65,538 bytes
- *   count in a layout       at most CURLEW_MAX_COUNT   4,096
+ *   record, output run      at most CURLEW_MAX_RECORD    32,768 bytes
+ *   area                    at most CURLEW_MAX_AREA     524,288 bytes
+ *   sheet, run for one      at most CURLEW_MAX_SHEET  1,048,576 bytes
+ *   count in a layout       at most CURLEW_MAX_COUNT     32,768 (from Perl: 4,096)
  *   template of Perl        at most CURLEW_MAX_TEMPLATE  256 bytes
  *   legs of a rescue        at most CURLEW_MAX_SLOTS      64
  *   reply                   exactly CURLEW_PACK_REPLY, CURLEW_READ_REPLY, CURLEW_SHEET_REPLY, CURLEW_RESCUE_REPLY,
@@ -424,10 +430,10 @@
 /* Limits. */
 #define CURLEW_MAX_LAYOUT 256
 #define CURLEW_MAX_SLOTS 64
-#define CURLEW_MAX_RECORD 4096
-#define CURLEW_MAX_AREA 65536
-#define CURLEW_MAX_SHEET 65538
-#define CURLEW_MAX_COUNT 4096
+#define CURLEW_MAX_RECORD 32768
+#define CURLEW_MAX_AREA 524288
+#define CURLEW_MAX_SHEET 1048576
+#define CURLEW_MAX_COUNT 32768
 #define CURLEW_MAX_MARK 1000000
 #define CURLEW_MAX_TEMPLATE 256
 

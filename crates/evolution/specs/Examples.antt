@@ -133,8 +133,8 @@ more =
     ∷ reading (0x01 ∷ 0x02 ∷ 0x03 ∷ 0x04 ∷ []) "c2@1H*" 2 (ints (1 ∷ 2 ∷ []) ∷ str "020304" ∷ [])
     ∷ packAnswers (bytes "b2") 1 (str "10z") 1 (0 ∷ 1 ∷ 0 ∷ [])
     -- a count that is too large is refused at its first digit, a leading zero too
-    ∷ packAnswers (bytes "c x4097") 1 (ints (1 ∷ [])) 4096 (3 ∷ 3 ∷ 0 ∷ [])
-    ∷ packAnswers (bytes "cu0005000") 1 (ints (1 ∷ [])) 4096 (3 ∷ 2 ∷ 0 ∷ [])
+    ∷ packAnswers (bytes "c x32769") 1 (ints (1 ∷ [])) 4096 (3 ∷ 3 ∷ 0 ∷ [])
+    ∷ packAnswers (bytes "cu00050000") 1 (ints (1 ∷ [])) 4096 (3 ∷ 2 ∷ 0 ∷ [])
     -- 65 slots; a result longer than its buffer; in reading `x*` goes to the end and is not refused
     ∷ packAnswers (replicate 65 97) 65 (str "M") 65 (1 ∷ 0 ∷ 0 ∷ [])
     ∷ packAnswers (bytes "x4096x") 0 (str "") 4096 (11 ∷ 0 ∷ 0 ∷ [])

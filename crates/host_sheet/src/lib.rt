@@ -14,7 +14,7 @@ fn write_by(slots: &[u8], area: &[u8], sheet: &mut [u8], reply: &mut [u8], room:
     ensures { λ r. ⌜ WriteServed slots area sheet reply r ⌝ }
 {
     host::numbers::decode(slots, room);
-    let a = sheet::write(room, area, sheet);
+    let a = sheet_write::write(room, area, sheet);
     host::reply_with(reply, a)
 }
 
@@ -30,7 +30,7 @@ fn read_by(
     requires { ⌜ (length (now reply) ≡ replySize) × (length (now slots) ≡ length (now room) * numberSize) ⌝ }
     ensures { λ r. ⌜ ReadServed sheet slots area mark reply r ⌝ }
 {
-    let a = sheet::read(sheet, room, area, mark);
+    let a = sheet_read::read(sheet, room, area, mark);
     if a.number != 0 {
         return host::reply_with(reply, a);
     }

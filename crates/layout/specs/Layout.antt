@@ -26,7 +26,7 @@ maxLayout = 256
 
 -- a count
 abbrev pub maxCount : ℕ
-maxCount = 4096
+maxCount = 32768
 
 -- ---- the type characters (01, What the work covers)
 

@@ -9,7 +9,7 @@ ghost use Rattle.layout.specs.Words.{lastDigits, lastData, overCount, Ha
 // The limits of a layout and of a count (01, Slot tables, sizes). A field has a byte at least, so that so many words hold the fields of a layout.
 pub const MAX_LAYOUT: usize = 256;
 
-const MAX_COUNT: u32 = 4096;
+const MAX_COUNT: u32 = 32768;
 
 // Where a larger count is held, and the number that the largest count has in a word.
 const OVER_COUNT: u32 = MAX_COUNT + 1;

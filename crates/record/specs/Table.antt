@@ -15,10 +15,10 @@ maxSlots = 64
 
 -- the bytes of a record, and of the packer's output buffer
 abbrev pub maxRecord : ℕ
-maxRecord = 4096
+maxRecord = 32768
 
 abbrev pub maxArea : ℕ
-maxArea = 65536
+maxArea = 524288
 
 -- the numbers of a slot: kind, start, length, position; each has 32 bits
 abbrev pub slotWidth : ℕ

@@ -19,9 +19,9 @@ pub mod slots;
 // The limits of document 01, and how many numbers make a slot.
 pub const MAX_SLOTS: usize = 64;
 
-pub const MAX_RECORD: usize = 4096;
+pub const MAX_RECORD: usize = 32768;
 
-pub const MAX_AREA: usize = 65536;
+pub const MAX_AREA: usize = 524288;
 
 pub const SLOT_WIDTH: usize = 4;
 

@@ -3,15 +3,14 @@ use Prim.Native.Nat.{ℕ, zero, suc, _+_, _-_, _*_, _≤_, _<_}
 use native.Mathlib.Nat.{add-zero, zero-add}
 use native.Mathlib.Omega.{arith}
 use mathlib.Core.Path.{_≡_, refl, sym, ap, _∙_}
-use mathlib.Core.List.{List, [], _∷_, _++_}
+use mathlib.Core.List.{List, _++_}
 use lib.ListN.{length, drop, replicate, length-append, length-drop, length-replicate}
 use Rattle.record.specs.Bytes.{storeAt}
 use Rattle.record.specs.Table.{slotWidth}
 use Rattle.record.proofs.Stores.{runs, runs-first, Wrote, wrote-none, wrote-more, wrote-done}
 use Rattle.sheet.specs.Entries.{Entry, valueBytes}
 use Rattle.sheet.specs.Sheet.{entryNumbers, slotNumbers, putInto}
-use Rattle.sheet.proofs.Tables.{length-slot-numbers}
-use Rattle.sheet.proofs.Writing.{store-next}
+use Rattle.sheet.proofs.Tables.{length-slot-numbers, store-next}
 use Rattle.rescue.specs.Rescue.{blank, filledUp}
 use Rattle.rescue.specs.Steps.{blanks, Blankable}
 use Rattle.rescue.proofs.Filled.{numbers-append}

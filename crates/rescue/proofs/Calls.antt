@@ -1,7 +1,7 @@
 -- Which way a rescue goes, on plain values: each way out leaves what the definition gives, and what an accepted call has passed.
 use Prim.Native.Nat.{ℕ, _+_, _≤_, _<_}
 use mathlib.Core.Path.{_≡_, refl}
-use mathlib.Core.Bool.{Bool, true, false, _&&_}
+use mathlib.Core.Bool.{true, false, _&&_}
 use mathlib.Core.List.{List}
 use borrow.Author.Tests.{le-leb, lt-leb, leb-true}
 use lib.Dec.{leb}
@@ -11,9 +11,8 @@ use Rattle.layout.specs.declared.Refusal.the-variants.{BadSize, WrongSlots, NoR
 use Rattle.layout.specs.Refusals.{Result, ok, refused}
 use Rattle.layout.proofs.Laws.{demanded, no-number-zero}
 use Rattle.record.specs.Table.{slotsOf, maxSlots}
-use Rattle.record.proofs.Bytes.{and-true}
 use Rattle.sheet.specs.Entries.{Entry, valueBytes}
-use Rattle.sheet.specs.Sheet.{lengthWidth, versionFits}
+use Rattle.sheet.specs.Sheet.{versionOf, versionKnown, widthIn}
 use Rattle.sheet.specs.Steps.{lentFits}
 use Rattle.rescue.specs.Rescue.{keptIn, rescues, refusal, Outcome, keeping, rescueEffect, rescue}
 
@@ -27,21 +26,21 @@ module _ (sheet : List ℕ) (legs : ℕ) (slots area : List ℕ) (mark : ℕ) wh
   rescue-sizes h = rw h
 
   module _ (sizes : lentFits (length slots) (length area) (length sheet) mark && leb legs maxSlots ≡ true) where
-    pub rescue-version : versionFits sheet ≡ false → refuses BadVersion ≡ rescue sheet legs slots area mark
+    pub rescue-version : versionKnown (versionOf sheet) ≡ false → refuses BadVersion ≡ rescue sheet legs slots area mark
     unfolding rescue rescues
     rescue-version h = rw (sizes, h)
 
-    module _ (versions : versionFits sheet ≡ true) where
+    module _ (versions : versionKnown (versionOf sheet) ≡ true) where
       pub rescue-slots : length (slotsOf slots) < legs → refuses WrongSlots ≡ rescue sheet legs slots area mark
       unfolding rescue rescues
       rescue-slots h = rw (sizes, versions, lt-leb legs (length (slotsOf slots)) h)
 
       module _ (rows : legs ≤ length (slotsOf slots)) where
-        pub rescue-room : length area < mark + length (valueBytes (keptIn lengthWidth legs sheet)) → refuses NoRoom ≡ rescue sheet legs slots area mark
+        pub rescue-room : length area < mark + length (valueBytes (keptIn (widthIn sheet) legs sheet)) → refuses NoRoom ≡ rescue sheet legs slots area mark
         unfolding rescue rescues
         rescue-room h = rw (sizes, versions, le-leb legs (length (slotsOf slots)) rows, lt-leb _ _ h)
 
-        pub rescue-put : mark + length (valueBytes (keptIn lengthWidth legs sheet)) ≤ length area → keeping sheet legs slots area mark (keptIn lengthWidth legs sheet) ≡ rescue sheet legs slots area mark
+        pub rescue-put : mark + length (valueBytes (keptIn (widthIn sheet) legs sheet)) ≤ length area → keeping sheet legs slots area mark (keptIn (widthIn sheet) legs sheet) ≡ rescue sheet legs slots area mark
         unfolding rescue rescues
         rescue-put h = rw (sizes, versions, le-leb legs (length (slotsOf slots)) rows, le-leb _ _ h)
 
@@ -52,9 +51,9 @@ rescue-ok sheet legs slots area mark (refused why place) h = no-number-zero why 
 -- what an accepted call has passed
 pub record RescuedIt (sheet : List ℕ) (legs : ℕ) (slots area : List ℕ) (mark : ℕ) : Type 0 where
   pub sizes : lentFits (length slots) (length area) (length sheet) mark && leb legs maxSlots ≡ true
-  pub versions : versionFits sheet ≡ true
+  pub versions : versionKnown (versionOf sheet) ≡ true
   pub rows : legs ≤ length (slotsOf slots)
-  pub room : mark + length (valueBytes (keptIn lengthWidth legs sheet)) ≤ length area
+  pub room : mark + length (valueBytes (keptIn (widthIn sheet) legs sheet)) ≤ length area
 
 pub rescued-it : (sheet : List ℕ) (legs : ℕ) (slots area : List ℕ) (mark : ℕ) → rescue sheet legs slots area mark .answer .number ≡ 0 → RescuedIt sheet legs slots area mark
 unfolding rescue rescues

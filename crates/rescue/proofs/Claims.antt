@@ -1,33 +1,32 @@
 -- The claims: a sound sheet is rescued as it is read, a written one whole, and a cut one up to the cut.
-use Prim.Native.Nat.{ℕ, zero, suc, _+_, _-_, _*_, _/_, _≤_, _<_}
+use Prim.Native.Nat.{ℕ, zero, suc, _+_, _-_, _*_, _/_, _^_, _≤_, _<_}
 use native.Mathlib.Omega.{arith}
-use mathlib.Core.Path.{_≡_, refl, sym, ap, ap₂, _∙_}
-use mathlib.Core.Bool.{Bool, true, false, _&&_}
-use mathlib.Core.List.{List, [], _∷_, _++_, map}
+use mathlib.Core.Path.{_≡_, refl, sym, ap, _∙_}
+use mathlib.Core.Bool.{true, _&&_}
+use mathlib.Core.List.{List, [], _∷_, map}
 use borrow.Author.Tests.{le-leb}
 use lib.Dec.{leb}
 use lib.ListN.{length, take, drop, length-take, take-append-drop}
-use lib.Seq.{take-all, take-length, take-nil, length-take-le}
+use lib.Seq.{take-all, take-length, drop-nil, length-take-le}
 use Rattle.layout.specs.declared.Refusal.the-variants.{BadSlot}
-use Rattle.layout.specs.Refusals.{if_then_else_, ok}
+use Rattle.layout.specs.Refusals.{ok}
 use Rattle.layout.proofs.Laws.{demanded}
 use Rattle.record.specs.declared.slots.Slot.{Slot}
 use Rattle.record.specs.Table.{slotsOf, slotWidth, maxSlots}
 use Rattle.record.specs.Geometry.{tableFits}
 use Rattle.record.specs.Reading.{Read}
 use Rattle.record.proofs.Tables.{slots-take, length-slots}
-use Rattle.sheet.specs.Entries.{Entry, valueBytes}
-use Rattle.sheet.specs.Sheet.{version, lengthWidth, headerSize, maxSheet, sheetBytes, entryOf, entriesOf, slotFits, slotsFit, slotNumbers, entriesEnd, entriesAt, versionFits, putInto, read, write}
+use Rattle.sheet.specs.Entries.{Entry, bodyBytes, valueBytes, entriesIn}
+use Rattle.sheet.specs.Sheet.{widthOf, versionFor, headerSize, maxSheet, sheetBytes, entryOf, entriesOf, slotFits, slotsFit, slotNumbers, versionOf, versionKnown, widthIn, entriesAt, putInto, read, write}
 use Rattle.sheet.specs.Claims.{seen, sheetOf, Stored}
-use Rattle.sheet.specs.Steps.{sheetFor, lentFits}
+use Rattle.sheet.specs.Steps.{lentFits}
 use Rattle.sheet.proofs.Entries.{AllSound}
-use Rattle.sheet.proofs.Tables.{slots-sound, same-seen, length-slot-numbers}
-use Rattle.sheet.proofs.Calls.{lengths, lent, Wrote, wrote, header-there, ReadIt, read-it, read-put}
-use Rattle.sheet.proofs.Claims.{put-entries, put-fit, length-entries, true-is, sheet-is, table-kept}
-use Rattle.sheet.proofs.Reading.{front-few}
+use Rattle.sheet.proofs.Tables.{slots-sound, same-seen, length-slot-numbers, front-few}
+use Rattle.sheet.proofs.Calls.{lengths, lent, Wrote, wrote, wrote-short, header-there, ReadIt, read-it, read-put}
+use Rattle.sheet.proofs.Claims.{put-entries, put-fit, length-entries, true-is, version-known, sheet-is, table-kept}
 use Rattle.rescue.specs.Rescue.{keptIn, droppedOf, filledUp, saved, Outcome, keeping, rescue}
-use Rattle.rescue.specs.Claims.{allKept, SoundRead, SavesAll, WrittenSaved, setBy, Again, RescuedSaved, entriesFor, SavesFront, CutSaved}
-use Rattle.rescue.proofs.Calls.{rescue-put, RescuedIt, rescued-it}
+use Rattle.rescue.specs.Claims.{allKept, SoundRead, WrittenSaved, setBy, RescuedSaved, entriesFor, SavesFront, CutSaved}
+use Rattle.rescue.proofs.Calls.{rescue-put, rescued-it}
 use Rattle.rescue.proofs.Filled.{filled-area, filled-front, filled-slots, filled-none, length-filled}
 use Rattle.rescue.proofs.Cuts.{wholeBy, whole-few, cut-entries, cut-exactly}
 
@@ -38,24 +37,24 @@ few-legs slots area sheet mark legs sizes h = rw (sizes, le-leb legs maxSlots (o
 -- ---- a sound sheet
 
 module _ (sheet slots area : List ℕ) (mark : ℕ) (got : ReadIt sheet slots area mark) where
-  none-dropped : droppedOf lengthWidth sheet (entriesAt lengthWidth sheet) ≡ 0
+  none-dropped : droppedOf (widthIn sheet) sheet (entriesAt (widthIn sheet) sheet) ≡ 0
   unfolding droppedOf
-  none-dropped = rw (le-leb (headerSize lengthWidth) (length sheet) (header-there lengthWidth sheet (got .opened .header)), got .whole) (omega arith)
+  none-dropped = rw (le-leb (headerSize (widthIn sheet)) (length sheet) (header-there (widthIn sheet) sheet (got .opened .header)), got .whole) (omega arith)
 
   -- the entries of the sheet are all kept
-  all-kept : keeping sheet (length (entriesAt lengthWidth sheet)) slots area mark (entriesAt lengthWidth sheet) ≡ allKept (putInto slots area mark (entriesAt lengthWidth sheet))
+  all-kept : keeping sheet (length (entriesAt (widthIn sheet) sheet)) slots area mark (entriesAt (widthIn sheet) sheet) ≡ allKept (putInto slots area mark (entriesAt (widthIn sheet) sheet))
   unfolding putInto
-  all-kept = let none : length (entriesAt lengthWidth sheet) - length (entriesAt lengthWidth sheet) ≡ 0 = omega arith in rw (filled-none (entriesAt lengthWidth sheet), none-dropped, none)
+  all-kept = let none : length (entriesAt (widthIn sheet) sheet) - length (entriesAt (widthIn sheet) sheet) ≡ 0 = omega arith in rw (filled-none (entriesAt (widthIn sheet) sheet), none-dropped, none)
 
 pub sound-read : SoundRead
 unfolding putInto keptIn
 sound-read sheet slots area mark h =
     let got : ReadIt sheet slots area mark = read-it sheet slots area mark h in
-    let es : List Entry = entriesAt lengthWidth sheet in
-    let is : read sheet slots area mark ≡ putInto slots area mark es = sym (read-put sheet slots area mark (got .opened) (got .whole) (got .rows) (got .room)) in
-    let kept : keptIn lengthWidth (length es) sheet ≡ es = take-length es in
+    let es : List Entry = entriesAt (widthIn sheet) sheet in
+    let is : read sheet slots area mark ≡ putInto slots area mark es = sym (read-put sheet slots area mark (got .opened) (got .whole) (got .needed) (got .rows) (got .room)) in
+    let kept : keptIn (widthIn sheet) (length es) sheet ≡ es = take-length es in
     let sizes = few-legs (length slots) (length area) (length sheet) mark (length es) (got .opened .sizes) (omega (arith, got .rows, length-slots slots)) in
-    let done : keeping sheet (length es) slots area mark (keptIn lengthWidth (length es) sheet) ≡ rescue sheet (length es) slots area mark =
+    let done : keeping sheet (length es) slots area mark (keptIn (widthIn sheet) (length es) sheet) ≡ rescue sheet (length es) slots area mark =
     rescue-put sheet (length es) slots area mark sizes (got .opened .versions) (got .rows) (rw kept (got .room)) in
     rw is (sym done ∙ ap (keeping sheet (length es) slots area mark) kept ∙ all-kept sheet slots area mark got)
 
@@ -77,7 +76,7 @@ set-legs : (sheet : List ℕ) (legs : ℕ) (slots area : List ℕ) (mark : ℕ) 
 unfolding keptIn
 set-legs sheet legs slots area mark h =
     let p = rescued-it sheet legs slots area mark h in
-    let es : List Entry = keptIn lengthWidth legs sheet in
+    let es : List Entry = keptIn (widthIn sheet) legs sheet in
     let few : length es ≤ legs = rw length-take (omega arith) in
     let done = rescue-put sheet legs slots area mark (p .sizes) (p .versions) (p .rows) (p .room) in
     let is : setBy legs (rescue sheet legs slots area mark) ≡ slotNumbers mark (filledUp legs es) = ap (setBy legs) (sym done) ∙ filled-slots legs es slots area mark few in
@@ -110,10 +109,16 @@ entries-take area zero ts = refl
 entries-take area (suc m) [] = refl
 entries-take area (suc m) (t ∷ ts) = ap (λ (r : List Entry). entryOf area t ∷ r) (entries-take area m ts)
 
-cut-version : (k w : ℕ) (es : List Entry) → versionFits (take k (sheetBytes version w es)) ≡ true
-unfolding versionFits sheetBytes
-cut-version zero w es = refl
-cut-version (suc k) w es = refl
+-- what is left of a sheet has its version, or nothing is left
+cut-version : (k v w : ℕ) (es : List Entry) → versionKnown v ≡ true → versionKnown (versionOf (take k (sheetBytes v w es))) ≡ true
+unfolding sheetBytes
+cut-version zero v w es h = refl
+cut-version (suc k) v w es h = h
+
+cut-width : (k v : ℕ) (es : List Entry) → let cut = take k (sheetBytes v (widthOf v) es) in entriesAt (widthIn cut) cut ≡ entriesAt (widthOf v) cut
+unfolding sheetBytes entriesIn
+cut-width zero v es = sym (ap (entriesIn (widthOf v)) (drop-nil (suc (widthOf v))))
+cut-width (suc k) v es = refl
 
 module _ {slots area buffer table values : List ℕ} {mark : ℕ} (k : ℕ) (s : Stored slots area buffer table values mark) where
   passed : Wrote slots area buffer
@@ -122,18 +127,24 @@ module _ {slots area buffer table values : List ℕ} {mark : ℕ} (k : ℕ) (s :
   es : List Entry
   es = entriesFor slots area
 
+  v : ℕ
+  v = versionFor es
+
+  short : length (bodyBytes (widthOf v) es) < 256 ^ widthOf v
+  unfolding es v
+  short = wrote-short passed (entriesFor slots area) refl
+
   sound : AllSound es
   unfolding es
   sound = slots-sound area 0 (slotsOf slots) (passed .fits)
 
   -- how many entries are whole
   m : ℕ
-  unfolding es
-  m = wholeBy lengthWidth version es sound (passed .short) k
+  m = wholeBy (widthOf v) v es sound short k
 
   few : m ≤ length es
-  unfolding es m
-  few = whole-few lengthWidth version es sound (passed .short) k
+  unfolding m
+  few = whole-few (widthOf v) v es sound short k
 
   front : List Entry
   front = take m es
@@ -152,15 +163,16 @@ module _ {slots area buffer table values : List ℕ} {mark : ℕ} (k : ℕ) (s :
   cut : List ℕ
   cut = take k (sheetOf (write slots area buffer))
 
-  cut-is : cut ≡ take k (sheetBytes version lengthWidth es)
-  unfolding es cut
+  cut-is : cut ≡ take k (sheetBytes v (widthOf v) es)
+  unfolding es v cut
   cut-is = ap (take k) (sheet-is s)
 
-  kept-is : keptIn lengthWidth n cut ≡ front
+  kept-is : keptIn (widthIn cut) n cut ≡ front
   unfolding es keptIn front m n
   kept-is =
-      ap (λ (b : List ℕ). take n (entriesAt lengthWidth b)) cut-is
-      ∙ ap (take n) (cut-entries lengthWidth version es sound (passed .short) k)
+      ap (λ (b : List ℕ). take n (entriesAt (widthIn b) b)) cut-is
+      ∙ ap (take n) (cut-width k v es)
+      ∙ ap (take n) (cut-entries (widthOf v) v es sound short k)
       ∙ take-all n front (omega (arith, front-long, few, length-entries area slots))
 
   sizes : lentFits (length table) (length values) (length cut) mark ≡ true
@@ -177,10 +189,10 @@ module _ {slots area buffer table values : List ℕ} {mark : ℕ} (k : ℕ) (s :
   room = omega (arith, s .room, front-few front (drop m es) es (take-append-drop m es) .1)
 
   cut-effect : rescue cut n table values mark ≡ keeping cut n table values mark front
-  unfolding n es
+  unfolding n es v
   cut-effect =
       let legs = few-legs (length table) (length values) (length cut) mark n sizes (omega (arith, s .enough-slots, length-slots table)) in
-      let versions : versionFits cut ≡ true = rw cut-is (cut-version k lengthWidth es) in
+      let versions : versionKnown (versionOf cut) ≡ true = rw cut-is (cut-version k v (widthOf v) es (version-known es)) in
       sym (rescue-put cut n table values mark legs versions (s .enough-slots) (rw kept-is room)) ∙ ap (keeping cut n table values mark) kept-is
 
   cut-shows : map (seen (rescue cut n table values mark .area)) (take m (slotsOf (rescue cut n table values mark .slots))) ≡ map (seen area) (take m (slotsOf slots))
@@ -198,11 +210,11 @@ module _ {slots area buffer table values : List ℕ} {mark : ℕ} (k : ℕ) (s :
       (put-entries table values mark front front-sound room ∙ sym (entries-take area m (slotsOf slots))))
 
   saves-front : SavesFront slots area table values mark k (take k (sheetOf (write slots area buffer)))
-  unfolding m front es n cut
+  unfolding m front es n cut v
   saves-front =
       record {
         kept = m;
-        exactly = λ i h. cut-exactly lengthWidth version es sound (passed .short) k i (rw length-entries h);
+        exactly = λ i h. cut-exactly (widthOf v) v es sound short k i (rw length-entries h);
         count = ap (λ (o : Outcome). o .answer .first) cut-effect ∙ front-long;
         effect = cut-effect;
         shows = cut-shows;

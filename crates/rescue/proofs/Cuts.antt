@@ -7,7 +7,7 @@ use mathlib.Core.Bool.{Bool, true, false}
 use mathlib.Core.List.{List, [], _∷_, _++_, append-nil}
 use borrow.Author.Tests.{leb-true, leb-false, le-leb, lt-leb, ltb-true, ltb-false, lt-ltb, le-ltb}
 use lib.Dec.{leb, ltb}
-use lib.ListN.{length, take, drop, length-append, length-take}
+use lib.ListN.{length, take, length-append, length-take}
 use lib.Seq.{take-append-le, take-append-add, take-take, take-nil}
 use Rattle.layout.specs.Refusals.{if_then_else_}
 use Rattle.record.specs.Bytes.{join, numberAt}

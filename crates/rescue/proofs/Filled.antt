@@ -2,7 +2,7 @@
 use Prim.Native.Nat.{ℕ, zero, suc, _+_, _-_, _*_, _≤_}
 use native.Mathlib.Nat.{add-assoc, add-zero}
 use native.Mathlib.Omega.{arith}
-use mathlib.Core.Path.{_≡_, refl, sym, ap, _∙_}
+use mathlib.Core.Path.{_≡_, refl, ap, _∙_}
 use mathlib.Core.List.{List, [], _∷_, _++_, append-assoc, append-nil}
 use lib.ListN.{length, take, drop, replicate, length-append, length-replicate}
 use lib.Seq.{take-at}
@@ -10,8 +10,7 @@ use Rattle.record.specs.Bytes.{storeAt, join}
 use Rattle.record.specs.Table.{slotWidth}
 use Rattle.sheet.specs.Entries.{Entry, valueBytes}
 use Rattle.sheet.specs.Sheet.{entryNumbers, slotNumbers, putInto}
-use Rattle.sheet.proofs.Tables.{length-slot-numbers}
-use Rattle.sheet.proofs.Reading.{values-append}
+use Rattle.sheet.proofs.Tables.{length-slot-numbers, values-append}
 use Rattle.rescue.specs.Rescue.{blank, filledUp}
 
 blank-values : (j : ℕ) → valueBytes (replicate j blank) ≡ []

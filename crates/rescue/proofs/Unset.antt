@@ -12,7 +12,7 @@ use Rattle.record.specs.Bytes.{storeAt}
 use Rattle.record.specs.Table.{slotWidth}
 use Rattle.record.proofs.Tables.{length-slots}
 use Rattle.sheet.specs.Entries.{Entry}
-use Rattle.sheet.specs.Sheet.{lengthWidth, putInto}
+use Rattle.sheet.specs.Sheet.{widthIn, putInto}
 use Rattle.sheet.proofs.Unset.{set-over}
 use Rattle.rescue.specs.declared.Rescued.{Rescued}
 use Rattle.rescue.specs.Rescue.{keptIn, filledUp, Outcome, keeping, rescues, rescueEffect, rescue}
@@ -36,7 +36,7 @@ module _ (sheet : List ℕ) (legs : ℕ) (area : List ℕ) (mark : ℕ) (xs : Li
       let is : rescue sheet legs xs area mark ≡ keeping sheet legs xs area mark es = ap (rescueEffect sheet legs xs area mark) e in
       let got = rescued-it sheet legs xs area mark (ap (λ (o : Outcome). o .answer .number) is) in
       let done = rescue-put sheet legs xs area mark (got .sizes) (got .versions) (got .rows) (got .room) in
-      let count : length (keptIn lengthWidth legs sheet) ≡ length es = ap (λ (o : Outcome). o .answer .first) (done ∙ is) in
+      let count : length (keptIn (widthIn sheet) legs sheet) ≡ length es = ap (λ (o : Outcome). o .answer .first) (done ∙ is) in
       rw (← count, length-take) (omega arith)
 
   module _ (ys : List ℕ) where

@@ -8,7 +8,7 @@ use lib.Dec.{leb, ltb}
 use Rattle.record.specs.Table.{slotsOf, slotWidth}
 use Rattle.record.specs.Reading.{Read}
 use Rattle.sheet.specs.Entries.{Entry}
-use Rattle.sheet.specs.Sheet.{lengthWidth, entriesOf, entriesEnd, write, read}
+use Rattle.sheet.specs.Sheet.{widthOf, versionFor, entriesOf, entriesEnd, write, read}
 use Rattle.sheet.specs.Claims.{seen, sheetOf, Stored}
 use Rattle.rescue.specs.Rescue.{saved, Outcome, keeping, rescue}
 
@@ -60,7 +60,7 @@ abbrev pub entriesFor : List ℕ → List ℕ → List Entry
 entriesFor slots area = entriesOf area (slotsOf slots)
 
 abbrev pub endOf : List ℕ → List ℕ → ℕ → ℕ
-endOf slots area i = entriesEnd lengthWidth (take (suc i) (entriesFor slots area))
+endOf slots area i = entriesEnd (widthOf (versionFor (entriesFor slots area))) (take (suc i) (entriesFor slots area))
 
 -- of a sheet that is cut at byte k exactly the entries that end at or before the cut are kept, and their slots show what they showed
 pub record SavesFront (slots area table values : List ℕ) (mark k : ℕ) (cut : List ℕ) : Type 0 where

@@ -1,13 +1,11 @@
 -- Worked examples of rescues, computed from the definitions. The list is one statement, proved in proofs/Examples.antt.
-use Prim.Native.Nat.{ℕ, _+_, _-_, _*_}
-use mathlib.Core.Bool.{Bool, true, false, _&&_}
+use Prim.Native.Nat.{ℕ, _-_, _*_}
+use mathlib.Core.Bool.{Bool, true, _&&_}
 use mathlib.Core.List.{List, [], _∷_, _++_}
 use lib.ListN.{length, take, replicate}
-use lib.Dec.{eqb}
 use Rattle.layout.specs.Quoted.{bytes}
 use Rattle.record.specs.Table.{slotWidth}
 use Rattle.sheet.specs.Examples.{same, unset, okSheet, okArea, set, unsetSlots}
-use Rattle.rescue.specs.declared.Rescued.{Rescued}
 use Rattle.rescue.specs.Rescue.{Outcome, rescue}
 
 -- ---- how an example is written
@@ -70,12 +68,16 @@ examples =
     ∷ notRescued okSheet 3 65 20 5 1
     ∷ notRescued okSheet 3 3 20 21 1
     ∷ notRescued okSheet 65 64 20 5 1
-    ∷ notRescued (2 ∷ []) 65 3 20 5 1
-    ∷ notRescued (2 ∷ []) 4 3 20 5 13
+    ∷ notRescued (9 ∷ []) 65 3 20 5 1
+    ∷ notRescued (9 ∷ []) 4 3 20 5 13
     ∷ notRescued okSheet 4 3 20 20 5
     ∷ notRescued [] 4 3 20 5 5
     ∷ notRescued okSheet 3 3 20 11 11
     ∷ rescuing okSheet 2 3 13 11 2 11 (set 0 0 0 (set 1 11 2 [])) (bytes "OK")
+    -- version 2, though version 1 could hold what is kept: a header of five bytes, or less than one
+    ∷ rescuing (2 ∷ 9 ∷ 9 ∷ 9 ∷ 9 ∷ 0 ∷ 0 ∷ 0 ∷ 2 ∷ 1 ∷ 65 ∷ 0 ∷ 0 ∷ 0 ∷ []) 2 3 20 5 1 3 (set 1 5 1 []) (65 ∷ [])
+    ∷ rescuing (2 ∷ 0 ∷ 0 ∷ 0 ∷ 0 ∷ []) 2 3 20 5 0 0 [] []
+    ∷ rescuing (2 ∷ 0 ∷ 0 ∷ 0 ∷ []) 2 3 20 5 0 4 [] []
     -- 64 legs, and a sheet of 65 entries
     ∷ rescuing (1 ∷ 0 ∷ 195 ∷ unset 65) 64 64 0 0 64 3 (unsetSlots 64) []
     ∷ []

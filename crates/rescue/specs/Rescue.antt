@@ -1,4 +1,4 @@
--- Rescuing what is whole of a damaged sheet (02, M-109): THE EFFECT OF THE CALL is `rescue`.
+-- Rescuing what is whole of a damaged sheet (02, M-109 and M-111, whose fitting rule does not bind here): THE EFFECT OF THE CALL is `rescue`.
 use Prim.Native.Nat.{ℕ, _+_, _-_}
 use mathlib.Core.Bool.{_&&_}
 use mathlib.Core.List.{List, [], _++_}
@@ -9,7 +9,7 @@ use Rattle.layout.specs.declared.Refusal.the-variants.{BadSize, WrongSlots, NoR
 use Rattle.layout.specs.Refusals.{if_then_else_, numberOf, Result, ok, refused, _>>=_, demand}
 use Rattle.record.specs.Table.{unset, slotsOf, maxSlots}
 use Rattle.sheet.specs.Entries.{Entry, valueBytes, entriesIn}
-use Rattle.sheet.specs.Sheet.{lengthWidth, headerSize, lengthsFit, versionFits, entriesAt, entriesEnd, putInto}
+use Rattle.sheet.specs.Sheet.{headerSize, lengthsFit, versionOf, versionKnown, widthIn, entriesAt, entriesEnd, putInto}
 use Rattle.rescue.specs.declared.Rescued.{Rescued}
 
 -- ---- what is kept
@@ -34,12 +34,12 @@ filledUp n es = es ++ replicate (n - length es) blank
 
 -- the kept entries, or the first refusal of 1, 13, 5 and 11
 unfoldable pub rescues : List ℕ → ℕ → List ℕ → List ℕ → ℕ → Result (List Entry)
-unfolding versionFits slotsOf keptIn valueBytes
+unfolding slotsOf keptIn valueBytes
 rescues sheet legs slots area mark = do
   _ ← demand (lengthsFit (length slots) (length area) (length sheet) && leb mark (length area) && leb legs maxSlots) BadSize 0
-  _ ← demand (versionFits sheet) BadVersion 0
+  _ ← demand (versionKnown (versionOf sheet)) BadVersion 0
   _ ← demand (leb legs (length (slotsOf slots))) WrongSlots 0
-  let es = keptIn lengthWidth legs sheet
+  let es = keptIn (widthIn sheet) legs sheet
   _ ← demand (leb (mark + length (valueBytes es)) (length area)) NoRoom 0
   ok es
 
@@ -62,7 +62,7 @@ pub record Outcome : Type 0 where
 abbrev pub keeping : List ℕ → ℕ → List ℕ → List ℕ → ℕ → List Entry → Outcome
 keeping sheet legs slots area mark es =
     let put = putInto slots area mark (filledUp legs es) in
-    record { answer = saved (length es) (legs - length es) (droppedOf lengthWidth sheet es); slots = put .slots; area = put .area }
+    record { answer = saved (length es) (legs - length es) (droppedOf (widthIn sheet) sheet es); slots = put .slots; area = put .area }
 
 -- a refusal changes nothing
 abbrev pub rescueEffect : List ℕ → ℕ → List ℕ → List ℕ → ℕ → Result (List Entry) → Outcome

@@ -6,7 +6,7 @@ use mathlib.Core.List.{List}
 use lib.ListN.{length, replicate}
 use lib.Dec.{leb}
 use Rattle.record.specs.Table.{slotsOf, slotWidth, maxSlots}
-use Rattle.sheet.specs.Sheet.{slotNumbers, versionFits}
+use Rattle.sheet.specs.Sheet.{slotNumbers, versionOf, versionKnown}
 use Rattle.sheet.specs.Steps.{lentFits}
 use Rattle.rescue.specs.Rescue.{blank}
 
@@ -17,7 +17,7 @@ sizesFit slots area sheet mark legs = lentFits slots area sheet mark && leb legs
 -- none of the numbers 1, 13 and 5
 pub record Ready (sheet : List ℕ) (legs : ℕ) (slots area : List ℕ) (mark : ℕ) : Type 0 where
   pub sizes : sizesFit (length slots) (length area) (length sheet) mark legs ≡ true
-  pub versions : versionFits sheet ≡ true
+  pub versions : versionKnown (versionOf sheet) ≡ true
   pub rows : legs ≤ length (slotsOf slots)
 
 -- the numbers of n slots that are not set

@@ -1,4 +1,4 @@
-// Rescuing a damaged sheet (document 02, M-109): what is whole at its front goes into the table, and the slots after it are blanked.
+// Rescuing a damaged sheet (document 02, M-109 and M-111): what is whole at its front goes into the table, and the slots after it are blanked.
 // The first pass measures what is kept, the second writes. So a refusal writes nothing.
 ghost use mathlib.Core.Path.{_≡_};
 ghost use Prim.Native.Nat.{_+_, _*_, _≤_, _<_};
@@ -6,13 +6,13 @@ ghost use lib.ListN.{length};
 ghost use lib.Dec.{leb};
 ghost use Rattle.record.specs.Bytes.{storeAt};
 ghost use Rattle.record.specs.Table.{slotWidth, maxSlots, integerSize};
-ghost use Rattle.sheet.specs.Sheet.{lengthWidth, headerSize, maxSheet};
+ghost use Rattle.sheet.specs.Sheet.{widthIn, headerSize, maxSheet};
 ghost use Rattle.rescue.specs.Rescue.{saved, refusal, rescue};
 ghost use Rattle.rescue.specs.Steps.{sizesFit, Ready, blanks, Blankable};
 use layout::Refusal;
 use record::Answer;
 use sheet::lengths;
-use sheet::load;
+use sheet_read::load;
 
 // What a rescue answers: 0, entries kept, slots blanked and bytes dropped; or the number of a refusal, its place, 0 and 0.
 pub struct Rescued {
@@ -86,29 +86,30 @@ fn rescue_nothing(
     area: &mut [u8],
     mark: usize,
 ) -> Rescued
-    requires { ⌜ Ready (now sheet) legs (now slots) (now area) mark × (length (now sheet) < headerSize lengthWidth) ⌝ }
+    requires { ⌜ Ready (now sheet) legs (now slots) (now area) mark × (length (now sheet) < headerSize (widthIn (now sheet))) ⌝ }
     ensures { λ r. ⌜ record { answer = r; slots = now (slots .exit); area = now (area .exit) } ≡ rescue (now (sheet .entry)) legs (now (slots .entry)) (now (area .entry)) mark ⌝ }
 {
     blank(slots, 0, legs);
     Rescued::saved(0, legs, sheet.len())
 }
 
-// A sheet with a header, whatever that says.
+// A sheet with a header, whatever that says; w is the width of its lengths.
 fn rescue_entries(
     sheet: &[u8],
+    w: usize,
     legs: usize,
     slots: &mut [u32],
     area: &mut [u8],
     mark: usize,
 ) -> Rescued
-    requires { ⌜ Ready (now sheet) legs (now slots) (now area) mark × (headerSize lengthWidth ≤ length (now sheet)) ⌝ }
+    requires { ⌜ Ready (now sheet) legs (now slots) (now area) mark × (w ≡ widthIn (now sheet)) × (w ≤ integerSize) × (headerSize w ≤ length (now sheet)) ⌝ }
     ensures { λ r. ⌜ record { answer = r; slots = now (slots .exit); area = now (area .exit) } ≡ rescue (now (sheet .entry)) legs (now (slots .entry)) (now (area .entry)) mark ⌝ }
 {
-    let x = load::measure(sheet, lengths::WIDTH, legs);
+    let x = load::measure(sheet, w, legs);
     if area.len() - mark < x.values {
         return Rescued::refused(Refusal::NoRoom);
     }
-    load::fill(sheet, lengths::WIDTH, legs, slots, area, mark);
+    load::fill(sheet, w, legs, slots, area, mark);
     blank(slots, x.entries, legs - x.entries);
     Rescued::saved(x.entries, legs - x.entries, sheet.len() - x.end)
 }
@@ -121,14 +122,16 @@ pub fn rescue(sheet: &[u8], legs: usize, slots: &mut [u32], area: &mut [u8], mar
     if !sizes_fit(slots.len(), area.len(), sheet.len(), mark, legs) {
         return Rescued::refused(Refusal::BadSize);
     }
-    if !load::version_fits(sheet) {
+    let v = load::version_of(sheet);
+    if !load::version_known(v) {
         return Rescued::refused(Refusal::BadVersion);
     }
     if slots.len() / record::SLOT_WIDTH < legs {
         return Rescued::refused(Refusal::WrongSlots);
     }
-    if !has_header(sheet, lengths::WIDTH) {
+    let w = lengths::width_of(v);
+    if !has_header(sheet, w) {
         return rescue_nothing(sheet, legs, slots, area, mark);
     }
-    rescue_entries(sheet, legs, slots, area, mark)
+    rescue_entries(sheet, w, legs, slots, area, mark)
 }

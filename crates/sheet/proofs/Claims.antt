@@ -1,29 +1,29 @@
 -- The two claims: a table keeps its values on the way to a sheet and back, and a sheet its bytes on the way to a table and back.
-use Prim.Native.Nat.{ℕ, _+_, _*_, _≤_, _<_}
+use Prim.Native.Nat.{ℕ, suc, _+_, _*_, _^_, _≤_, _<_}
 use native.Mathlib.Omega.{arith}
-use mathlib.Core.Path.{_≡_, refl, sym, ap, _∙_}
-use mathlib.Core.Bool.{Bool, true, false}
+use mathlib.Core.Path.{_≡_, refl, sym, ap, _∙_, subst}
+use mathlib.Core.Bool.{Bool, true, false, _||_, not}
 use mathlib.Core.List.{List, [], _∷_, _++_, map, append-assoc}
-use borrow.Author.Tests.{eqb-true, le-leb}
-use lib.Dec.{T}
-use lib.ListN.{length, take, drop, length-map}
+use borrow.Author.Tests.{eqb-true, le-leb, leb-true, lt-ltb, not-true}
+use lib.Dec.{T, eqb, leb}
+use lib.ListN.{length, take, drop, length-map, length-drop}
 use lib.Seq.{take-at, drop-at, length-take-le}
-use Rattle.layout.specs.Refusals.{ok}
-use Rattle.record.specs.Bytes.{storeAt}
+use Rattle.layout.specs.Refusals.{if_then_else_, ok}
+use Rattle.record.specs.Bytes.{storeAt, numberAt}
 use Rattle.record.specs.Geometry.{tableFits}
 use Rattle.record.specs.Table.{slotsOf, slotWidth}
 use Rattle.record.specs.Reading.{Read}
-use Rattle.record.proofs.Bytes.{All, all-below}
+use Rattle.record.proofs.Bytes.{All, all-below, all-drop, and-true}
 use Rattle.record.proofs.Stores.{length-storeAt}
 use Rattle.record.proofs.Tables.{slots-take, length-slots}
-use Rattle.sheet.specs.Entries.{Entry, valueBytes}
-use Rattle.sheet.specs.Sheet.{version, lengthWidth, sheetBytes, maxSheet, entriesOf, slotsFit, slotNumbers, entriesEnd, write, versionFits, headerFits, putInto, read, entriesAt}
+use Rattle.sheet.specs.Entries.{Entry, bodyBytes, valueBytes}
+use Rattle.sheet.specs.Sheet.{version1, version2, widthOf, headerSize, sheetBytes, fitsVersion1, versionFor, maxSheet, entriesOf, slotsFit, slotNumbers, entriesEnd, write, versionOf, versionKnown, widthIn, headerFits, versionNeeded, putInto, read, entriesAt}
 use Rattle.sheet.specs.Claims.{seen, sheetOf, Stored, KeepsValues, TableKept, rewritten, SheetKept}
-use Rattle.sheet.specs.Steps.{sheetFor, Opened}
-use Rattle.sheet.proofs.Entries.{AllSound, entries-sound}
+use Rattle.sheet.specs.Steps.{tableSheet, Opened}
+use Rattle.sheet.proofs.Entries.{AllSound, number-small, length-here, entries-sound}
 use Rattle.sheet.proofs.Tables.{slots-sound, same-seen, length-slot-numbers, entries-put, put-fits}
 use Rattle.sheet.proofs.Sheets.{length-sheet, sheet-version, sheet-header, sheet-entries, sheet-back}
-use Rattle.sheet.proofs.Calls.{Lengths, lengths, lengths-fit, lent, Wrote, wrote, write-done, ReadIt, read-it, read-put}
+use Rattle.sheet.proofs.Calls.{Lengths, lengths, lengths-fit, lent, Wrote, wrote, wrote-short, write-done, ReadIt, read-it, read-put}
 
 -- ---- what entries leave that are put into a table
 
@@ -57,6 +57,21 @@ pub true-is : (b : Bool) → T b → b ≡ true
 true-is true h = refl
 true-is false h = absurd h
 
+-- what is written has a known version, and needs it
+pub version-known : (es : List Entry) → versionKnown (versionFor es) ≡ true
+version-known es = go (fitsVersion1 es)
+  where
+    go : (t : Bool) → versionKnown (if t then version1 else version2) ≡ true
+    go true = refl
+    go false = refl
+
+version-needed : (es : List Entry) → versionNeeded (versionFor es) es ≡ true
+version-needed es = go (fitsVersion1 es)
+  where
+    go : (t : Bool) → (eqb (if t then version1 else version2) version1 || not t) ≡ true
+    go true = refl
+    go false = refl
+
 module _ {slots area buffer table values : List ℕ} {mark : ℕ} (s : Stored slots area buffer table values mark) where
   passed : Wrote slots area buffer
   passed = wrote slots area buffer (s .writing)
@@ -64,42 +79,54 @@ module _ {slots area buffer table values : List ℕ} {mark : ℕ} (s : Stored sl
   es : List Entry
   es = entriesOf area (slotsOf slots)
 
+  v : ℕ
+  v = versionFor es
+
   sheet : List ℕ
-  sheet = sheetFor version lengthWidth slots area
+  sheet = tableSheet slots area
 
   -- the sheet is that of the table
-  pub sheet-is : sheetOf (write slots area buffer) ≡ sheetFor version lengthWidth slots area
+  pub sheet-is : sheetOf (write slots area buffer) ≡ tableSheet slots area
   sheet-is =
-      let bs : List ℕ = sheetFor version lengthWidth slots area in
+      let bs : List ℕ = tableSheet slots area in
       rw (← write-done slots area buffer (passed .sizes) (passed .fits) (passed .room)) (take-at bs _ (length bs) refl)
 
   sound : AllSound es
   unfolding es
   sound = slots-sound area 0 (slotsOf slots) (passed .fits)
 
-  found : entriesAt lengthWidth sheet ≡ es
-  unfolding es sheet
-  found = sheet-entries version lengthWidth (entriesOf area (slotsOf slots)) (passed .short) sound
+  short : length (bodyBytes (widthOf v) es) < 256 ^ widthOf v
+  unfolding es v
+  short = wrote-short passed (entriesOf area (slotsOf slots)) refl
+
+  width : widthIn sheet ≡ widthOf v
+  unfolding es v sheet
+  width = ap widthOf (sheet-version v (widthOf v) es)
+
+  found : entriesAt (widthIn sheet) sheet ≡ es
+  unfolding es v sheet
+  found = rw width (sheet-entries v (widthOf v) es short sound)
 
   opened : Opened sheet table values mark
-  unfolding sheet
+  unfolding es v sheet
   opened =
-      let small : length (sheetFor version lengthWidth slots area) ≤ maxSheet = omega (arith, passed .room, lengths (length slots) (length area) (length buffer) (passed .sizes) .size) in
+      let small : length (tableSheet slots area) ≤ maxSheet = omega (arith, passed .room, lengths (length slots) (length area) (length buffer) (passed .sizes) .size) in
       let start : mark ≤ length values = omega (arith, s .room) in
       record {
-        sizes = rw (true-is (tableFits (length table) (length values)) (s .sizes), le-leb (length (sheetFor version lengthWidth slots area)) maxSheet small, le-leb mark (length values) start);
-        versions = sheet-version lengthWidth (entriesOf area (slotsOf slots));
-        header = sheet-header version lengthWidth (entriesOf area (slotsOf slots)) (passed .short);
+        sizes = rw (true-is (tableFits (length table) (length values)) (s .sizes), le-leb (length (tableSheet slots area)) maxSheet small, le-leb mark (length values) start);
+        versions = rw (sheet-version v (widthOf v) es) (version-known es);
+        header = rw width (sheet-header v (widthOf v) es short);
       }
 
   effect : read (sheetOf (write slots area buffer)) table values mark ≡ putInto table values mark es
-  unfolding es sheet
+  unfolding es v sheet
   effect =
-      let bs : List ℕ = sheetFor version lengthWidth slots area in
-      let whole : entriesEnd lengthWidth (entriesAt lengthWidth bs) ≡ length bs = rw found (sym (length-sheet version lengthWidth (entriesOf area (slotsOf slots)))) in
-      let rows : length (entriesAt lengthWidth bs) ≤ length (slotsOf table) = rw (found, length-entries) (s .enough-slots) in
-      let room : mark + length (valueBytes (entriesAt lengthWidth bs)) ≤ length values = rw found (s .room) in
-      ap (λ (b : List ℕ). read b table values mark) sheet-is ∙ sym (read-put bs table values mark opened whole rows room) ∙ ap (putInto table values mark) found
+      let bs : List ℕ = tableSheet slots area in
+      let whole : entriesEnd (widthIn bs) (entriesAt (widthIn bs) bs) ≡ length bs = rw (found, width) (sym (length-sheet v (widthOf v) es)) in
+      let needed : versionNeeded (versionOf bs) (entriesAt (widthIn bs) bs) ≡ true = rw (found, sheet-version v (widthOf v) es) (version-needed es) in
+      let rows : length (entriesAt (widthIn bs) bs) ≤ length (slotsOf table) = rw (found, length-entries) (s .enough-slots) in
+      let room : mark + length (valueBytes (entriesAt (widthIn bs) bs)) ≤ length values = rw found (s .room) in
+      ap (λ (b : List ℕ). read b table values mark) sheet-is ∙ sym (read-put bs table values mark opened whole needed rows room) ∙ ap (putInto table values mark) found
 
   shows : map (seen (putInto table values mark es .area)) (take (length (slotsOf slots)) (slotsOf (putInto table values mark es .slots))) ≡ map (seen area) (slotsOf slots)
   unfolding es
@@ -121,27 +148,54 @@ table-kept slots area buffer table values mark s = rw (effect s) (keeps s)
 -- ---- sheet to table and back
 
 -- a sheet that was accepted is that of its entries
-back : (sheet : List ℕ) → All (λ d. d < 256) sheet → versionFits sheet ≡ true → headerFits lengthWidth sheet ≡ true
-    → entriesEnd lengthWidth (entriesAt lengthWidth sheet) ≡ length sheet → sheetBytes version lengthWidth (entriesAt lengthWidth sheet) ≡ sheet
-unfolding headerFits versionFits
-back [] all versions header whole = let z : _≡_ {A = ℕ} 0 1 = cc in absurd (omega arith)
-back (b ∷ bs) all versions header whole =
-    let e : b ≡ version = eqb-true b version versions in
-    rw e (sheet-back version lengthWidth bs (all .1) header whole)
+back : (sheet : List ℕ) → All (λ d. d < 256) sheet → headerFits (widthIn sheet) sheet ≡ true
+    → entriesEnd (widthIn sheet) (entriesAt (widthIn sheet) sheet) ≡ length sheet → sheetBytes (versionOf sheet) (widthIn sheet) (entriesAt (widthIn sheet) sheet) ≡ sheet
+unfolding headerFits
+back [] all header whole = let z : _≡_ {A = ℕ} 0 1 = cc in absurd (omega arith)
+back (b ∷ bs) all header whole = sheet-back b (widthOf b) bs (all .1) header whole
+
+module _ {sheet slots area : List ℕ} {mark : ℕ} (all : All (λ d. d < 256) sheet) (got : ReadIt sheet slots area mark) where
+  held : List Entry
+  held = entriesAt (widthIn sheet) sheet
+
+  -- the entries of a version 1 sheet fit it
+  by-first : versionOf sheet ≡ version1 → fitsVersion1 held ≡ true
+  unfolding headerFits entriesEnd fitsVersion1 held
+  by-first e =
+      let h = and-true (leb (headerSize (widthIn sheet)) (length sheet)) _ (got .opened .header) in
+      let n : suc (widthIn sheet) + numberAt (widthIn sheet) sheet 1 ≡ length sheet = eqb-true _ _ (h .1) in
+      let here : suc (widthIn sheet) ≤ length sheet = leb-true (headerSize (widthIn sheet)) (length sheet) (h .0) in
+      let small : numberAt (widthIn sheet) (drop 1 sheet) 0 < 256 ^ widthIn sheet = number-small (widthIn sheet) (drop 1 sheet) (omega (arith, here, length-drop 1 sheet)) (all-drop (λ d. d < 256) 1 sheet all) in
+      let same : numberAt (widthIn sheet) sheet 1 ≡ numberAt (widthIn sheet) (drop 1 sheet) 0 = length-here (widthIn sheet) sheet 1 refl in
+      let body : length (bodyBytes (widthIn sheet) (entriesAt (widthIn sheet) sheet)) < 256 ^ widthIn sheet = omega (arith, got .whole, n, small, same) in
+      lt-ltb (length (bodyBytes 2 (entriesAt (widthIn sheet) sheet))) 65536 (subst (λ (k : ℕ). length (bodyBytes k (entriesAt (widthIn sheet) sheet)) < 256 ^ k) (ap widthOf e) body)
+
+  -- they would be written in the sheet's own version again
+  same-version : versionFor held ≡ versionOf sheet
+  unfolding held
+  same-version = go (eqb (versionOf sheet) version1) (eqb (versionOf sheet) version2) refl refl (got .opened .versions) (got .needed)
+    where
+      go : (a b : Bool) → eqb (versionOf sheet) version1 ≡ a → eqb (versionOf sheet) version2 ≡ b → a || b ≡ true → a || not (fitsVersion1 held) ≡ true → versionFor held ≡ versionOf sheet
+      go true b p q h k = let e : versionOf sheet ≡ version1 = eqb-true (versionOf sheet) version1 p in rw (by-first e) (sym e)
+      go false true p q h k = rw (not-true (fitsVersion1 held) k) (sym (eqb-true (versionOf sheet) version2 q))
+      go false false p q h k = let z : _≡_ {A = ℕ} 0 1 = cc in absurd (omega arith)
 
 pub sheet-kept : SheetKept
-unfolding putInto
+unfolding putInto held
 sheet-kept sheet slots area mark buffer l =
     let got : ReadIt sheet slots area mark = read-it sheet slots area mark (l .reading) in
-    let es : List Entry = entriesAt lengthWidth sheet in
+    let all : All (λ d. d < 256) sheet = all-below sheet (l .bytes) in
+    let es : List Entry = entriesAt (widthIn sheet) sheet in
     let r : Read = putInto slots area mark es in
-    let sound : AllSound es = entries-sound lengthWidth _ in
+    let sound : AllSound es = entries-sound (widthIn sheet) _ in
     let bounds = lent (length slots) (length area) (length sheet) mark (got .opened .sizes) .lengths in
-    let is : read sheet slots area mark ≡ r = sym (read-put sheet slots area mark (got .opened) (got .whole) (got .rows) (got .room)) in
+    let is : read sheet slots area mark ≡ r = sym (read-put sheet slots area mark (got .opened) (got .whole) (got .needed) (got .rows) (got .room)) in
     let ns : List ℕ = slotNumbers mark es in
     let set : take (slotWidth * length es) (r .slots) ≡ ns = put-slots slots area mark es sound (got .room) in
     let entries : entriesOf (r .area) (slotsOf ns) ≡ es = put-entries slots area mark es sound (got .room) in
-    let same : sheetFor version lengthWidth ns (r .area) ≡ sheet = ap (sheetBytes version lengthWidth) entries ∙ back sheet (all-below sheet (l .bytes)) (got .opened .versions) (got .opened .header) (got .whole) in
+    let version : versionFor es ≡ versionOf sheet = same-version all got in
+    let same : tableSheet ns (r .area) ≡ sheet =
+    ap (λ (x : List Entry). sheetBytes (versionFor x) (widthOf (versionFor x)) x) entries ∙ ap (λ (n : ℕ). sheetBytes n (widthOf n) es) version ∙ back sheet all (got .opened .header) (got .whole) in
     let numbers : length ns ≡ slotWidth * length es = length-slot-numbers mark es in
     let long : length (r .area) ≡ length area = put-area slots area mark es sound (got .room) in
     let fit : Lengths (length ns) (length (r .area)) (length buffer) =

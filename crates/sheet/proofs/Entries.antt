@@ -15,6 +15,7 @@ use Rattle.record.specs.Table.{maxKind}
 use Rattle.record.proofs.Bytes.{All, all-take, all-ordered, all-drop, and-true, digits-number, ordered-ordered}
 use Rattle.record.proofs.Fields.{item, number-item}
 use Rattle.record.proofs.NumberLaws.{length-numberBytes}
+use Rattle.record.proofs.Widening.{number-below}
 use Rattle.record.proofs.Stores.{length-part}
 use Rattle.sheet.specs.Entries.{Entry, wholeItems, entryBytes, bodyBytes, beginsEntry, entryIn, entriesFrom, entriesIn}
 
@@ -34,6 +35,13 @@ bytes-in w bs h all =
     let long : length ds ≡ w = length-reverse (take w bs) ∙ length-take-le w bs h in
     let back : digits 256 w (number 256 ds) ≡ ds = rw long at (digits-number 256 ds (all-ordered (λ d. d < 256) true (take w bs) (all-take (λ d. d < 256) w bs all))) in
     ap (ordered true) back ∙ ordered-ordered true (take w bs)
+
+pub number-small : (w : ℕ) (bs : List ℕ) → w ≤ length bs → All (λ d. d < 256) bs → numberAt w bs 0 < 256 ^ w
+unfolding numberAt
+number-small w bs h all =
+    let ds : List ℕ = ordered true (take w bs) in
+    let long : length ds ≡ w = length-reverse (take w bs) ∙ length-take-le w bs h in
+    rw long at (number-below 256 ds (all-ordered (λ d. d < 256) true (take w bs) (all-take (λ d. d < 256) w bs all)))
 
 pub number-none : (w : ℕ) → numberAt w [] 0 ≡ 0
 unfolding numberAt number
@@ -125,6 +133,11 @@ module _ (w : ℕ) (e : Entry) (rest : List ℕ) (short : suc (length (e .value)
   pub entry-in : entryIn w (entryBytes w e ++ rest) ≡ e
   unfolding entryIn
   entry-in = rw (entry-number, entry-kind, less, entry-value)
+
+-- a length out of its bytes
+pub length-here : (w : ℕ) (bs : List ℕ) (at : ℕ) {n : ℕ} → n ≡ numberAt w bs at → n ≡ numberAt w (drop at bs) 0
+unfolding numberAt
+length-here w bs at e = e
 
 -- ---- one step of the parse
 

@@ -12,12 +12,12 @@ use lib.Seq.{take-at, drop-at, take-take, drop-drop}
 use Rattle.layout.specs.declared.Refusal.the-variants.{BadSlot}
 use Rattle.layout.specs.Refusals.{if_then_else_, ok}
 use Rattle.layout.proofs.Laws.{demanded}
-use Rattle.record.specs.Bytes.{part, join, pieces, bigEndianIn}
+use Rattle.record.specs.Bytes.{part, storeAt, join, pieces, bigEndianIn}
 use Rattle.record.specs.declared.slots.Slot.{Slot}
 use Rattle.record.specs.Slots.{valueEnd}
 use Rattle.record.specs.Table.{maxKind, slotsOf, slotWidth, noPosition, itemSize, Value, integersIn, shown}
 use Rattle.record.proofs.Bytes.{and-true, drop-take}
-use Rattle.record.proofs.Stores.{length-part}
+use Rattle.record.proofs.Stores.{length-part, store-store}
 use Rattle.sheet.specs.Entries.{Entry, wholeItems, valueBytes}
 use Rattle.sheet.specs.Sheet.{valueSize, entryOf, entriesOf, slotFits, slotsFit, slotNumbers}
 use Rattle.sheet.specs.Claims.{seen}
@@ -177,3 +177,22 @@ put-fits area start i [] s h = refl
 put-fits area start i (e ∷ es) s h =
     let sum : length (e .value ++ valueBytes es) ≡ length (e .value) + length (valueBytes es) = length-append (e .value) (valueBytes es) in
     rw (put-fit start e (s .0) area (omega (arith, h))) (put-fits area (start + length (e .value)) (suc i) es (s .1) (omega (arith, h)))
+
+-- ---- runs one after the other
+
+-- two runs stored side by side are one, wherever the second is said to start
+pub store-next : (d : List ℕ) (at : ℕ) (s t : List ℕ) (to : ℕ) → to ≡ at + length s → at + length s + length t ≤ length d → storeAt (storeAt d at s) to t ≡ storeAt d at (s ++ t)
+store-next d at s t to e h = rw e (store-store d at s t h)
+
+pub values-append : (es fs : List Entry) → valueBytes (es ++ fs) ≡ valueBytes es ++ valueBytes fs
+unfolding valueBytes join
+values-append [] fs = refl
+values-append (d ∷ es) fs = ap (λ (r : List ℕ). d .value ++ r) (values-append es fs) ∙ sym (append-assoc (d .value) (valueBytes es) (valueBytes fs))
+
+-- the entries so far take no more than all of them
+pub front-few : (es fs all : List Entry) → es ++ fs ≡ all → (length es ≤ length all) × (length (valueBytes es) ≤ length (valueBytes all))
+front-few es fs all e =
+    let l : length es + length fs ≡ length all = sym (length-append es fs) ∙ ap length e in
+    let b : length (valueBytes es) + length (valueBytes fs) ≡ length (valueBytes all) =
+    sym (length-append (valueBytes es) (valueBytes fs)) ∙ ap length (sym (values-append es fs)) ∙ ap (λ (x : List Entry). length (valueBytes x)) e in
+    (omega arith, omega arith)

@@ -16,7 +16,7 @@ use Rattle.record.specs.Reading.{Read}
 use Rattle.record.proofs.Tables.{length-slots}
 use Rattle.record.proofs.Readings.{over}
 use Rattle.sheet.specs.Entries.{Entry}
-use Rattle.sheet.specs.Sheet.{lengthWidth, slotNumbers, putInto, readEffect, reads, read, entriesAt}
+use Rattle.sheet.specs.Sheet.{widthIn, slotNumbers, putInto, readEffect, reads, read, entriesAt}
 use Rattle.sheet.proofs.Tables.{length-slot-numbers}
 use Rattle.sheet.proofs.Calls.{ReadIt, read-it, read-put}
 
@@ -45,6 +45,6 @@ module _ (sheet area : List ℕ) (mark : ℕ) (xs : List ℕ) where
   set-few {a} p z e =
       let same : read sheet xs area mark .answer ≡ a = ap (λ (r : Read). r .answer) (sym p) in
       let got : ReadIt sheet xs area mark = read-it sheet xs area mark (rw same z) in
-      let is : read sheet xs area mark ≡ putInto xs area mark (entriesAt lengthWidth sheet) = sym (read-put sheet xs area mark (got .opened) (got .whole) (got .rows) (got .room)) in
-      let first : a .first ≡ length (entriesAt lengthWidth sheet) = ap (λ (r : Read). r .answer .first) (p ∙ is) in
+      let is : read sheet xs area mark ≡ putInto xs area mark (entriesAt (widthIn sheet) sheet) = sym (read-put sheet xs area mark (got .opened) (got .whole) (got .needed) (got .rows) (got .room)) in
+      let first : a .first ≡ length (entriesAt (widthIn sheet) sheet) = ap (λ (r : Read). r .answer .first) (p ∙ is) in
       omega (arith, got .rows, length-slots xs)

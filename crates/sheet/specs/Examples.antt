@@ -92,8 +92,12 @@ unfolding set
 unsetSlots zero = []
 unsetSlots (suc n) = set 0 0 0 (unsetSlots n)
 
+-- one string of 65,533 bytes
+unfoldable pub longSheet : List ℕ
+longSheet = 2 ∷ 0 ∷ 1 ∷ 0 ∷ 2 ∷ 0 ∷ 0 ∷ 255 ∷ 254 ∷ 1 ∷ replicate 65533 65
+
 unfoldable pub examples : List Example
-unfolding okTable okArea okSheet unset set unsetSlots
+unfolding okTable okArea okSheet longSheet unset set unsetSlots
 examples =
     -- the example of 02
     writing okTable okArea 30 okSheet
@@ -113,7 +117,7 @@ examples =
     -- reading refused: sizes and mark; version; header; entries; slots; room
     ∷ notRead okSheet 65 20 0 (1 ∷ 0 ∷ 0 ∷ [])
     ∷ notRead okSheet 3 20 21 (1 ∷ 0 ∷ 0 ∷ [])
-    ∷ notRead (2 ∷ []) 3 20 0 (13 ∷ 0 ∷ 0 ∷ [])
+    ∷ notRead (9 ∷ []) 3 20 0 (13 ∷ 0 ∷ 0 ∷ [])
     ∷ notRead [] 3 20 0 (12 ∷ 0 ∷ 0 ∷ [])
     ∷ notRead (1 ∷ 0 ∷ []) 3 20 0 (12 ∷ 0 ∷ 0 ∷ [])
     ∷ notRead (1 ∷ 0 ∷ 4 ∷ 0 ∷ 1 ∷ 0 ∷ []) 3 20 0 (12 ∷ 0 ∷ 0 ∷ [])
@@ -125,10 +129,20 @@ examples =
     ∷ notRead (1 ∷ 0 ∷ 6 ∷ 0 ∷ 1 ∷ 0 ∷ 0 ∷ 1 ∷ 4 ∷ []) 0 20 0 (12 ∷ 6 ∷ 0 ∷ [])
     ∷ notRead okSheet 2 0 0 (5 ∷ 0 ∷ 0 ∷ [])
     ∷ notRead okSheet 3 20 11 (11 ∷ 0 ∷ 0 ∷ [])
-    -- 64 and 65 entries; a length of 65,535 and 65,536; a buffer of 65,538 and 65,539 bytes
+    -- 64 and 65 entries; a length of 65,535
     ∷ reading (1 ∷ 0 ∷ 192 ∷ unset 64) 64 0 0 64 (unsetSlots 64) []
     ∷ notRead (1 ∷ 0 ∷ 195 ∷ unset 65) 64 0 0 (5 ∷ 0 ∷ 0 ∷ [])
     ∷ writing (set 1 0 65532 []) (replicate 65532 65) 65538 (1 ∷ 255 ∷ 255 ∷ 255 ∷ 253 ∷ 1 ∷ replicate 65532 65)
-    ∷ notWritten (set 1 0 65533 []) (replicate 65533 65) 65538 (11 ∷ 0 ∷ 0 ∷ [])
-    ∷ notWritten [] [] 65539 (1 ∷ 0 ∷ 0 ∷ [])
+    -- version 2: written exactly where version 1 has no room for a length, and read back
+    ∷ writing (set 1 0 65533 []) (replicate 65533 65) 65543 longSheet
+    ∷ reading longSheet 2 65534 1 1 (set 1 1 65533 []) (replicate 65533 65)
+    ∷ notRead longSheet 0 0 0 (5 ∷ 0 ∷ 0 ∷ [])
+    -- its header is five bytes; one that version 1 could hold is refused, after the entries and before 5
+    ∷ notRead (2 ∷ []) 3 20 0 (12 ∷ 0 ∷ 0 ∷ [])
+    ∷ notRead (2 ∷ 0 ∷ 0 ∷ 0 ∷ []) 3 20 0 (12 ∷ 0 ∷ 0 ∷ [])
+    ∷ notRead (2 ∷ 0 ∷ 0 ∷ 0 ∷ 0 ∷ []) 3 20 0 (12 ∷ 0 ∷ 0 ∷ [])
+    ∷ notRead (2 ∷ 0 ∷ 0 ∷ 0 ∷ 5 ∷ 0 ∷ 0 ∷ 0 ∷ 1 ∷ 0 ∷ []) 0 20 0 (12 ∷ 0 ∷ 0 ∷ [])
+    ∷ notRead (2 ∷ 0 ∷ 0 ∷ 0 ∷ 5 ∷ 0 ∷ 0 ∷ 0 ∷ 1 ∷ 9 ∷ []) 0 20 0 (12 ∷ 5 ∷ 0 ∷ [])
+    ∷ notRead (3 ∷ 0 ∷ 0 ∷ []) 3 20 0 (13 ∷ 0 ∷ 0 ∷ [])
+    ∷ notRead (0 ∷ []) 3 20 0 (13 ∷ 0 ∷ 0 ∷ [])
     ∷ []

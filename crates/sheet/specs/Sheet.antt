@@ -1,8 +1,8 @@
--- Storing a table as a sheet and reading it back (02, M-100): THE EFFECTS OF THE CALLS are `write` and `read`.
+-- Storing a table as a sheet and reading it back (02, M-100 and M-111): THE EFFECTS OF THE CALLS are `write` and `read`.
 use Prim.Native.Nat.{ℕ, suc, _+_, _*_, _/_, _^_}
-use mathlib.Core.Bool.{Bool, true, _&&_, _||_}
+use mathlib.Core.Bool.{Bool, not, _&&_, _||_}
 use mathlib.Core.List.{List, [], _∷_, _++_, map}
-use lib.ListN.{length, drop}
+use lib.ListN.{length, drop, getD}
 use lib.Dec.{eqb, leb, ltb}
 use Rattle.layout.specs.declared.Refusal.the-variants.{BadSize, WrongSlots, BadSlot, NoRoom, BadSheet, BadVersion}
 use Rattle.layout.specs.Refusals.{if_then_else_, Result, ok, refused, _>>=_, demand}
@@ -17,12 +17,15 @@ use Rattle.sheet.specs.Entries.{Entry, bodyBytes, valueBytes, entriesIn}
 
 -- ---- the format
 
--- the version, and how many bytes its lengths have
-abbrev pub version : ℕ
-version = 1
+-- the versions, and how many bytes the lengths of each have
+abbrev pub version1 : ℕ
+version1 = 1
 
-abbrev pub lengthWidth : ℕ
-lengthWidth = 2
+abbrev pub version2 : ℕ
+version2 = 2
+
+abbrev pub widthOf : ℕ → ℕ
+widthOf v = if eqb v version2 then 4 else 2
 
 -- the bytes of the header: the version and a length
 abbrev pub headerSize : ℕ → ℕ
@@ -37,11 +40,20 @@ sheetBytes v w es = v ∷ (numberBytes w (length (bodyBytes w es)) ++ bodyBytes 
 abbrev pub inLength : ℕ → ℕ → Bool
 inLength w n = ltb n (256 ^ w)
 
+-- the lengths of a version 1 sheet have room in their bytes; that of the header is the greatest
+unfoldable pub fitsVersion1 : List Entry → Bool
+unfolding bodyBytes
+fitsVersion1 es = inLength (widthOf version1) (length (bodyBytes (widthOf version1) es))
+
+-- the version that entries are written as
+abbrev pub versionFor : List Entry → ℕ
+versionFor es = if fitsVersion1 es then version1 else version2
+
 -- ---- sizes (number 1)
 
 -- the longest sheet, and the longest buffer for one
 abbrev pub maxSheet : ℕ
-maxSheet = 65538
+maxSheet = 1048576
 
 -- slots, area, and sheet or buffer, by their lengths
 abbrev pub lengthsFit : ℕ → ℕ → ℕ → Bool
@@ -73,13 +85,14 @@ slotsFit area i (t ∷ ts) = demand (slotFits (length area) t) BadSlot i >>= (λ
 
 -- the sheet of a table, or the first refusal of 1, 7 and 11
 unfoldable pub writes : List ℕ → List ℕ → List ℕ → Result (List ℕ)
-unfolding slotsOf slotsFit entriesOf sheetBytes bodyBytes
+unfolding slotsOf slotsFit entriesOf sheetBytes fitsVersion1
 writes slots area buffer = do
   _ ← demand (lengthsFit (length slots) (length area) (length buffer)) BadSize 0
   _ ← slotsFit area 0 (slotsOf slots)
   let es = entriesOf area (slotsOf slots)
-  let bs = sheetBytes version lengthWidth es
-  _ ← demand (inLength lengthWidth (length (bodyBytes lengthWidth es)) && leb (length bs) (length buffer)) NoRoom 0
+  let v = versionFor es
+  let bs = sheetBytes v (widthOf v) es
+  _ ← demand (leb (length bs) (length buffer)) NoRoom 0
   ok bs
 
 -- It leaves what packing does: the answer 0, the length of the sheet, 0, and the buffer with the sheet at its front, the bytes after it
@@ -90,10 +103,17 @@ write slots area buffer = packEffect buffer (writes slots area buffer)
 
 -- ---- reading
 
--- not number 13: there is no first byte, or it is the version
-unfoldable pub versionFits : List ℕ → Bool
-versionFits [] = true
-versionFits (b ∷ bs) = eqb b version
+-- the version of a sheet is its first byte; a sheet of no bytes counts as version 1, and has no whole header
+abbrev pub versionOf : List ℕ → ℕ
+versionOf sheet = getD sheet 0 version1
+
+-- not number 13
+abbrev pub versionKnown : ℕ → Bool
+versionKnown v = eqb v version1 || eqb v version2
+
+-- the width of the lengths in a sheet
+abbrev pub widthIn : List ℕ → ℕ
+widthIn sheet = widthOf (versionOf sheet)
 
 -- the header is whole, and its length is that of what follows
 unfoldable pub headerFits : ℕ → List ℕ → Bool
@@ -109,15 +129,21 @@ unfoldable pub entriesEnd : ℕ → List Entry → ℕ
 unfolding bodyBytes
 entriesEnd w es = headerSize w + length (bodyBytes w es)
 
+-- the fitting rule of M-111: version 2 is for entries that version 1 cannot hold
+abbrev pub versionNeeded : ℕ → List Entry → Bool
+versionNeeded v es = eqb v version1 || not (fitsVersion1 es)
+
 -- the entries of a sheet, or the first refusal of 1, 13, 12, 5 and 11
 unfoldable pub reads : List ℕ → List ℕ → List ℕ → ℕ → Result (List Entry)
-unfolding versionFits headerFits entriesIn entriesEnd slotsOf valueBytes
+unfolding headerFits entriesIn entriesEnd fitsVersion1 slotsOf valueBytes
 reads sheet slots area mark = do
   _ ← demand (lengthsFit (length slots) (length area) (length sheet) && leb mark (length area)) BadSize 0
-  _ ← demand (versionFits sheet) BadVersion 0
-  _ ← demand (headerFits lengthWidth sheet) BadSheet 0
-  let es = entriesAt lengthWidth sheet
-  _ ← demand (eqb (entriesEnd lengthWidth es) (length sheet)) BadSheet (entriesEnd lengthWidth es)
+  _ ← demand (versionKnown (versionOf sheet)) BadVersion 0
+  let w = widthIn sheet
+  _ ← demand (headerFits w sheet) BadSheet 0
+  let es = entriesAt w sheet
+  _ ← demand (eqb (entriesEnd w es) (length sheet)) BadSheet (entriesEnd w es)
+  _ ← demand (versionNeeded (versionOf sheet) es) BadSheet 0
   _ ← demand (leb (length es) (length (slotsOf slots))) WrongSlots 0
   _ ← demand (leb (mark + length (valueBytes es)) (length area)) NoRoom 0
   ok es

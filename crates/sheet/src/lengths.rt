@@ -1,17 +1,35 @@
-// The numbers of the format, and a length out of a sheet.
+// The versions of the format, and a length out of a sheet.
 ghost use mathlib.Core.Path.{_≡_};
 ghost use Prim.Native.Nat.{_+_, _≤_};
 ghost use lib.ListN.{length, drop};
 ghost use Rattle.record.specs.Bytes.{numberAt};
 ghost use Rattle.record.specs.Table.{integerSize};
+ghost use Rattle.sheet.specs.Sheet.{widthOf};
 
-// The version, and the bytes of a length in it.
-pub const VERSION: u8 = 1;
+pub const VERSION_1: u8 = 1;
 
-pub const WIDTH: usize = 2;
+pub const VERSION_2: u8 = 2;
+
+// The bytes of a length in each.
+pub const WIDTH_1: usize = 2;
+
+pub const WIDTH_2: usize = 4;
 
 // The header has a length and a byte more, the version; and so has an entry before its value, where the byte is the kind.
-pub const HEADER: usize = WIDTH + 1;
+pub const HEADER_1: usize = WIDTH_1 + 1;
+
+// The lengths of version 1 are below this.
+pub const LIMIT_1: usize = 65536;
+
+pub fn width_of(version: u8) -> usize
+    ensures { λ r. ⌜ (r ≡ widthOf version) × (r ≤ integerSize) ⌝ }
+{
+    if version == VERSION_2 {
+        WIDTH_2
+    } else {
+        WIDTH_1
+    }
+}
 
 pub fn length_at(bytes: &[u8], at: usize, w: usize) -> usize
     requires { ⌜ (w ≤ integerSize) × (at + w ≤ length (now bytes)) ⌝ }

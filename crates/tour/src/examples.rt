@@ -113,7 +113,8 @@ pub fn packed_refusals(record: &mut [u8; 4096]) {
 p c 3|{1}
 p cauu|{1} "x"
 p a4096|"x"
-p c a4097|{1} "x"
+p a32768|"x"
+p c a32769|{1} "x"
 p a@|"x"
 p x*|
 p @u|
@@ -228,7 +229,7 @@ pub fn read_refusals(record: &mut [u8; 4096]) {
         b"
 1 c 3|\x01
 2 cd|\x01
-1 a4097|ab
+1 a32769|ab
 1 a@|ab
 1 cc|
 ",

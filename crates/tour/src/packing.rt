@@ -111,18 +111,18 @@ fn tables(record: &mut [u8; 4096]) {
 
 // Packs the last byte of an area.
 fn last(told: &[u8], area: &[u8], record: &mut [u8; 4096]) {
-    show(b"a", told, &[1, 65535, 1, 0], area, record);
+    show(b"a", told, &[1, 524287, 1, 0], area, record);
 }
 
 fn areas(record: &mut [u8; 4096]) {
     last(
-        b"slot 1 65535 1, area of 65536 bytes",
-        &[b'z'; 65536],
+        b"slot 1 524287 1, area of 524288 bytes",
+        &[b'z'; 524288],
         record,
     );
     last(
-        b"slot 1 65535 1, area of 65537 bytes",
-        &[b'z'; 65537],
+        b"slot 1 524287 1, area of 524289 bytes",
+        &[b'z'; 524289],
         record,
     );
 }
@@ -142,7 +142,24 @@ fn output(layout: &[u8], told: &[u8], n: u32, record: &mut [u8]) {
 
 // Outputs above their limit, as long as the result, and shorter.
 pub fn outputs() {
-    output(b"a", b"slot 1 0 1, output of 4097 bytes", 1, &mut [0; 4097]);
+    output(
+        b"a",
+        b"slot 1 0 1, output of 32768 bytes",
+        1,
+        &mut [0; 32768],
+    );
+    output(
+        b"a",
+        b"slot 1 0 1, output of 32769 bytes",
+        1,
+        &mut [0; 32769],
+    );
+    output(
+        b"a32768",
+        b"slot 1 0 2, output of 32768 bytes",
+        2,
+        &mut [0; 32768],
+    );
     output(b"a2", b"slot 1 0 2, output of 2 bytes", 2, &mut [0; 2]);
     output(b"a2x", b"slot 1 0 2, output of 2 bytes", 2, &mut [0; 2]);
 }

@@ -97,7 +97,7 @@ pub fn kept() {
 
 // Reads into a table that is lent, with room for every value.
 fn sized(layout: &[u8], record: &[u8], told: &[u8], slots: &mut [u32]) {
-    show(layout, record, told, slots, &mut [0u8; 32768], 0);
+    show(layout, record, told, slots, &mut [0u8; 262144], 0);
 }
 
 fn layouts() {
@@ -127,21 +127,21 @@ fn tables() {
 
 fn records() {
     sized(
-        b"c4096",
-        &[9; 4096],
-        b"record of 4096 bytes",
+        b"c32768",
+        &[9; 32768],
+        b"record of 32768 bytes",
         &mut [0; SLOT_WIDTH],
     );
     sized(
         b"b*",
-        &[9; 4096],
-        b"record of 4096 bytes",
+        &[9; 32768],
+        b"record of 32768 bytes",
         &mut [0; SLOT_WIDTH],
     );
     sized(
-        b"@4095c",
-        &[9; 4097],
-        b"record of 4097 bytes",
+        b"@32767c",
+        &[9; 32769],
+        b"record of 32769 bytes",
         &mut [0; SLOT_WIDTH],
     );
 }
@@ -161,7 +161,7 @@ fn marked(layout: &[u8], record: &[u8], told: &[u8], area: &mut [u8], mark: usiz
 
 // Reads the last byte of an area.
 fn last(told: &[u8], area: &mut [u8]) {
-    marked(b"a", b"q", told, area, 65535);
+    marked(b"a", b"q", told, area, 524287);
 }
 
 // Reads into an area of 8 bytes.
@@ -171,8 +171,8 @@ fn eight(layout: &[u8], told: &[u8], mark: usize) {
 
 // Areas at their limit and one above: number 1.
 pub fn areas() {
-    last(b"mark 65535, area of 65536 bytes", &mut [0; 65536]);
-    last(b"mark 65535, area of 65537 bytes", &mut [0; 65537]);
+    last(b"mark 524287, area of 524288 bytes", &mut [0; 524288]);
+    last(b"mark 524287, area of 524289 bytes", &mut [0; 524289]);
 }
 
 // Marks: numbers 11 and 1.

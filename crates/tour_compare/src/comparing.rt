@@ -161,7 +161,7 @@ pub fn long_areas() {
 // Records at their limit and above: number 1, after every refusal of the first.
 pub fn records() {
     own(
-        b"@4095a",
+        b"@32767a",
         &[b'x'; MAX_RECORD],
         &[b'y'; MAX_RECORD],
         b"records of the longest size",

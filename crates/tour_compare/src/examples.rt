@@ -89,7 +89,7 @@ pub fn refusals() {
         b"
 cd|\x01|\x01
 c 3|\x01|\x01
-a4097|ab|ab
+a32769|ab|ab
 a@|ab|ab
 cccc|abcd|abcd
 ",

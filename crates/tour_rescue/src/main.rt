@@ -54,6 +54,16 @@ fn damages() {
     );
 }
 
+// Version 2, which the fitting rule does not bind: a header of five bytes, whole and cut, and lengths of four.
+fn second_versions() {
+    three(b"\x02\x00\x00\x00\x06\x00\x00\x00\x02\x01x");
+    three(b"\x02\x00\x00\x00\x06\x00\x00\x00\x02\x01");
+    three(b"\x02\x00\x00\x00\x06\x00\x00\x00\x01\x00x");
+    three(b"\x02\x00\x00\x00\x06");
+    three(b"\x02\x00\x00\x00");
+    three(b"\x02");
+}
+
 // Two strings and one that is not set, for so many legs, into three slots of nines and eight bytes aa from the mark 1 on; prints all that they then hold.
 fn whole(legs: usize) {
     let mut slots = [9u32; 3 * SLOT_WIDTH];
@@ -170,6 +180,7 @@ fn main() {
     cuts(b"\x01\x00\x13\x00\x01\x00\x00\x03\x01OK\x00\x09\x02\xff\xff\xff\xff\xff\xff\xff\xfe");
     print::heading(b"\nDamaged bytes");
     damages();
+    second_versions();
     kept();
     print::heading(b"\nRefusals and limits");
     marks();

@@ -24,6 +24,7 @@ fn read() {
     reading::example(b"");
     examples::headers();
     examples::entries();
+    examples::second_versions();
     reading::sizes();
     reading::kept();
 }

@@ -9,7 +9,7 @@ use tour_text::values;
 
 // Reads a sheet, and prints the line; `told` names what is lent besides.
 fn show(sheet: &[u8], told: &[u8], slots: &mut [u32], area: &mut [u8], mark: usize) {
-    let a = sheet::read(sheet, slots, area, mark);
+    let a = sheet_read::read(sheet, slots, area, mark);
     print::text(b"read");
     print::shortened(sheet, Style::Hex);
     print::lent(told);
@@ -100,7 +100,7 @@ pub fn sizes() {
 fn whole(sheet: &[u8]) {
     let mut slots = [9u32; 3 * SLOT_WIDTH];
     let mut area = [0xaau8; 8];
-    let a = sheet::read(sheet, &mut slots, &mut area, 1);
+    let a = sheet_read::read(sheet, &mut slots, &mut area, 1);
     print::text(b"read");
     print::bytes(sheet, Style::Hex);
     print::lent(b"into slots of 9, eight bytes aa, mark 1");
@@ -114,7 +114,7 @@ pub fn kept() {
     whole(b"\x01\x00\x00");
     whole(b"\x01\x00\x03\x00\x01\x00");
     whole(b"\x01\x00\x08\x00\x03\x01xy\x00\x01\x01");
-    whole(b"\x02\x00\x00");
+    whole(b"\x03\x00\x00");
     whole(b"\x01\x00\x07\x00\x02\x01x\x00\x01\x04");
     whole(b"\x01\x00\x0c\x00\x01\x01\x00\x01\x01\x00\x01\x01\x00\x01\x01");
     whole(b"\x01\x00\x0b\x00\x09\x02\x00\x00\x00\x00\x00\x00\x00\x07");

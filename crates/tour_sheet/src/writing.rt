@@ -10,7 +10,7 @@ use tour_text::values;
 
 // Writes a table, and prints the line; `told` names what is lent.
 fn show(told: &[u8], slots: &[u32], area: &[u8], sheet: &mut [u8]) {
-    let a = sheet::write(slots, area, sheet);
+    let a = sheet_write::write(slots, area, sheet);
     print::text(b"write");
     print::lent(told);
     print::answer(a.number, a.first, a.second);
@@ -22,7 +22,7 @@ fn show(told: &[u8], slots: &[u32], area: &[u8], sheet: &mut [u8]) {
 fn keep(told: &[u8], slots: &[u32], area: &[u8], table: &mut [u32]) {
     let mut sheet = [0u8; 64];
     let mut kept = [0u8; 64];
-    let a = sheet::keep(slots, area, &mut sheet, table, &mut kept, 4);
+    let a = sheet_keep::keep(slots, area, &mut sheet, table, &mut kept, 4);
     print::text(b"keep");
     print::lent(told);
     print::answer(a.number, a.first, a.second);
@@ -109,19 +109,49 @@ fn long(told: &[u8], slots: &[u32]) {
     show(told, slots, &[b'z'; MAX_AREA], &mut [0; MAX_SHEET]);
 }
 
-// The longest that a sheet can be, and one byte more: number 11.
+// The longest that version 1 can hold, and a byte more: version 2. The largest table that its own bytes can fill; and number 11.
 fn lengths() {
     long(b"slot 1 0 65532", &[1, 0, 65532, 0]);
     long(b"slot 1 0 65533", &[1, 0, 65533, 0]);
     long(
-        b"slots 1 0 32768, 1 0 32768",
-        &[1, 0, 32768, 0, 1, 0, 32768, 0],
+        b"slots 1 0 32765, 1 0 32764",
+        &[1, 0, 32765, 0, 1, 0, 32764, 0],
+    );
+    long(
+        b"slots 1 0 32765, 1 0 32765",
+        &[1, 0, 32765, 0, 1, 0, 32765, 0],
+    );
+    long(b"slot 1 0 524288", &[1, 0, 524288, 0]);
+    long(
+        b"slots 1 0 524288, 1 0 524273",
+        &[1, 0, 524288, 0, 1, 0, 524273, 0],
+    );
+    long(
+        b"slots 1 0 524288, 1 0 524274",
+        &[1, 0, 524288, 0, 1, 0, 524274, 0],
+    );
+}
+
+// The version goes by the lengths, and not by the buffer.
+fn short_buffers() {
+    show(
+        b"slot 1 0 65533, buffer of 65543 bytes",
+        &[1, 0, 65533, 0],
+        &[b'z'; MAX_AREA],
+        &mut [0; 65543],
+    );
+    show(
+        b"slot 1 0 65533, buffer of 65542 bytes",
+        &[1, 0, 65533, 0],
+        &[b'z'; MAX_AREA],
+        &mut [0; 65542],
     );
 }
 
 // Number 1: slots, area and buffer at their limits and above.
 pub fn sizes() {
     lengths();
+    short_buffers();
     show(
         b"as many slots as can be",
         &[0; MAX_NUMBERS],
@@ -152,7 +182,7 @@ pub fn sizes() {
 // Writes into eight bytes aa, and prints all that they then hold.
 fn whole(told: &[u8], slots: &[u32]) {
     let mut sheet = [0xaau8; 8];
-    let a = sheet::write(slots, b"OKOK", &mut sheet);
+    let a = sheet_write::write(slots, b"OKOK", &mut sheet);
     print::text(b"write");
     print::lent(told);
     print::lent(b"over OKOK into eight bytes aa");

@@ -1,10 +1,11 @@
 -- Line by line of the request: each way out is one law of the definition.
 use native.Mathlib.Omega.{arith}
 use mathlib.Core.Path.{sym, _∙_}
-use borrow.Author.Tests.{leb-true, leb-false, not-true, not-false}
+use borrow.Author.Tests.{not-true, not-false}
 use Rattle.record.proofs.Tables.{length-slots}
 use Rattle.rescue.specs.Steps.{Ready}
 use Rattle.rescue.proofs.Calls.{rescue-sizes, rescue-version, rescue-slots}
+use Rattle.rescue.proofs.Runs.{known-as, width-as, no-header, a-header}
 use borrow.Author.Needs.{needs}
 use Rattle.rescue.proofs.rescue.Statement.{statement}
 use Rattle.rescue.proofs.rescue.Tie as tie
@@ -18,38 +19,60 @@ refused-requires c κs = search needs
 returns : tie.Need-returns
 returns c = rw (c .refused .ensures) (rescue-sizes _ _ _ _ _ (sym (c .before .before .sizes-fit .ensures) ∙ not-true _ (c .before .if1 .taken)))
 
-version-fits-requires : tie.Need-version-fits-requires
-version-fits-requires c κs = search needs
+version-of-requires : tie.Need-version-of-requires
+version-of-requires c κs = search needs
+
+version-known-requires : tie.Need-version-known-requires
+version-known-requires c κs = search needs
 
 refused-requires-2 : tie.Need-refused-requires-2
 refused-requires-2 c κs = search needs
 
 returns-2 : tie.Need-returns-2
-returns-2 c = rw (c .refused2 .ensures) (rescue-version _ _ _ _ _ (sym (c .before .before .before .before .sizes-fit .ensures) ∙ not-false _ (c .before .before .before .if1 .left)) (sym (c .before .before .version-fits .ensures) ∙ not-true _ (c .before .if2 .taken)))
+returns-2 c =
+    let known = c .before .before in
+    let named = known .before in
+    let sized = named .before in
+    let start = sized .before .before .before .before .before in
+    rw (c .refused2 .ensures) (rescue-version _ _ _ _ _ (sym (sized .before .sizes-fit .ensures) ∙ not-false _ (sized .if1 .left)) (known-as (start .args .sheet .now) (named .version-of .ensures) (known .version-known .ensures) (not-true _ (c .before .if2 .taken))))
 
 refused-requires-3 : tie.Need-refused-requires-3
 refused-requires-3 c κs = search needs
 
 returns-3 : tie.Need-returns-3
-returns-3 c = rw (c .refused3 .ensures) (rescue-slots _ _ _ _ _ (sym (c .before .before .before .before .before .sizes-fit .ensures) ∙ not-false _ (c .before .before .before .before .if1 .left)) (sym (c .before .before .before .version-fits .ensures) ∙ not-false _ (c .before .before .if2 .left)) (omega (arith, length-slots (c .before .before .before .before .before .before .before .before .before .args .slots .now), c .before .if3 .taken)))
+returns-3 c =
+    let told = c .before .before in
+    let named = told .before .before in
+    let sized = named .before in
+    let start = sized .before .before .before .before .before in
+    rw (c .refused3 .ensures) (rescue-slots _ _ _ _ _ (sym (sized .before .sizes-fit .ensures) ∙ not-false _ (sized .if1 .left)) (known-as (start .args .sheet .now) (named .version-of .ensures) (told .before .version-known .ensures) (not-false _ (told .if2 .left))) (omega (arith, length-slots (start .args .slots .now), c .before .if3 .taken)))
+
+width-of-requires : tie.Need-width-of-requires
+width-of-requires c κs = search needs
 
 has-header-requires : tie.Need-has-header-requires
-has-header-requires c κs = search needs
+has-header-requires c κs = omega (arith, c .width-of .ensures .1)
 
 -- what was tested before the header is
-ready : (c : tie.After-has-header) → Ready (c .before .before .before .before .before .before .before .before .before .args .sheet .now) (c .before .before .before .before .before .before .before .before .before .args .legs) (c .before .before .before .before .before .before .before .before .before .args .slots .now) (c .before .before .before .before .before .before .before .before .before .args .area .now) (c .before .before .before .before .before .before .before .before .before .args .mark)
+ready : (c : tie.After-width-of) → Ready (c .before .before .before .before .before .before .before .before .before .before .args .sheet .now) (c .before .before .before .before .before .before .before .before .before .before .args .legs) (c .before .before .before .before .before .before .before .before .before .before .args .slots .now) (c .before .before .before .before .before .before .before .before .before .before .args .area .now) (c .before .before .before .before .before .before .before .before .before .before .args .mark)
 ready c =
-    let start = c .before .before .before .before .before .before .before .before .before in
+    let told = c .before .before in
+    let named = told .before .before in
+    let sized = named .before in
+    let start = sized .before .before .before .before .before in
     record {
-      sizes = sym (c .before .before .before .before .before .sizes-fit .ensures) ∙ not-false _ (c .before .before .before .before .if1 .left);
-      versions = sym (c .before .before .before .version-fits .ensures) ∙ not-false _ (c .before .before .if2 .left);
+      sizes = sym (sized .before .sizes-fit .ensures) ∙ not-false _ (sized .if1 .left);
+      versions = known-as (start .args .sheet .now) (named .version-of .ensures) (told .before .version-known .ensures) (not-false _ (told .if2 .left));
       rows = omega (arith, length-slots (start .args .slots .now), c .before .if3 .left);
     }
 
 rescue-nothing-requires : tie.Need-rescue-nothing-requires
 rescue-nothing-requires c κs =
     let tested = c .before .before in
-    (ready (tested .before), leb-false _ _ (sym (tested .before .has-header .ensures) ∙ not-true _ (tested .if4 .taken)))
+    let wide = tested .before .before in
+    let named = wide .before .before .before .before in
+    let start = named .before .before .before .before .before .before in
+    (ready wide, no-header (start .args .sheet .now) (named .version-of .ensures) (wide .width-of .ensures .0) (tested .before .has-header .ensures) (not-true _ (tested .if4 .taken)))
 
 same-length : tie.Need-same-length
 same-length c = search needs
@@ -63,7 +86,11 @@ returns-4 c = search needs
 rescue-entries-requires : tie.Need-rescue-entries-requires
 rescue-entries-requires c κs =
     let tested = c .before .before in
-    (ready (tested .before), leb-true _ _ (sym (tested .before .has-header .ensures) ∙ not-false _ (tested .if4 .left)))
+    let wide = tested .before .before in
+    let named = wide .before .before .before .before in
+    let start = named .before .before .before .before .before .before in
+    let width = wide .width-of .ensures in
+    (ready wide, width-as (start .args .sheet .now) (named .version-of .ensures) (width .0), width .1, a-header (start .args .sheet .now) (named .version-of .ensures) (width .0) (tested .before .has-header .ensures) (not-false _ (tested .if4 .left)))
 
 same-length-3 : tie.Need-same-length-3
 same-length-3 c = search needs
@@ -81,11 +108,13 @@ rescue-spec =
     sizes-fit-requires
     refused-requires
     returns
-    version-fits-requires
+    version-of-requires
+    version-known-requires
     refused-requires-2
     returns-2
     refused-requires-3
     returns-3
+    width-of-requires
     has-header-requires
     rescue-nothing-requires
     same-length

@@ -1,6 +1,6 @@
 -- A number of as many bytes is the length.
 use borrow.Author.Needs.{needs}
-use Rattle.sheet.proofs.Leaves.{length-here}
+use Rattle.sheet.proofs.Entries.{length-here}
 use Rattle.sheet.proofs.lengths.length_at.Statement.{statement}
 use Rattle.sheet.proofs.lengths.length_at.Tie as tie
 

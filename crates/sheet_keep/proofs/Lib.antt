@@ -1,0 +1,2 @@
+-- The law of both calls.
+mod Keeping

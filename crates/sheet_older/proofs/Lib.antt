@@ -1,0 +1,3 @@
+-- The claims on both readers, with an instance of their premises.
+mod Claims
+mod Instance

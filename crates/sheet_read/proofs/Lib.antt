@@ -1,0 +1,4 @@
+-- The laws that the reader goes by.
+mod Leaves
+mod Reading
+mod Runs

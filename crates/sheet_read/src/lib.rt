@@ -1,0 +1,56 @@
+// A sheet read into a table of slots (document 02, M-100 and M-111). The first pass over the entries checks and measures, the second writes. So a refusal
+// writes nothing.
+ghost use mathlib.Core.Path.{_≡_};
+ghost use Rattle.sheet.specs.Sheet.{read};
+ghost use Rattle.sheet_read.specs.Steps.{OpenedAs};
+use layout::Refusal;
+use record::Answer;
+use sheet::lengths;
+
+pub mod load;
+
+// What is left once version and header are sound: v is the version, and w the width of its lengths.
+fn read_entries(
+    sheet: &[u8],
+    v: u8,
+    w: usize,
+    slots: &mut [u32],
+    area: &mut [u8],
+    mark: usize,
+) -> Answer
+    requires { ⌜ OpenedAs v w (now sheet) (now slots) (now area) mark ⌝ }
+    ensures { λ r. ⌜ record { answer = r; slots = now (slots .exit); area = now (area .exit) } ≡ read (now (sheet .entry)) (now (slots .entry)) (now (area .entry)) mark ⌝ }
+{
+    let x = load::measure(sheet, w, sheet.len());
+    if x.end != sheet.len() {
+        return Answer::refused(Refusal::BadSheet, x.end as u32);
+    }
+    if !load::version_needed(v, x.entries, x.values) {
+        return Answer::refused(Refusal::BadSheet, 0);
+    }
+    if slots.len() / record::SLOT_WIDTH < x.entries {
+        return Answer::refused(Refusal::WrongSlots, 0);
+    }
+    if area.len() - mark < x.values {
+        return Answer::refused(Refusal::NoRoom, 0);
+    }
+    load::fill(sheet, w, sheet.len(), slots, area, mark)
+}
+
+// Reads a sheet: sets slots from the first on, and puts their values into the area from the mark on. A refusal changes nothing.
+pub fn read(sheet: &[u8], slots: &mut [u32], area: &mut [u8], mark: usize) -> Answer
+    ensures { λ r. ⌜ record { answer = r; slots = now (slots .exit); area = now (area .exit) } ≡ read (now (sheet .entry)) (now (slots .entry)) (now (area .entry)) mark ⌝ }
+{
+    if !sheet::lent_fits(slots.len(), area.len(), sheet.len(), mark) {
+        return Answer::refused(Refusal::BadSize, 0);
+    }
+    let v = load::version_of(sheet);
+    if !load::version_known(v) {
+        return Answer::refused(Refusal::BadVersion, 0);
+    }
+    let w = lengths::width_of(v);
+    if !load::header_fits(sheet, w) {
+        return Answer::refused(Refusal::BadSheet, 0);
+    }
+    read_entries(sheet, v, w, slots, area, mark)
+}

@@ -1,0 +1,203 @@
+// A sheet as a table: the tests of version and header, and the two passes over the entries, of which at most so many are taken.
+// w is the width of a length.
+ghost use mathlib.Core.Path.{_≡_};
+ghost use mathlib.Core.Bool.{true};
+ghost use Prim.Native.Nat.{_+_, _/_, _≤_};
+ghost use lib.ListN.{length, drop};
+ghost use lib.Dec.{eqb};
+ghost use Rattle.layout.specs.Refusals.{if_then_else_};
+ghost use Rattle.record.specs.Table.{maxSlots, maxArea, integerSize, itemSize};
+ghost use Rattle.record.specs.Packing.{accepted};
+ghost use Rattle.sheet.specs.Entries.{wholeItems, beginsEntry, entryIn};
+ghost use Rattle.sheet.specs.Sheet.{headerSize, maxSheet, versionOf, versionKnown, headerFits, putInto};
+ghost use Rattle.sheet_read.specs.Steps.{neededBy, frontOf, entryDue, ExtentOf, Room, PutRoom, PutAs};
+use record::Answer;
+use sheet::lengths;
+
+// The version of a sheet.
+pub fn version_of(sheet: &[u8]) -> u8
+    ensures { λ r. ⌜ r ≡ versionOf (now (sheet .entry)) ⌝ }
+{
+    if sheet.len() == 0 {
+        return lengths::VERSION_1;
+    }
+    sheet[0]
+}
+
+// Not number 13.
+pub fn version_known(v: u8) -> bool
+    ensures { λ r. ⌜ r ≡ versionKnown v ⌝ }
+{
+    if v == lengths::VERSION_1 {
+        return true;
+    }
+    v == lengths::VERSION_2
+}
+
+// The fitting rule, by the entries and the bytes of their values.
+pub fn version_needed(v: u8, entries: usize, values: usize) -> bool
+    requires { ⌜ entries + values ≤ maxSheet ⌝ }
+    ensures { λ r. ⌜ r ≡ neededBy v entries values ⌝ }
+{
+    if v == lengths::VERSION_1 {
+        return true;
+    }
+    lengths::LIMIT_1 <= entries * lengths::HEADER_1 + values
+}
+
+// The header is whole and has the length of what follows.
+pub fn header_fits(sheet: &[u8], w: usize) -> bool
+    requires { ⌜ w ≤ integerSize ⌝ }
+    ensures { λ r. ⌜ r ≡ headerFits w (now (sheet .entry)) ⌝ }
+{
+    let size = sheet.len();
+    if size < w + 1 {
+        return false;
+    }
+    lengths::length_at(sheet, 1, w) == size - (w + 1)
+}
+
+// So many bytes are a value of the kind.
+fn whole_items(kind: u8, n: usize) -> bool
+    ensures { λ r. ⌜ r ≡ wholeItems kind n ⌝ }
+{
+    if kind == 0 {
+        return n == 0;
+    }
+    n % record::slots::item_size(kind as usize) == 0
+}
+
+// A whole entry stands at a place.
+fn is_entry(sheet: &[u8], at: usize, w: usize) -> bool
+    requires { ⌜ (w ≤ integerSize) × (at ≤ length (now sheet)) ⌝ }
+    ensures { λ r. ⌜ r ≡ beginsEntry w (drop at (now (sheet .entry))) ⌝ }
+{
+    let left = sheet.len() - at;
+    if left < w {
+        return false;
+    }
+    let n = lengths::length_at(sheet, at, w);
+    if n == 0 {
+        return false;
+    }
+    if left - w < n {
+        return false;
+    }
+    let kind = sheet[at + w];
+    if record::slots::MAX_KIND < kind as usize {
+        return false;
+    }
+    whole_items(kind, n - 1)
+}
+
+// The whole entries of a sheet: how many, the bytes of their values, and where they end.
+pub struct Extent {
+    pub entries: usize,
+    pub values: usize,
+    pub end: usize,
+}
+
+// One more entry is due after so many, and stands whole at a place.
+fn entry_due(sheet: &[u8], at: usize, w: usize, done: usize, most: usize) -> bool
+    requires { ⌜ (w ≤ integerSize) × (at ≤ length (now sheet)) ⌝ }
+    ensures { λ r. ⌜ r ≡ entryDue w (now (sheet .entry)) at done most ⌝ }
+{
+    if most <= done {
+        return false;
+    }
+    is_entry(sheet, at, w)
+}
+
+// The first pass over the entries, at most so many. Nothing is written.
+pub fn measure(sheet: &[u8], w: usize, most: usize) -> Extent
+    requires { ⌜ (w ≤ integerSize) × (headerSize w ≤ length (now sheet)) × (length (now sheet) ≤ maxSheet) ⌝ }
+    ensures { λ r. ⌜ ExtentOf w (frontOf w most (now (sheet .entry))) (now (sheet .entry)) r ⌝ }
+{
+    let mut at = w + 1;
+    let mut entries: usize = 0;
+    let mut values: usize = 0;
+    while entry_due(sheet, at, w, entries, most) {
+        let n = lengths::length_at(sheet, at, w);
+        entries += 1;
+        values += n - 1;
+        at += w + n;
+    }
+    Extent {
+        entries: entries,
+        values: values,
+        end: at,
+    }
+}
+
+// The start of a slot whose value is put at a place.
+fn start_of(kind: u8, place: usize) -> usize
+    ensures { λ r. ⌜ r ≡ (if eqb kind 0 then 0 else place) ⌝ }
+{
+    if kind == 0 { 0 } else { place }
+}
+
+// The items in so many bytes of a value.
+fn items_of(kind: u8, size: usize) -> usize
+    ensures { λ r. ⌜ r ≡ size / itemSize kind ⌝ }
+{
+    size / record::slots::item_size(kind as usize)
+}
+
+// The entry at a place goes into slot k and into the area from the place `to` on; hands back the bytes of its value.
+fn put(
+    slots: &mut [u32],
+    k: usize,
+    area: &mut [u8],
+    to: usize,
+    sheet: &[u8],
+    at: usize,
+    w: usize,
+) -> usize
+    requires { ⌜ (w ≤ integerSize) × (beginsEntry w (drop at (now sheet)) ≡ true) × (at ≤ length (now sheet)) ⌝ }
+    requires { ⌜ PutRoom (entryIn w (drop at (now sheet))) (now slots) k (now area) to ⌝ }
+    ensures { λ r. ⌜ PutAs (entryIn w (drop at (now (sheet .entry)))) (now (slots .entry)) k (now (area .entry)) to r (now (slots .exit)) (now (area .exit)) ⌝ }
+{
+    let size = lengths::length_at(sheet, at, w) - 1;
+    let kind = sheet[at + w];
+    record::slots::set_slot(
+        slots,
+        k,
+        kind as u32,
+        start_of(kind, to),
+        items_of(kind, size),
+        record::slots::NO_POSITION,
+    );
+    text::bytes::copy(area, to, sheet, at + (w + 1), size);
+    size
+}
+
+fn answer(set: usize, place: usize) -> Answer
+    requires { ⌜ (set ≤ maxSlots) × (place ≤ maxArea) ⌝ }
+    ensures { λ r. ⌜ r ≡ accepted set place ⌝ }
+{
+    Answer::accepted(set as u32, place as u32)
+}
+
+// The second pass, over at most so many.
+pub fn fill(
+    sheet: &[u8],
+    w: usize,
+    most: usize,
+    slots: &mut [u32],
+    area: &mut [u8],
+    mark: usize,
+) -> Answer
+    requires { ⌜ (w ≤ integerSize) × (headerSize w ≤ length (now sheet)) × Room (frontOf w most (now sheet)) (now slots) (now area) mark ⌝ }
+    ensures { λ r. ⌜ record { answer = r; slots = now (slots .exit); area = now (area .exit) } ≡ putInto (now (slots .entry)) (now (area .entry)) mark (frontOf w most (now (sheet .entry))) ⌝ }
+{
+    let mut at = w + 1;
+    let mut set: usize = 0;
+    let mut place = mark;
+    while entry_due(sheet, at, w, set, most) {
+        let size = put(slots, set, area, place, sheet, at, w);
+        set += 1;
+        place += size;
+        at += w + 1 + size;
+    }
+    answer(set, place)
+}

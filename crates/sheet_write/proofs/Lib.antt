@@ -1,0 +1,3 @@
+-- The laws that the writer goes by.
+mod Writing
+mod Versions
