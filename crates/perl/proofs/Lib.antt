@@ -1,6 +1,5 @@
--- Laws of Perl templates. Numbers, Texts and Readings are laws of the definitions; Blocks and Turns serve the readers of the code, and Whole the
+-- Laws of Perl templates. Texts and Readings are laws of the definitions; Blocks and Turns serve the readers of the code, and Whole the
 -- call.
-pub mod Numbers
 pub mod Texts
 pub mod Readings
 mod Blocks

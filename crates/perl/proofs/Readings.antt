@@ -10,11 +10,12 @@ use lib.Dec.{eqb, ltb}
 use lib.ListN.{length, getD, drop, length-drop, drop-of-length-le}
 use lib.Seq.{drop-cons, drop-drop}
 use Rattle.layout.specs.Refusals.{if_then_else_}
-use Rattle.perl.specs.declared.Letter.{Letter}
-use Rattle.perl.specs.declared.Letter.the-variants.{Taken, Unknown}
-use Rattle.perl.specs.Template.{Template, Item, done, group, maxTemplateCount, maxDepth, maxRepeat, letterOf, numberIn, digitsIn, repeatOf, Reading, read, stray, letterAt, groupAt, itemAt, Step, space, close, item, bad, stepFrom, stepAt, extra, fills, andThen, before, sequence}
+use Rattle.perl_tokens.specs.declared.Letter.{Letter}
+use Rattle.perl_tokens.specs.declared.Letter.the-variants.{Taken, Unknown}
+use Rattle.perl_tokens.specs.Tokens.{maxTemplateCount, maxDepth, maxRepeat, letterOf, numberIn, digitsIn, repeatOf}
+use Rattle.perl.specs.Template.{Template, Item, done, group, Reading, read, stray, letterAt, groupAt, itemAt, Step, space, close, item, bad, stepFrom, stepAt, extra, fills, andThen, before, sequence}
 use Rattle.perl.specs.Readers.{itemsFrom, itemFrom}
-use Rattle.perl.proofs.Numbers.{digits-within}
+use Rattle.perl_tokens.proofs.Numbers.{digits-within}
 
 -- ---- where a reading ends: not before its start, inside the text, and inside a group before its end
 

@@ -8,14 +8,15 @@ use mathlib.Core.List.{List, [], _∷_, _++_, append-nil, append-assoc}
 use lib.ListN.{length, getD, take, drop, length-drop}
 use Rattle.layout.specs.Layout.{maxLayout}
 use Rattle.record.specs.Bytes.{part, storeAt}
-use Rattle.perl.specs.declared.Letter.{Letter}
-use Rattle.perl.specs.declared.Letter.the-variants.{Taken, Unknown}
+use Rattle.perl_tokens.specs.declared.Letter.{Letter}
+use Rattle.perl_tokens.specs.declared.Letter.the-variants.{Taken, Unknown}
 use Rattle.perl.specs.declared.Span.{Span}
 use Rattle.perl.specs.declared.Span.the-variants.{Read, Stray}
-use Rattle.perl.specs.Template.{Template, Item, done, next, single, group, Reading, read, stray, maxTemplateCount, maxRepeat, maxDepth, letterOf, letterAt, groupAt, numberIn, digitsIn, repeatOf, andThen}
+use Rattle.perl_tokens.specs.Tokens.{maxTemplateCount, maxRepeat, maxDepth, letterOf, numberIn, digitsIn, repeatOf}
+use Rattle.perl.specs.Template.{Template, Item, done, next, single, group, Reading, read, stray, letterAt, groupAt, andThen}
 use Rattle.perl.specs.Conversion.{flagText, repeated}
 use Rattle.perl.specs.Readers.{itemsFrom, itemFrom, templateText, itemText, Stored, Again, spanFrom, Written}
-use Rattle.perl.proofs.Numbers.{digits-within}
+use Rattle.perl_tokens.proofs.Numbers.{digits-within}
 use Rattle.perl.proofs.Texts.{text-done, text-next, text-single, text-group}
 use Rattle.perl.proofs.Blocks.{stored-none, stored-append}
 use Rattle.perl.proofs.Readings.{ItemEnds, item-end, from-end-top, from-end-open, from-space, from-close, from-unopened, from-empty, from-item, from-stray, item-letter, item-deep, item-group, close-inside, group-is}

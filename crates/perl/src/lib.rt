@@ -9,14 +9,6 @@ use record::least;
 use text::bytes;
 
 pub mod readers;
-pub mod tokens;
-
-// What a Perl letter stands for in a layout: our letter, and whether the flag `u` follows it.
-pub enum Letter {
-    Taken(u8, bool),
-    Unknown,
-}
-
 // What a reader of a template finds: the place after what it read, and the place after the layout text that it put into the block, held at one
 // byte more than the block has; or the place of the stray byte.
 pub enum Span {

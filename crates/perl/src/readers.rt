@@ -7,16 +7,16 @@ ghost use lib.ListN.{length, drop, getD};
 ghost use Rattle.layout.specs.Lent.{before, after};
 ghost use Rattle.layout.specs.Layout.{maxLayout};
 ghost use Rattle.record.specs.Bytes.{part, storeAt};
-ghost use Rattle.perl.specs.Template.{maxRepeat, letterOf, letterAt};
+ghost use Rattle.perl_tokens.specs.Tokens.{maxRepeat, letterOf};
+ghost use Rattle.perl.specs.Template.{letterAt};
 ghost use Rattle.perl.specs.Conversion.{flagText};
 ghost use Rattle.perl.specs.Readers.{itemsFrom, itemFrom, templateText, itemText, Stored, Again, Written};
-use crate::Letter;
 use crate::Span;
-use crate::tokens;
-use crate::tokens::MAX_COUNT;
-use crate::tokens::MAX_DEPTH;
-use crate::tokens::MAX_REPEAT;
 use layout::MAX_LAYOUT;
+use perl_tokens::Letter;
+use perl_tokens::MAX_COUNT;
+use perl_tokens::MAX_DEPTH;
+use perl_tokens::MAX_REPEAT;
 use text::bytes;
 
 // A letter and the flag after it.
@@ -84,11 +84,11 @@ fn single(text: &[u8], p: usize, out: &mut [u8], to: usize) -> Span
     ensures { λ r. ⌜ Written itemText (letterAt p (letterOf (getD (before text) p 0)) (drop (suc p) (before text))) to (before out) r (after out) ⌝ }
 {
     let c = text[p];
-    let l = tokens::letter(c);
+    let l = perl_tokens::letter_of(c);
     let Letter::Taken(letter, flagged) = l else {
         return Span::Stray(p);
     };
-    let n = tokens::number(text, p + 1, MAX_COUNT);
+    let n = perl_tokens::number(text, p + 1, MAX_COUNT);
     let digits = n.next - (p + 1);
     let end = put(out, to, letter, flagged, text, p + 1, digits);
     Span::Read(n.next, end)
@@ -110,8 +110,8 @@ fn item(text: &[u8], p: usize, depth: usize, out: &mut [u8], to: usize) -> Span
     match inside {
         Span::Stray(q) => Span::Stray(q),
         Span::Read(close, end) => {
-            let n = tokens::number(text, close + 1, MAX_REPEAT);
-            let times = tokens::repeat_of(n.value);
+            let n = perl_tokens::number(text, close + 1, MAX_REPEAT);
+            let times = perl_tokens::repeat_of(n.value);
             let all = again(out, to, end, times);
             Span::Read(n.next, all)
         }

@@ -7,9 +7,10 @@ use mathlib.Core.List.{List, [], _∷_, _++_}
 use lib.Dec.{eqb, ltb}
 use lib.ListN.{length, take, drop}
 use Rattle.layout.specs.Refusals.{if_then_else_}
-use Rattle.perl.specs.declared.Letter.{Letter}
-use Rattle.perl.specs.declared.Letter.the-variants.{Taken, Unknown}
-use Rattle.perl.specs.Template.{Template, Item, done, maxTemplateCount, maxDepth, maxRepeat, letterOf, continues, withDigit, numberIn, digitsIn, Reading, read, stray, letterAt, groupAt, itemAt, Step, space, close, item, bad, stepFrom, stepAt, extra, fills, andThen, before, sequence}
+use Rattle.perl_tokens.specs.declared.Letter.{Letter}
+use Rattle.perl_tokens.specs.declared.Letter.the-variants.{Taken, Unknown}
+use Rattle.perl_tokens.specs.Tokens.{maxTemplateCount, maxDepth, maxRepeat, letterOf, continues, withDigit, numberIn, digitsIn}
+use Rattle.perl.specs.Template.{Template, Item, done, Reading, read, stray, letterAt, groupAt, itemAt, Step, space, close, item, bad, stepFrom, stepAt, extra, fills, andThen, before, sequence}
 use Rattle.perl.proofs.Readings.{Ends, StepEnds, ends, step-from, extra-within}
 
 -- the place after what was read, or of the stray byte

@@ -13,9 +13,10 @@ use Rattle.layout.specs.declared.Refusal.the-variants.{BadSize, NoRoom}
 use Rattle.layout.specs.Refusals.{if_then_else_, Result, ok, refused}
 use Rattle.layout.specs.Layout.{maxLayout, fieldsOf}
 use Rattle.layout.proofs.Laws.{bound, demanded, ok-inj, no-refusal, no-number-zero}
-use Rattle.perl.specs.declared.Letter.{Letter}
-use Rattle.perl.specs.declared.Letter.the-variants.{Taken, Unknown}
-use Rattle.perl.specs.Template.{Single, Template, Item, done, next, single, group, maxDepth, letterOf, Reading, read, stray, letterAt, groupAt, itemAt, Step, space, close, item, bad, stepFrom, stepAt, extra, fills, before, sequence, orRefused, templateOf}
+use Rattle.perl_tokens.specs.declared.Letter.{Letter}
+use Rattle.perl_tokens.specs.declared.Letter.the-variants.{Taken, Unknown}
+use Rattle.perl_tokens.specs.Tokens.{maxDepth, letterOf}
+use Rattle.perl.specs.Template.{Single, Template, Item, done, next, single, group, Reading, read, stray, letterAt, groupAt, itemAt, Step, space, close, item, bad, stepFrom, stepAt, extra, fills, before, sequence, orRefused, templateOf}
 use Rattle.perl.specs.Conversion.{repeated, writtenOut, writtenOutItem, textOf, Converted, layoutFrom, convertEffect, fromPerl}
 use Rattle.perl_claims.specs.Claim.{result, TakenOver, Claim, Blank, Groups}
 use Rattle.perl.specs.Readers.{templateText, itemText}

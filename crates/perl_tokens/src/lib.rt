@@ -2,8 +2,13 @@
 ghost use mathlib.Core.Path.{_≡_};
 ghost use Prim.Native.Nat.{_+_, _≤_};
 ghost use lib.ListN.{drop};
-ghost use Rattle.perl.specs.Template.{maxTemplateCount, letterOf, numberIn, digitsIn, repeatOf};
-use crate::Letter;
+ghost use Rattle.perl_tokens.specs.Tokens.{maxTemplateCount, letterOf, numberIn, digitsIn, repeatOf};
+
+// What a Perl letter stands for in a layout: our letter, and whether the flag `u` follows it.
+pub enum Letter {
+    Taken(u8, bool),
+    Unknown,
+}
 
 // The limits of M-105.
 pub const MAX_DEPTH: usize = 8;
@@ -18,7 +23,7 @@ pub struct Numeral {
     pub next: usize,
 }
 
-pub fn letter(c: u8) -> Letter
+pub fn letter_of(c: u8) -> Letter
     ensures { λ r. ⌜ r ≡ letterOf c ⌝ }
 {
     match c {

@@ -1,8 +1,8 @@
 -- An omitted repeat is read as 0.
 use borrow.Author.Needs.{needs}
-use Rattle.perl.proofs.Numbers.{repeat-given}
-use Rattle.perl.proofs.tokens.repeat_of.Statement.{statement}
-use Rattle.perl.proofs.tokens.repeat_of.Tie as tie
+use Rattle.perl_tokens.proofs.Numbers.{repeat-given}
+use Rattle.perl_tokens.proofs.repeat_of.Statement.{statement}
+use Rattle.perl_tokens.proofs.repeat_of.Tie as tie
 
 returns : tie.Need-returns
 returns c = search needs

@@ -3,8 +3,8 @@ use mathlib.Core.Path.{_∙_}
 use native.Mathlib.Omega.{arith}
 use lib.ListN.{length}
 use borrow.Author.Needs.{needs}
-use Rattle.perl.specs.Template.{maxDepth}
-use Rattle.perl.proofs.Numbers.{repeats}
+use Rattle.perl_tokens.specs.Tokens.{maxDepth}
+use Rattle.perl_tokens.proofs.Numbers.{repeats}
 use Rattle.perl.proofs.Turns.{letter-item, too-deep, group-bounds, group-stray, group-written, Turn, turn-none, turn-small, turn-space, turn-item, item-after, ends-top, ends-open, ends-close, ends-unopened, ends-empty, ends-bad}
 use borrow.Fn.Kinds.{In}
 use borrow.Fn.PlainCycle.{Measures, is, falls, and}
@@ -16,8 +16,8 @@ use Rattle.perl.proofs.readers.sequence.Kinds as sequence-kinds
 use Rattle.perl.proofs.readers.+item+sequence.Lts-sequence as sequence-lts
 use Rattle.perl.proofs.readers.again.Reads as again-reads
 use Rattle.perl.proofs.readers.single.Reads as single-reads
-use Rattle.perl.proofs.tokens.number.Reads as number-reads
-use Rattle.perl.proofs.tokens.repeat_of.Reads as repeat-of-reads
+use Rattle.perl_tokens.proofs.number.Reads as number-reads
+use Rattle.perl_tokens.proofs.repeat_of.Reads as repeat-of-reads
 use Rattle.perl.proofs.readers.+item+sequence.{statement}
 use Rattle.perl.proofs.readers.+item+sequence.Tie.{close}
 

@@ -8,7 +8,7 @@ use borrow.Author.Needs.{needs}
 use Rattle.layout.specs.Layout.{maxLayout}
 use Rattle.record.proofs.Bounds.{product-small}
 use Rattle.record.proofs.Stores.{Put}
-use Rattle.perl.specs.Template.{maxRepeat}
+use Rattle.perl_tokens.specs.Tokens.{maxRepeat}
 use Rattle.perl.specs.Conversion.{repeated}
 use Rattle.perl.specs.Readers.{Stored}
 use Rattle.perl.proofs.Blocks.{at-least-one, again-over, again-none, again-more, again-done}

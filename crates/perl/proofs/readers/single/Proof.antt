@@ -8,8 +8,8 @@ use Rattle.perl.proofs.readers.single.Tie as tie
 shared-slice-read-c : tie.Need-shared-slice-read-c
 shared-slice-read-c c = search needs
 
-letter-requires : tie.Need-letter-requires
-letter-requires c κs = search needs
+letter-of-requires : tie.Need-letter-of-requires
+letter-of-requires c κs = search needs
 
 enum-known-l : tie.Need-enum-known-l
 enum-known-l c = search needs
@@ -20,7 +20,7 @@ enum-told c = search needs
 returns : tie.Need-returns
 returns c =
     let s = c .before .before .before .before .before .before in
-    letter-unknown (s .args .text .now) _ _ _ _ (sym (c .before .before .letter .ensures) ∙ c .enum-told .given .1)
+    letter-unknown (s .args .text .now) _ _ _ _ (sym (c .before .before .letter-of .ensures) ∙ c .enum-told .given .1)
 
 add-number : tie.Need-add-number
 add-number c = search needs
@@ -49,14 +49,14 @@ returns-2 : tie.Need-returns-2
 returns-2 c =
     let k = c .before .before .before .before .before .before .before in
     let s = k .before .before .before .before .before .before in
-    letter-written (s .args .text .now) _ _ _ _ _ _ (sym (k .before .before .letter .ensures) ∙ k .l .given .1) _ (c .before .before .before .before .before .number .ensures .1) (c .before .before .put .ensures)
+    letter-written (s .args .text .now) _ _ _ _ _ _ (sym (k .before .before .letter-of .ensures) ∙ k .l .given .1) _ (c .before .before .before .before .before .number .ensures .1) (c .before .before .put .ensures)
 
 pub single-spec : {M : Type 1} → statement M
 single-spec =
     tie.close
     (tie.spec
     shared-slice-read-c
-    letter-requires
+    letter-of-requires
     enum-known-l
     enum-told
     returns

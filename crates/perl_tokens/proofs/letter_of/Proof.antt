@@ -1,9 +1,9 @@
 -- The letter of each arm is computed; of another byte none of the tests of the definition holds.
 use mathlib.Core.Path.{sym, ap}
 use borrow.Author.Tests.{ne-eqb}
-use Rattle.perl.specs.Template.{letterOf}
-use Rattle.perl.proofs.tokens.letter.Statement.{statement}
-use Rattle.perl.proofs.tokens.letter.Tie as tie
+use Rattle.perl_tokens.specs.Tokens.{letterOf}
+use Rattle.perl_tokens.proofs.letter_of.Statement.{statement}
+use Rattle.perl_tokens.proofs.letter_of.Tie as tie
 
 returns : tie.Need-returns
 unfolding letterOf
@@ -66,5 +66,5 @@ returns-12 c =
       ne-eqb _ 86 (c .match .rest .1),
     )
 
-pub letter-spec : {M : Type 1} → statement M
-letter-spec = tie.close (tie.spec returns returns-2 returns-3 returns-4 returns-5 returns-6 returns-7 returns-8 returns-9 returns-10 returns-11 returns-12)
+pub letter-of-spec : {M : Type 1} → statement M
+letter-of-spec = tie.close (tie.spec returns returns-2 returns-3 returns-4 returns-5 returns-6 returns-7 returns-8 returns-9 returns-10 returns-11 returns-12)
