@@ -63,10 +63,12 @@
  *   CURLEW_SIGNED    2    `length` integers from byte `start` on, each CURLEW_ITEM_SIZE (8) bytes:
  *                         a big-endian 64-bit number in two's complement
  *   CURLEW_UNSIGNED  3    the same, unsigned
+ *   CURLEW_REAL      4    `length` reals from byte `start` on, each the CURLEW_ITEM_SIZE (8) bytes of a double
+ *                         (IEEE 754 binary64), big-endian
  *
- * For integers, `length` counts integers and not bytes. Bytes, slots and places count from 0. A slot of
+ * For integers and reals, `length` counts items and not bytes. Bytes, slots and places count from 0. A slot of
  * sixteen zero bytes is not set, so memset(slots, 0, sizeof slots) clears a table. The helpers at the end of
- * this header put and get slots, integers and answers.
+ * this header put and get slots, integers, reals and answers.
  *
  *
  * LAYOUTS
@@ -88,6 +90,8 @@
  *   s S    integers      count items of 2 bytes                   count integers
  *   i I    integers      count items of 4 bytes                   count integers
  *   w W    integers      count items of 8 bytes                   count integers
+ *   r R    reals         count singles of 4 bytes, the nearest    count reals
+ *   q Q    reals         count doubles of 8 bytes                 count reals
  *   x      no slot       count zero bytes, over old bytes too     nothing; moves forward, at most to the end
  *   X      no slot       nothing; moves back, at most to 0        the same
  *   @      no slot       nothing; moves to byte `count`           the same, at most to the end
@@ -99,12 +103,18 @@
  * Packing ignores the flag, and after every other type reading ignores it too: `au20` is `a20`, `xu2` is `x2`.
  * One flag may stand in a field; a second is an unknown type.
  *
+ * Reals: a small letter is little-endian, a capital big-endian. q Q keep the eight bytes of each double as they
+ * are. r R store the single (binary32) nearest to it, at a tie the one whose last bit is 0, numbers too small for a
+ * normal single too; the sign always stays. What is too large, an infinity too, becomes the largest finite single; a
+ * NaN is refused with 16. Reading a single gives the double that equals it. A NaN that is read has the sign it had,
+ * and its other bits 29 places higher, so a signalling one stays signalling. The flag changes nothing.
+ *
  * Digits: a field fills whole bytes, count/8 (b B) or count/2 (h H) rounded up. Digits that are missing are
  * stored as 0, spare bits are 0 and are skipped in reading, and digits past the count are not looked at.
  *
  * Counts:
- *   none     1, and for integers in packing: the slot holds exactly one. `@` must have a count.
- *   number   at most CURLEW_MAX_COUNT; leading zeros are allowed. Integers in packing: the slot holds at least
+ *   none     1, and for integers and reals in packing: the slot holds exactly one. `@` must have a count.
+ *   number   at most CURLEW_MAX_COUNT; leading zeros are allowed. Items in packing: the slot holds at least
  *            that many, and the first ones are stored.
  *   *        packing: all of the value. Reading: all that remains of the record, in whole items.
  *            `X*` goes to 0. `@*` goes to the highest position so far in packing, to the end in reading.
@@ -153,7 +163,7 @@
  * left of it gives the values of the fields that are still whole.
  *
  * Reading loses nothing where every byte of the record belongs to a value and every bit of it is shown: a layout of
- * `a` and integers, counted or not, `b B` with counts that 8 divides and `h H` with even counts, and a record of just
+ * `a`, integers and `q Q`, counted or not, `b B` with counts that 8 divides and `h H` with even counts, and a record of just
  * the length that its fields fill. Read such a record and pack the slots by the same layout, and you have it back;
  * two of them that show the same values are the same bytes.
  *
@@ -172,7 +182,7 @@
  *   then, for each slot in turn, an entry:
  *     2 bytes   the length of the rest of the entry, big-endian
  *     1 byte    the slot's kind
- *     the value: no byte for CURLEW_UNSET, the bytes of a string, 8 bytes for each integer
+ *     the value: no byte for CURLEW_UNSET, the bytes of a string, 8 bytes for each integer or real
  *
  * A table of three slots, not set, the string OK and the integer -2, is the sheet
  *
@@ -194,7 +204,7 @@
  * A sheet that was cut, or damaged in its lengths or kinds, is refused whole: 13 where its first byte is neither
  * version, 12 at 0 where it is shorter than its header or the length in the header is not that of the rest, 12 at the
  * first byte of the first entry that is wrong: too few bytes left for its length, a length of 0 or beyond the end, a
- * kind above 3, a value behind CURLEW_UNSET, or integers that are no multiple of 8 bytes.
+ * kind above 4, a value behind CURLEW_UNSET, or integers or reals that are no multiple of 8 bytes.
  *
  *
  * A SHEET THAT WAS DAMAGED
@@ -292,10 +302,11 @@
  *                            rescue: fewer slots than legs
  *    6   CURLEW_NOT_SET      packing: the slot is not set                           the slot
  *    7   CURLEW_BAD_SLOT     packing, writing a sheet, mean: the slot's kind is     the slot
- *                            above 3, or its value does not lie inside the area
- *    8   CURLEW_WRONG_KIND   packing: the field wants integers and the slot has     the slot
- *                            a string, or the other way round; mean: a string
- *    9   CURLEW_BAD_LIST     packing: fewer integers than the count, or another     the slot
+ *                            above 4, or its value does not lie inside the area
+ *    8   CURLEW_WRONG_KIND   packing: of string, integers and reals the field       the slot
+ *                            wants one and the slot has another; mean: a
+ *                            string or a real
+ *    9   CURLEW_BAD_LIST     packing: fewer items than the count, or another        the slot
  *                            number than one where the field has no count;
  *                            mean: not exactly one integer
  *   10   CURLEW_BAD_DIGIT    packing: a digit that counts is not a digit            the slot
@@ -310,9 +321,10 @@
  *   14   CURLEW_BAD_MARK     mean: the mark is below 0 or above CURLEW_MAX_MARK     the slot
  *   15   CURLEW_BAD_TEMPLATE from Perl: no template goes on with this byte, or the  its byte; the template's
  *                            template ends inside a group                           length
+ *   16   CURLEW_BAD_REAL     packing: a NaN among the reals that r R store          the slot
  *
  * The checks are made in this order. Packing and reading a record: 1; then 2, 3 and 4 for each field in turn;
- * then 5; then 6 to 10 for each slot in turn, the lower number first; then 11. Writing a sheet: 1; 7 for each
+ * then 5; then 6 to 10 and 16 for each slot in turn, the lower number first; then 11. Writing a sheet: 1; 7 for each
  * slot in turn; 11. Reading a sheet: 1; 13; 12; 5; 11. Rescuing one: 1; 13; 5; 11. Comparing: all of reading the first copy, then all of
  * reading the second, then 11 for the report. Mean: 1; then 7, 8, 9 and 14 for each slot in turn. From Perl: 1;
  * 15; 11. Layout: 1; then 2, 3 and 4 for each field in turn.
@@ -442,6 +454,7 @@
 #define CURLEW_STRING 1
 #define CURLEW_SIGNED 2
 #define CURLEW_UNSIGNED 3
+#define CURLEW_REAL 4
 
 /* The position in a slot that no record was read into. */
 #define CURLEW_NO_POSITION 4294967295u
@@ -470,6 +483,7 @@
 #define CURLEW_BAD_VERSION 13
 #define CURLEW_BAD_MARK 14
 #define CURLEW_BAD_TEMPLATE 15
+#define CURLEW_BAD_REAL 16
 
 #ifdef __cplusplus
 extern "C" {
@@ -612,6 +626,25 @@ static inline int64_t curlew_get_int(const uint8_t *from)
     return value >> 63 ? -CURLEW_CAST(int64_t, ~value) - 1 : CURLEW_CAST(int64_t, value);
 }
 
+/* Puts a real, the 8 bytes of a double big-endian, at `to`. */
+static inline void curlew_put_double(uint8_t *to, double value)
+{
+    uint64_t bits;
+
+    memcpy(&bits, &value, sizeof bits);
+    curlew_put_uint(to, bits);
+}
+
+/* The real, the 8 bytes of a double big-endian, at `from`. */
+static inline double curlew_get_double(const uint8_t *from)
+{
+    uint64_t bits = curlew_get_uint(from);
+    double value;
+
+    memcpy(&value, &bits, sizeof value);
+    return value;
+}
+
 /* Puts kind, start and length of slot `index` of a run of slots; it has no position then. */
 static inline void curlew_put_slot(uint8_t *slots, size_t index, uint32_t kind, uint32_t start, uint32_t length)
 {
@@ -694,14 +727,15 @@ static inline const char *curlew_refusal(uint32_t number)
     case CURLEW_BAD_SLOTS: return "the number of slots does not suit the layout";
     case CURLEW_NOT_SET: return "the slot is not set";
     case CURLEW_BAD_SLOT: return "the slot has an unknown kind, or its value lies outside the area";
-    case CURLEW_WRONG_KIND: return "the slot holds a string and the field wants integers, or the other way round";
-    case CURLEW_BAD_LIST: return "the slot holds fewer integers than the count, or not one where there is no count";
+    case CURLEW_WRONG_KIND: return "the slot holds another kind of value than the field wants";
+    case CURLEW_BAD_LIST: return "the slot holds fewer items than the count, or not one where there is no count";
     case CURLEW_BAD_DIGIT: return "the slot's string has a character that is not a digit";
     case CURLEW_NO_ROOM: return "the result does not fit the run that is to hold it";
     case CURLEW_BAD_SHEET: return "the sheet was cut, or one of its lengths or kinds is wrong";
     case CURLEW_BAD_VERSION: return "the sheet does not begin with a version that is known";
     case CURLEW_BAD_MARK: return "the mark lies outside 0 to 1,000,000";
     case CURLEW_BAD_TEMPLATE: return "the template cannot go on like this, or it ends inside a group";
+    case CURLEW_BAD_REAL: return "the slot holds a NaN, which no single is stored for";
     default: return "unknown number";
     }
 }

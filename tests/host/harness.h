@@ -95,6 +95,21 @@ static MAYBE void add_same(struct values *v, uint32_t kind, size_t count, int64_
     }
 }
 
+/* Adds a list of `count` doubles. */
+static MAYBE void add_reals(struct values *v, int count, ...)
+{
+    va_list list;
+    int i;
+
+    add_slot(v, CURLEW_REAL, v->used, (size_t)count);
+    va_start(list, count);
+    for (i = 0; i < count; i++) {
+        curlew_put_real(v->area + v->used, va_arg(list, double));
+        v->used += CURLEW_ITEM_SIZE;
+    }
+    va_end(list);
+}
+
 /* Adds a slot that is not set, with a start and a length that mean nothing. */
 static MAYBE void add_unset(struct values *v, uint32_t start, uint32_t length)
 {

@@ -103,6 +103,11 @@ static void test_refusals(void)
     begin(&given, 0);
     add_text(&given, "5");
     refused("a string", CURLEW_WRONG_KIND, 0);
+    begin(&given, 0);
+    add_reals(&given, 1, 5.0);
+    refused("a real", CURLEW_WRONG_KIND, 0);
+    begin(&given, 0);
+    add_text(&given, "5");
     add_list(&given, CURLEW_SIGNED, 2, 1LL, 2LL);
     curlew_put_slot(given.slots, 0, CURLEW_UNSET, 0, 0);
     refused("two integers", CURLEW_BAD_LIST, 1);
@@ -110,7 +115,7 @@ static void test_refusals(void)
     refused("no integer", CURLEW_BAD_LIST, 1);
     curlew_put_slot(given.slots, 1, CURLEW_STRING, 0, 100);
     refused("outside the area comes before the kind", CURLEW_BAD_SLOT, 1);
-    curlew_put_slot(given.slots, 1, 4, 0, 1);
+    curlew_put_slot(given.slots, 1, 5, 0, 1);
     refused("a kind above the last", CURLEW_BAD_SLOT, 1);
 }
 

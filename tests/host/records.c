@@ -193,7 +193,7 @@ static void test_positions(void)
     } table[] = {
         {"a2a3a", 3, {0, 2, 5}},   {"a0a8a0a*", 4, {0, 0, 8, 8}}, {"x3aX2a", 2, {3, 2}},
         {"x*a0@2aX*a", 3, {8, 2, 0}}, {"b5b9 H3 A", 4, {0, 1, 3, 5}}, {"@7c@1i@6su", 3, {7, 1, 6}},
-        {"a6ia", 1, {0}},
+        {"a6ia", 1, {0}},          {"RQ", 1, {0}},                {"q*a*", 2, {0, 8}},
     };
     uint8_t slots[5 * CURLEW_SLOT_SIZE], area[200], reply[CURLEW_READ_REPLY];
     size_t positions[4], i, field;

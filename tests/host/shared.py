@@ -6,6 +6,7 @@ import sys
 BYTES, SIZE = ctypes.c_char_p, ctypes.c_size_t
 RUN = [BYTES, SIZE]
 OWN = [ctypes.c_void_p, SIZE]
+ITEMS = {2: "q", 3: "Q", 4: "d"}
 SLOT = struct.Struct(">4I")
 THREE, FOUR = struct.Struct(">3I"), struct.Struct(">4I")
 NO_POSITION = 2 ** 32 - 1
@@ -31,7 +32,7 @@ def lent(data):
 
 
 def table(values):
-    """Slots and area of a list of values: bytes, lists of integers, or None where there is none."""
+    """Slots and area of a list of values: bytes, lists of integers or of floats, or None where there is none."""
     slots = area = b""
     for value in values:
         if value is None:
@@ -40,8 +41,9 @@ def table(values):
             slots += SLOT.pack(1, len(area), len(value), 7)
             area += value
         else:
-            slots += SLOT.pack(2, len(area), len(value), 7)
-            area += struct.pack(f">{len(value)}q", *value)
+            kind = 4 if any(isinstance(item, float) for item in value) else 2
+            slots += SLOT.pack(kind, len(area), len(value), 7)
+            area += struct.pack(f">{len(value)}{ITEMS[kind]}", *value)
     return slots, area
 
 
@@ -60,7 +62,7 @@ def shown(slot, area):
         return None
     if kind == 1:
         return area[start:start + length]
-    return list(struct.unpack_from(f">{length}{'q' if kind == 2 else 'Q'}", area, start))
+    return list(struct.unpack_from(f">{length}{ITEMS[kind]}", area, start))
 
 
 def read_slots(lib, layout, record, count, room=65536):
@@ -140,6 +142,13 @@ def main():
             expected = (-2 % 256 ** width).to_bytes(width, "little" if letter.islower() else "big")
             equal(pack(lib, letter.encode(), [[-2]]), ((0, width, 0), expected))
             equal(read(lib, letter.encode(), expected, 1), ((0, 1, 8), [[-2]]))
+    for letter in "rRqQ":
+        expected = struct.pack(("<" if letter.islower() else ">") + ("f" if letter in "rR" else "d"), 2.5)
+        equal(pack(lib, letter.encode(), [[2.5]]), ((0, len(expected), 0), expected))
+        equal(read(lib, letter.encode(), expected, 1), ((0, 1, 8), [[2.5]]))
+    equal(pack(lib, b"R", [[1e300]])[1], bytes.fromhex("7f7fffff"))
+    equal(pack(lib, b"R", [[float("nan")]])[0], (16, 0, 0))
+    equal(pack(lib, b"W", [[2.5]])[0], (8, 0, 0))
     equal([slot[3] for slot in read_slots(lib, b"x2 c a0 X2 S", b"abcdef", 4)[1]], [2, 3, 1, 0])
     equal(pack(lib, b"c t", [[1]])[0], (2, 2, 0))
     equal(pack(lib, b"b3", [b"012"])[0], (10, 0, 0))

@@ -113,6 +113,18 @@ static void test_three_values(void)
     run_read("a slot too few comes before room", 5, CURLEW_BAD_SLOTS);
 }
 
+static void test_reals(void)
+{
+    static const uint8_t sheet_bytes[] = {1, 0, 0x13, 0, 17, 4, 0xc0, 0x45, 0, 0, 0, 0, 0, 0, 0, 0, 0, 0, 0, 0, 0, 1};
+
+    begin(&given, 0);
+    add_reals(&given, 2, -42.0, 4.9406564584124654e-324);
+    writes("two reals", 30, sheet_bytes, sizeof sheet_bytes);
+    begin(&wanted, 6);
+    add_reals(&wanted, 2, -42.0, 4.9406564584124654e-324);
+    reads("two reals", sheet_bytes, sizeof sheet_bytes, 1, 22, 6);
+}
+
 static void test_no_values(void)
 {
     static const uint8_t header[] = {1, 0, 0};
@@ -146,7 +158,7 @@ static void test_write_refusals(void)
     write_refused("integers that end outside", 100, CURLEW_BAD_SLOT, 1);
     curlew_put_slot(given.slots, 1, CURLEW_STRING, 4294967295u, 4294967295u);
     write_refused("a start that would wrap", 2, CURLEW_BAD_SLOT, 1);
-    curlew_put_slot(given.slots, 1, 4, 0, 0);
+    curlew_put_slot(given.slots, 1, 5, 0, 0);
     write_refused("a kind above the last", 100, CURLEW_BAD_SLOT, 1);
     curlew_put_slot(given.slots, 1, CURLEW_STRING, 20, 0);
     write_refused("room for the first entry alone", 6, CURLEW_NO_ROOM, 0);
@@ -172,7 +184,7 @@ static void test_damaged_sheets(void)
         {"half an entry's length", "\1\0\4\0\1\0\0", 7, CURLEW_BAD_SHEET, 6},
         {"an entry of length 0", "\1\0\5\0\1\0\0\0", 8, CURLEW_BAD_SHEET, 6},
         {"an entry beyond the end", "\1\0\6\0\1\0\0\2\1", 9, CURLEW_BAD_SHEET, 6},
-        {"a kind above the last", "\1\0\6\0\1\0\0\1\4", 9, CURLEW_BAD_SHEET, 6},
+        {"a kind above the last", "\1\0\6\0\1\0\0\1\5", 9, CURLEW_BAD_SHEET, 6},
         {"a value that is not set", "\1\0\4\0\2\0x", 7, CURLEW_BAD_SHEET, 3},
         {"seven bytes of an integer", "\1\0\12\0\10\2abcdefg", 13, CURLEW_BAD_SHEET, 3},
         {"a bad entry behind too many", "\1\0\20\0\1\0\0\1\0\0\1\0\0\1\0\0\1\0\0", 19, CURLEW_BAD_SHEET, 18},
@@ -254,6 +266,7 @@ int main(void)
 {
     open_sheets();
     test_three_values();
+    test_reals();
     test_no_values();
     test_write_refusals();
     test_damaged_sheets();

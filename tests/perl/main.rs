@@ -29,6 +29,8 @@ mod library;
 mod limits;
 #[path = "../second/mean.rs"]
 mod mean;
+#[path = "../second/nearest.rs"]
+mod nearest;
 #[path = "../second/packer.rs"]
 mod packer;
 #[path = "../second/peer.rs"]
@@ -40,6 +42,8 @@ mod perl;
 mod perl_calls;
 #[path = "../second/reader.rs"]
 mod reader;
+#[path = "../second/reals.rs"]
+mod reals;
 #[path = "../second/rescue.rs"]
 mod rescue;
 #[path = "../second/sheet.rs"]

@@ -31,7 +31,7 @@ impl Which {
     /// The numbers that such a call can give.
     pub fn numbers(self) -> &'static [u32] {
         match self {
-            Which::Pack => &[0, 1, 2, 3, 4, 5, 6, 7, 8, 9, 10, 11],
+            Which::Pack => &[0, 1, 2, 3, 4, 5, 6, 7, 8, 9, 10, 11, 16],
             Which::Read | Which::Compare => &[0, 1, 2, 3, 4, 5, 11],
             Which::SheetWrite => &[0, 1, 7, 11],
             Which::SheetRead => &[0, 1, 5, 11, 12, 13],

@@ -5,8 +5,8 @@ use crate::dice::Dice;
 use crate::evolution;
 use crate::layouts::{random_arguments, random_specs, spelled, takers, Spec};
 use crate::limits::{
-    AREA_MAX, COUNT_MAX, LAYOUT_MAX, NO_POSITION, RECORD_MAX, REPLY_BYTES, SLOTS_MAX, SLOT_BYTES,
-    SLOT_NUMBERS, SLOT_RUN_MAX,
+    AREA_MAX, COUNT_MAX, ITEM_BYTES, LAYOUT_MAX, NO_POSITION, REAL, RECORD_MAX, REPLY_BYTES,
+    SLOTS_MAX, SLOT_BYTES, SLOT_NUMBERS, SLOT_RUN_MAX,
 };
 use crate::values::{slot, slot_from, Value};
 use crate::{packer, reader};
@@ -96,7 +96,7 @@ fn one_in(dice: &mut Dice, len: usize) -> Option<usize> {
 }
 
 pub fn damage_text(dice: &mut Dice, text: &mut Vec<u8>) {
-    let byte = dice.pick(b"aAbBhHcsSiIwWxX@u*0123456789999  tqf\0\xff");
+    let byte = dice.pick(b"aAbBhHcsSiIwWqQrRxX@u*0123456789999  tf\0\xff");
     let at = dice.between(0, text.len());
     match (dice.below(3), at < text.len()) {
         (0, true) => text[at] = byte,
@@ -114,7 +114,7 @@ pub fn damage_slot(dice: &mut Dice, slots: &mut Vec<u8>, area_len: usize) {
         let end = area_len as u32;
         let bit = 1 << dice.below(32);
         all[at] = match at % SLOT_NUMBERS {
-            0 => dice.pick(&[0, 1, 2, 3, 4, 256, 0x0100_0001, u32::MAX]),
+            0 => dice.pick(&[0, 1, 2, 3, 4, 5, 256, 0x0100_0001, u32::MAX]),
             3 => dice.pick(&[0, 1, end, NO_POSITION]),
             _ => dice.pick(&[
                 old.wrapping_add(1),
@@ -137,6 +137,21 @@ fn damage_bytes(dice: &mut Dice, bytes: &mut [u8]) {
         if let Some(at) = one_in(dice, bytes.len()) {
             bytes[at] = dice.pick(b"\0 2gG:/@`\xff1a");
         }
+    }
+}
+
+/// Puts a NaN into one of the lists of reals.
+fn damage_reals(dice: &mut Dice, slots: &[u8], area: &mut [u8]) {
+    let all = numbers(slots);
+    let lists: Vec<&[u32]> = all
+        .chunks_exact(SLOT_NUMBERS)
+        .filter(|slot| slot[0] == REAL && slot[2] > 0)
+        .collect();
+    if let Some(nth) = one_in(dice, lists.len()) {
+        let item = dice.below(lists[nth][2] as usize);
+        let at = lists[nth][1] as usize + item * ITEM_BYTES;
+        let nan = f64::INFINITY.to_bits() + 1 + (dice.next() >> 13);
+        area[at..at + ITEM_BYTES].copy_from_slice(&nan.to_be_bytes());
     }
 }
 
@@ -171,9 +186,12 @@ fn damage(dice: &mut Dice, call: &mut Call) {
     match dice.below(16) {
         0..=3 => damage_text(dice, &mut call.layout),
         4..=8 => damage_slot(dice, &mut call.slots, area_len),
-        9..=11 => damage_bytes(dice, &mut call.area),
+        9 | 10 => damage_bytes(dice, &mut call.area),
+        11 if call.which == Which::Pack => {
+            damage_reals(dice, &call.runs.slots, &mut call.runs.area)
+        }
         12 | 13 => damage_slot_run(dice, &mut call.slots),
-        14 => damage_sizes(dice, call),
+        11 | 14 => damage_sizes(dice, call),
         _ => damage_reply(dice, &mut call.reply),
     }
 }

@@ -107,6 +107,9 @@ fn examples(t: &mut dyn Judge) {
     compares(t, "s*", [1, 0, 2, 0], [1, 0], &[[4, 8, 0]]);
     compares(t, "S*", [1, 0, 2, 0], [1, 1, 2, 0], &[[4, 7, 1]]);
     compares(t, "s*", [1], [], &[SAME]);
+    compares(t, "R", [0x3f, 0x80, 0, 0], [0x3f, 0x80, 0, 1], &[[4, 4, 1]]);
+    compares(t, "Q", [0; 8], [0x80, 0, 0, 0, 0, 0, 0, 0], &[[4, 0, 1]]);
+    compares(t, "r*", [0x7f; 7], [0x7f; 6], &[SAME]);
     missing_values(t);
 }
 
@@ -143,7 +146,7 @@ fn order(t: &mut dyn Judge) {
         call.slots.truncate(SLOT_BYTES);
         refuses(t, call.clone(), 5, 0);
         layout_refusals(t, call.clone());
-        call.layout = b"ca2q".to_vec();
+        call.layout = b"ca2t".to_vec();
         call.slots.push(0);
         refuses(t, call, 1, 0);
     }
@@ -154,13 +157,13 @@ fn order(t: &mut dyn Judge) {
 }
 
 fn layout_refusals(t: &mut dyn Judge, mut call: Call) {
-    call.layout = b"ca2q".to_vec();
+    call.layout = b"ca2t".to_vec();
     refuses(t, call.clone(), 2, 3);
     call.layout = b"ca2@".to_vec();
     refuses(t, call.clone(), 4, 3);
     call.layout = format!("ca{}", COUNT_MAX + 1).into_bytes();
     refuses(t, call.clone(), 3, 2);
-    call.layout = vec![b'q'; LAYOUT_MAX + 1];
+    call.layout = vec![b't'; LAYOUT_MAX + 1];
     refuses(t, call, 1, 0);
 }
 

@@ -7,6 +7,7 @@ use crate::dice::Dice;
 use crate::fixed::was_read_at;
 use crate::layouts::{plain_spec, random_arguments, spelled, takers, Count, Spec};
 use crate::limits::{AREA_MAX, RECORD_MAX, REPLY_BYTES, SLOTS_MAX, SLOT_BYTES};
+use crate::nearest::nearest;
 use crate::values::{table, Value};
 
 /// How many bytes a plain field fills in packing.
@@ -29,12 +30,18 @@ fn cut_or_padded(bytes: &[u8], count: usize, pad: u8) -> Vec<u8> {
     cut
 }
 
-fn integers(value: &Value) -> Vec<u64> {
+/// The items of a list, by their bits.
+fn items(value: &Value) -> Vec<u64> {
     match value {
         Value::Unset | Value::Text(_) => Vec::new(),
         Value::Signed(items) => items.iter().map(|&n| n as u64).collect(),
-        Value::Unsigned(items) => items.clone(),
+        Value::Unsigned(items) | Value::Real(items) => items.clone(),
     }
+}
+
+/// The nearest single, as a double.
+fn single_of(double: u64) -> u64 {
+    (f32::from_bits(nearest(double)) as f64).to_bits()
 }
 
 /// What comes back of an argument.
@@ -42,10 +49,12 @@ fn read_back(spec: &Spec, argument: &Value) -> Value {
     let count = spec.or_all(0);
     if let Some(width) = spec.width() {
         let spare = 64 - 8 * width as u32;
-        let items = integers(argument).into_iter().take(count);
-        return match spec.flag {
-            true => Value::Unsigned(items.map(|n| n << spare >> spare).collect()),
-            false => Value::Signed(items.map(|n| (n << spare) as i64 >> spare).collect()),
+        let items = items(argument).into_iter().take(count);
+        return match (spec.letter, spec.flag) {
+            (b'q' | b'Q', _) => Value::Real(items.collect()),
+            (b'r' | b'R', _) => Value::Real(items.map(single_of).collect()),
+            (_, true) => Value::Unsigned(items.map(|n| n << spare >> spare).collect()),
+            (_, false) => Value::Signed(items.map(|n| (n << spare) as i64 >> spare).collect()),
         };
     }
     let bytes = argument.bytes();

@@ -7,6 +7,7 @@ mod mean;
 mod packer;
 mod perl;
 mod reader;
+mod reals;
 mod rescue;
 mod sheet;
 mod slots;

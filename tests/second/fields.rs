@@ -1,6 +1,6 @@
 //! The layout text and its fields.
 
-use crate::limits::{COUNT_MAX, ITEM_BYTES, LAYOUT_MAX};
+use crate::limits::{COUNT_MAX, ITEM_BYTES, LAYOUT_MAX, REAL};
 use crate::slots::{refused, Answer};
 
 #[derive(Clone, Copy)]
@@ -19,10 +19,18 @@ pub enum Kind {
         big: bool,
         unsigned: bool,
     },
+    /// Singles or doubles, by their width.
+    Real {
+        width: u8,
+        big: bool,
+    },
     Skip,
     Back,
     Goto,
 }
+
+pub const SINGLE_BYTES: u8 = 4;
+const DOUBLE_BYTES: u8 = 8;
 
 #[derive(Clone, Copy)]
 pub enum Count {
@@ -51,12 +59,26 @@ impl Field {
 }
 
 impl Kind {
+    /// Whether the value is a list, of integers or of reals.
+    pub fn is_list(self) -> bool {
+        matches!(self, Kind::Integer { .. } | Kind::Real { .. })
+    }
+
+    /// Whether an argument may have this kind, which is known and set.
+    pub fn wants(self, kind: u32) -> bool {
+        match self {
+            Kind::Integer { .. } => kind == 2 || kind == 3,
+            Kind::Real { .. } => kind == REAL,
+            _ => kind == 1,
+        }
+    }
+
     /// The bytes of a record that `count` items fill.
     pub fn filled(self, count: usize) -> usize {
         match self {
             Kind::Bits { .. } => (count + 7) / 8,
             Kind::Hex { .. } => (count + 1) / 2,
-            Kind::Integer { width, .. } => count * width as usize,
+            Kind::Integer { width, .. } | Kind::Real { width, .. } => count * width as usize,
             _ => count,
         }
     }
@@ -66,16 +88,16 @@ impl Kind {
         match self {
             Kind::Bits { .. } => bytes * 8,
             Kind::Hex { .. } => bytes * 2,
-            Kind::Integer { width, .. } => bytes / width as usize,
+            Kind::Integer { width, .. } | Kind::Real { width, .. } => bytes / width as usize,
             _ => bytes,
         }
     }
 
     /// The bytes of the area that one item takes.
     pub fn item_bytes(self) -> usize {
-        match self {
-            Kind::Integer { .. } => ITEM_BYTES,
-            _ => 1,
+        match self.is_list() {
+            true => ITEM_BYTES,
+            false => 1,
         }
     }
 }
@@ -97,6 +119,7 @@ fn kind_of(letter: u8) -> Option<Kind> {
         big,
         unsigned: false,
     };
+    let real = |width, big| Kind::Real { width, big };
     Some(match letter {
         b'a' => Kind::Text { spaces: false },
         b'A' => Kind::Text { spaces: true },
@@ -111,6 +134,10 @@ fn kind_of(letter: u8) -> Option<Kind> {
         b'I' => integer(4, true),
         b'w' => integer(8, false),
         b'W' => integer(8, true),
+        b'r' => real(SINGLE_BYTES, false),
+        b'R' => real(SINGLE_BYTES, true),
+        b'q' => real(DOUBLE_BYTES, false),
+        b'Q' => real(DOUBLE_BYTES, true),
         b'x' => Kind::Skip,
         b'X' => Kind::Back,
         b'@' => Kind::Goto,

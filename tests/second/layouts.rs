@@ -24,13 +24,13 @@ impl Spec {
         !b"xX@".contains(&self.letter)
     }
 
-    /// The bytes of one integer, for the integer types.
+    /// The bytes of one item, for the types of integers and reals.
     pub fn width(&self) -> Option<usize> {
         match self.letter {
             b'c' => Some(1),
             b's' | b'S' => Some(2),
-            b'i' | b'I' => Some(4),
-            b'w' | b'W' => Some(8),
+            b'i' | b'I' | b'r' | b'R' => Some(4),
+            b'w' | b'W' | b'q' | b'Q' => Some(8),
             _ => None,
         }
     }
@@ -50,7 +50,7 @@ pub fn takers(specs: &[Spec]) -> usize {
     specs.iter().filter(|s| s.takes_slot()).count()
 }
 
-const TAKERS: &[u8] = b"aAbBhHcsSiIwW";
+const TAKERS: &[u8] = b"aAbBhHcsSiIwWqQrR";
 const MOVES: &[u8] = b"xxX@";
 
 fn random_number(dice: &mut Dice) -> usize {
@@ -221,6 +221,44 @@ fn random_integer(dice: &mut Dice) -> u64 {
     }
 }
 
+/// The bits of a double: any, or near a boundary of the singles.
+pub fn random_real(dice: &mut Dice) -> u64 {
+    let whole = dice.next();
+    let single = f32::from_bits(whole as u32) as f64;
+    match dice.below(8) {
+        0 => whole,
+        1 => single.to_bits(),
+        2 => (single.to_bits() | 1 << 28).wrapping_add(dice.pick(&[0, 1, u64::MAX])),
+        3 => {
+            let edges = [
+                0.0,
+                2f64.powi(128),
+                2f64.powi(-149),
+                2f64.powi(-150),
+                f64::INFINITY,
+            ];
+            let edge = dice.pick(&edges).to_bits();
+            (edge | whole << 63).wrapping_add(dice.pick(&[0, 0, 1, u64::MAX]))
+        }
+        4 => {
+            whole >> 63 << 63
+                | (870 + (whole >> 8) % 30) << 52
+                | dice.next() >> 12 >> dice.below(52)
+        }
+        5 => whole >> 63 << 63 | (890 + (whole >> 8) % 270) << 52 | dice.next() >> 12,
+        _ => (dice.below(200_000) as f64 / 100.0 - 500.0).to_bits(),
+    }
+}
+
+/// Doubles, all of them numbers if they are to become singles.
+fn random_reals(dice: &mut Dice, len: usize, single: bool) -> Value {
+    let item = |_| match random_real(dice) {
+        bits if single && f64::from_bits(bits).is_nan() => 0,
+        bits => bits,
+    };
+    Value::Real((0..len).map(item).collect())
+}
+
 /// Any value that is set; a long one takes some thousand bytes.
 pub fn random_value(dice: &mut Dice, long: bool) -> Value {
     let len = match long {
@@ -228,9 +266,10 @@ pub fn random_value(dice: &mut Dice, long: bool) -> Value {
         false => dice.below(12),
     };
     let items: Vec<u64> = (0..len / 2).map(|_| random_integer(dice)).collect();
-    match dice.below(3) {
+    match dice.below(4) {
         0 => Value::Text(random_text(dice, 4 * len)),
-        1 => Value::Signed(items.iter().map(|&n| n as i64).collect()),
+        1 => random_reals(dice, len / 2, false),
+        2 => Value::Signed(items.iter().map(|&n| n as i64).collect()),
         _ => Value::Unsigned(items),
     }
 }
@@ -244,6 +283,9 @@ pub fn random_argument(dice: &mut Dice, spec: &Spec) -> Value {
             Count::All => dice.below(9),
             Count::Number(n) => n.min(COUNT_MAX + 1000) + surplus,
         };
+        if b"qQrR".contains(&spec.letter) {
+            return random_reals(dice, len, b"rR".contains(&spec.letter));
+        }
         let items: Vec<u64> = (0..len).map(|_| random_integer(dice)).collect();
         return match dice.once_in(2) {
             true => Value::Unsigned(items),

@@ -14,10 +14,12 @@ pub const NO_POSITION: u32 = u32::MAX;
 pub const SLOT_BYTES: usize = 4 * SLOT_NUMBERS;
 pub const SLOT_RUN_MAX: usize = SLOTS_MAX * SLOT_BYTES;
 
-/// The bytes of one integer in the area.
+/// The bytes of one integer or real in the area.
 pub const ITEM_BYTES: usize = 8;
+/// The kind of reals.
+pub const REAL: u32 = 4;
 /// Kinds above this one are unknown.
-pub const KIND_MAX: u32 = 3;
+pub const KIND_MAX: u32 = REAL;
 
 /// The highest mark of a leg.
 pub const MARK_MAX: u64 = 1_000_000;

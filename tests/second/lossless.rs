@@ -13,7 +13,7 @@ use crate::library::by_library;
 use crate::limits::{AREA_MAX, COUNT_MAX, ITEM_BYTES, RECORD_MAX, REPLY_BYTES, SLOTS_MAX};
 use crate::slots::{slot_at, value_of};
 
-const LETTERS: &[u8] = b"abBhHcsSiIwW";
+const LETTERS: &[u8] = b"abBhHcsSiIwWqQ";
 
 /// A count is a multiple of this, so that digits leave nothing of a byte over.
 fn step(letter: u8) -> usize {

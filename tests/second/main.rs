@@ -16,10 +16,13 @@ mod limits;
 mod lossless;
 mod mean;
 mod mean_calls;
+mod nearest;
 mod packer;
 mod perl;
 mod perl_calls;
 mod reader;
+mod real_calls;
+mod reals;
 mod rescue;
 mod rescue_calls;
 mod sheet;
@@ -66,6 +69,7 @@ fn main() {
     mean_calls::run(&mut tally);
     perl_calls::run(&mut tally);
     lossless::run(&mut tally);
+    real_calls::run(&mut tally);
     println!(
         "fixed calls: {} passed, {} failed",
         tally.passed, tally.failed
@@ -81,6 +85,7 @@ fn main() {
         mean_calls::round(&mut dice, &mut tally);
         perl_calls::round(&mut dice, &mut tally);
         lossless::round(&mut dice, &mut tally);
+        real_calls::round(&mut dice, &mut tally);
     }
     tally.print();
     exit((tally.failed > 0) as i32);

@@ -1,6 +1,6 @@
 //! The mean of the marked legs of a table, a leg to a slot.
 
-use crate::limits::{AREA_MAX, MARK_MAX, MEAN_REPLY_BYTES, SLOT_BYTES};
+use crate::limits::{AREA_MAX, MARK_MAX, MEAN_REPLY_BYTES, REAL, SLOT_BYTES};
 use crate::slots::{bad_slot_run, refused, replied, slot_at, value_of, Answer, Slot};
 
 /// The mark of a leg; none if the leg is not set.
@@ -9,7 +9,7 @@ fn mark_of(slot: Slot, area: &[u8], index: usize) -> Result<Option<u64>, Answer>
         return Ok(None);
     }
     let value = value_of(slot, area).ok_or_else(|| refused(7, index))?;
-    if slot.kind == 1 {
+    if slot.kind == 1 || slot.kind == REAL {
         return Err(refused(8, index));
     }
     let item = value.try_into().map_err(|_| refused(9, index))?;

@@ -5,7 +5,7 @@ use crate::calls::{damage_reply, damage_slot, damage_slot_run, scattered};
 use crate::dice::Dice;
 use crate::fixed::with_slot;
 use crate::limits::{AREA_MAX, KIND_MAX, MARK_MAX, MEAN_REPLY_BYTES, SLOTS_MAX, SLOT_BYTES};
-use crate::values::{ints, shown, slot, table, text, uints, Value};
+use crate::values::{ints, reals, shown, slot, table, text, uints, Value};
 
 const OLD: u8 = 0x77;
 
@@ -71,6 +71,9 @@ fn refusals(t: &mut dyn Judge) {
     }
     for string in ["", "7", "12345678"] {
         refuses(t, &legs(text(string)), 8, 2);
+    }
+    for real in [vec![5.0], vec![], vec![1.0, 2.0]] {
+        refuses(t, &legs(reals(&real)), 8, 2);
     }
     let call = legs(ints(&[5]));
     let end = call.area.len() as u32;
@@ -143,7 +146,8 @@ fn random_leg(dice: &mut Dice) -> Value {
         0 => text(dice.bytes(8)),
         1 => ints(&[]),
         2 => uints(&[mark, 5]),
-        3..=100 => Value::Unset,
+        3 => reals(&[mark as f64]),
+        4..=100 => Value::Unset,
         101..=250 => uints(&[mark]),
         _ => ints(&[mark as i64]),
     }

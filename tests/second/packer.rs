@@ -1,8 +1,11 @@
 //! Packing of values by a layout: everything is decided before anything is written.
 
-use crate::fields::{parse, Count, Field, Kind, NO_FIELDS};
+use crate::fields::{parse, Count, Field, Kind, NO_FIELDS, SINGLE_BYTES};
 use crate::limits::{AREA_MAX, ITEM_BYTES, LAYOUT_MAX, RECORD_MAX, REPLY_BYTES, SLOT_BYTES};
-use crate::slots::{accepted, bad_slot_run, refused, replied, slot_at, value_of, Answer, Slot};
+use crate::reals::{is_nan, narrowed};
+use crate::slots::{
+    accepted, bad_slot_run, integer, refused, replied, slot_at, value_of, Answer, Slot,
+};
 
 /// Where the packer stands, and the highest position it has reached.
 struct Cursor {
@@ -40,19 +43,26 @@ fn all_are(bytes: &[u8], good: impl Fn(u8) -> bool) -> bool {
     bytes.iter().fold(true, |all, &byte| all & good(byte))
 }
 
+/// Whether there is a NaN among the items that are to become singles.
+fn has_nan(kind: Kind, value: &[u8], count: usize) -> bool {
+    let single = matches!(kind, Kind::Real { width, .. } if width == SINGLE_BYTES);
+    let mut items = value.chunks_exact(ITEM_BYTES).take(count);
+    single && items.any(|item| is_nan(integer(item)))
+}
+
 /// How many bytes the field fills, if its argument may be stored.
 fn field_size(field: &Field, slot: Slot, area: &[u8], index: usize) -> Result<usize, Answer> {
     if slot.kind == 0 {
         return Err(refused(6, index));
     }
     let value = value_of(slot, area).ok_or_else(|| refused(7, index))?;
-    let integers = matches!(field.kind, Kind::Integer { .. });
-    if integers != (slot.kind != 1) {
+    if !field.kind.wants(slot.kind) {
         return Err(refused(8, index));
     }
     let items = slot.length as usize;
     let count = field.count.or_all(items);
-    if integers && (items < count || (items > 1 && matches!(field.count, Count::Absent))) {
+    let one = matches!(field.count, Count::Absent);
+    if field.kind.is_list() && (items < count || (one && items > 1)) {
         return Err(refused(9, index));
     }
     let looked_at = &value[..count.min(value.len())];
@@ -63,6 +73,9 @@ fn field_size(field: &Field, slot: Slot, area: &[u8], index: usize) -> Result<us
     };
     if !good {
         return Err(refused(10, index));
+    }
+    if has_nan(field.kind, value, count) {
+        return Err(refused(16, index));
     }
     Ok(field.kind.filled(count))
 }
@@ -147,12 +160,6 @@ fn store_hex(digits: &[u8], high_first: bool, to: &mut [u8]) {
     }
 }
 
-fn integer(item: &[u8]) -> u64 {
-    let mut bytes = [0; ITEM_BYTES];
-    bytes.copy_from_slice(item);
-    u64::from_be_bytes(bytes)
-}
-
 fn store_items<const WIDTH: usize>(items: &[u8], big: bool, to: &mut [u8]) {
     for (item, place) in items
         .chunks_exact(ITEM_BYTES)
@@ -176,6 +183,18 @@ fn store_integers(items: &[u8], width: u8, big: bool, to: &mut [u8]) {
     }
 }
 
+fn store_singles(items: &[u8], big: bool, to: &mut [u8]) {
+    let places = to.chunks_exact_mut(SINGLE_BYTES as usize);
+    for (item, place) in items.chunks_exact(ITEM_BYTES).zip(places) {
+        let single = narrowed(integer(item));
+        place.copy_from_slice(&if big {
+            single.to_be_bytes()
+        } else {
+            single.to_le_bytes()
+        });
+    }
+}
+
 /// Stores one accepted argument at the cursor.
 fn store_field(field: &Field, value: &[u8], out: &mut [u8], cursor: &mut Cursor) {
     let count = field.count.or_all(value.len() / field.kind.item_bytes());
@@ -188,6 +207,8 @@ fn store_field(field: &Field, value: &[u8], out: &mut [u8], cursor: &mut Cursor)
         Kind::Bits { high_first } => store_bits(digits, high_first, to),
         Kind::Hex { high_first } => store_hex(digits, high_first, to),
         Kind::Integer { width, big, .. } => store_integers(value, width, big, to),
+        Kind::Real { width, big } if width == SINGLE_BYTES => store_singles(value, big, to),
+        Kind::Real { width, big } => store_integers(value, width, big, to),
         _ => {}
     }
 }

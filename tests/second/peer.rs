@@ -1,6 +1,6 @@
 //! Asking another program the same: bytes as hex, values of slots, and lines there and back.
 
-use crate::limits::ITEM_BYTES;
+use crate::limits::{ITEM_BYTES, KIND_MAX};
 use std::io::{BufRead, BufReader, Write};
 use std::process::{exit, Command, Stdio};
 use std::thread;
@@ -33,7 +33,7 @@ pub fn integers(kind: u32, bytes: &[u8]) -> Vec<i128> {
 pub fn value<'a>(slot: &[u32], area: &'a [u8]) -> Option<&'a [u8]> {
     let unit = match slot[0] {
         1 => 1,
-        2 | 3 => ITEM_BYTES,
+        2..=KIND_MAX => ITEM_BYTES,
         _ => return None,
     };
     let start = slot[1] as usize;

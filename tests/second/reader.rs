@@ -1,8 +1,9 @@
 //! Reading of records by a layout: everything is decided before anything is written.
 
-use crate::fields::{parse, Field, Fields, Kind, NO_FIELDS};
-use crate::limits::{AREA_MAX, ITEM_BYTES, LAYOUT_MAX, RECORD_MAX, REPLY_BYTES, SLOT_BYTES};
-use crate::slots::{accepted, bad_slot_run, put_slot, refused, replied, Answer};
+use crate::fields::{parse, Field, Fields, Kind, NO_FIELDS, SINGLE_BYTES};
+use crate::limits::{AREA_MAX, ITEM_BYTES, LAYOUT_MAX, REAL, RECORD_MAX, REPLY_BYTES, SLOT_BYTES};
+use crate::reals::widened;
+use crate::slots::{accepted, bad_slot_run, integer, put_slot, refused, replied, Answer};
 
 fn trimmed(text: &[u8]) -> &[u8] {
     let kept = text.iter().rposition(|&b| b != b' ' && b != 0);
@@ -112,6 +113,33 @@ fn load_items<const WIDTH: usize>(from: &[u8], big: bool, unsigned: bool, to: &m
     }
 }
 
+/// Integers of a width; gives the kind of their slot.
+fn load_integers(from: &[u8], width: u8, big: bool, unsigned: bool, to: &mut [u8]) -> u32 {
+    match width {
+        1 => load_items::<1>(from, big, unsigned, to),
+        2 => load_items::<2>(from, big, unsigned, to),
+        4 => load_items::<4>(from, big, unsigned, to),
+        _ => load_items::<8>(from, big, unsigned, to),
+    }
+    if unsigned {
+        3
+    } else {
+        2
+    }
+}
+
+/// Doubles as they are, or singles widened in place.
+fn load_reals(from: &[u8], width: u8, big: bool, to: &mut [u8]) -> u32 {
+    load_integers(from, width, big, true, to);
+    if width == SINGLE_BYTES {
+        for place in to.chunks_exact_mut(ITEM_BYTES) {
+            let double = widened(integer(place) as u32);
+            place.copy_from_slice(&double.to_be_bytes());
+        }
+    }
+    REAL
+}
+
 /// Writes one value into its place in the area; gives the kind of its slot.
 fn load_field(kind: Kind, from: &[u8], to: &mut [u8]) -> u32 {
     match kind {
@@ -122,15 +150,8 @@ fn load_field(kind: Kind, from: &[u8], to: &mut [u8]) -> u32 {
             width,
             big,
             unsigned,
-        } => {
-            match width {
-                1 => load_items::<1>(from, big, unsigned, to),
-                2 => load_items::<2>(from, big, unsigned, to),
-                4 => load_items::<4>(from, big, unsigned, to),
-                _ => load_items::<8>(from, big, unsigned, to),
-            }
-            return if unsigned { 3 } else { 2 };
-        }
+        } => return load_integers(from, width, big, unsigned, to),
+        Kind::Real { width, big } => return load_reals(from, width, big, to),
         _ => {}
     }
     1

@@ -6,7 +6,7 @@ use crate::dice::Dice;
 use crate::fixed::{refuses, was_set, with_slot};
 use crate::layouts::random_value;
 use crate::limits::{AREA_MAX, KIND_MAX, REPLY_BYTES, SHEET_MAX, SLOTS_MAX, SLOT_BYTES};
-use crate::values::{ints, shown, slot, table, text, uints, Value};
+use crate::values::{ints, reals, shown, slot, table, text, uints, Value};
 
 const OLD: u8 = 0xab;
 const MARK: usize = 3;
@@ -69,10 +69,14 @@ fn examples(t: &mut dyn Judge) {
     both_ways(t, &[text("")], &[1, 0, 3, 0, 1, 1]);
     both_ways(t, &[ints(&[])], &[1, 0, 3, 0, 1, 2]);
     both_ways(t, &[uints(&[])], &[1, 0, 3, 0, 1, 3]);
+    both_ways(t, &[reals(&[])], &[1, 0, 3, 0, 1, 4]);
     let sheet = b"\x01\0\x13\0\x01\0\0\x03\x01OK\0\x09\x02\xff\xff\xff\xff\xff\xff\xff\xfe";
     both_ways(t, &[Value::Unset, text("OK"), ints(&[-2])], sheet);
     let sheet = b"\x01\0\x16\0\x11\x03\0\0\0\0\0\0\0\x01\xff\0\0\0\0\0\0\0\0\x01\0";
     both_ways(t, &[uints(&[1, 255 << 56]), Value::Unset], sheet);
+    let sheet = b"\x01\0\x13\0\x11\x04\x40\x59\0\0\0\0\0\0\x7f\xf0\0\0\0\0\0\x01";
+    let bits = [100f64.to_bits(), 0x7ff0_0000_0000_0001];
+    both_ways(t, &[Value::Real(bits.to_vec())], sheet);
 }
 
 fn reading_refused(t: &mut dyn Judge, sheet: &[u8], number: u32, place: u32) {
@@ -131,7 +135,8 @@ fn damaged_entries(t: &mut dyn Judge) {
 
 /// Of two reasons the earlier one counts.
 fn order(t: &mut dyn Judge) {
-    let sheet = [1, 0, 11, 0, 3, 1, b'O', b'K', 0, 1, 4, 0, 1, 0];
+    let bad = KIND_MAX as u8 + 1;
+    let sheet = [1, 0, 11, 0, 3, 1, b'O', b'K', 0, 1, bad, 0, 1, 0];
     reading_refused(t, &sheet, 12, 8);
     refuses(t, reading(&sheet, 0, 0), 12, 8);
     let sheet = [1, 0, 8, 0, 3, 1, b'O', b'K', 0, 1, 0];
@@ -359,7 +364,7 @@ fn damaged(dice: &mut Dice, sheet: &[u8], at: usize) -> Vec<u8> {
     let byte = match dice.below(3) {
         0 => dice.byte(),
         1 => sheet[at] ^ (1 << dice.below(8)),
-        _ => dice.pick(&[0, 1, 2, 3, 4, 8, 9, 16, 17, 255]),
+        _ => dice.pick(&[0, 1, 2, 3, 4, 5, 8, 9, 16, 17, 255]),
     };
     match dice.below(8) {
         0 => sheet.insert(at, byte),
@@ -380,7 +385,7 @@ pub fn random_sheet(dice: &mut Dice) -> Vec<u8> {
     let mut sheet = vec![1, 0, 0];
     for _ in 0..dice.below(6) {
         let length = dice.pick(&[0, 1, 1, 2, 8, 9, 9, 17, 17, 18]);
-        sheet.extend([0, length as u8, dice.pick(&[0, 1, 1, 2, 2, 3, 3, 4])]);
+        sheet.extend([0, length as u8, dice.pick(&[0, 1, 1, 2, 2, 3, 3, 4, 4, 5])]);
         let value = dice.between(length.max(1) - 1, length);
         sheet.extend(dice.bytes(value));
     }

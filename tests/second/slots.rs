@@ -100,6 +100,13 @@ pub fn value_of(slot: Slot, area: &[u8]) -> Option<&[u8]> {
     Some(&area[start as usize..end as usize])
 }
 
+/// The number that the eight bytes of an item make.
+pub fn integer(item: &[u8]) -> u64 {
+    let mut bytes = [0; ITEM_BYTES];
+    bytes.copy_from_slice(item);
+    u64::from_be_bytes(bytes)
+}
+
 pub fn bad_slot_run(slots: &[u8]) -> bool {
     slots.len() > SLOT_RUN_MAX || slots.len() % SLOT_BYTES != 0
 }

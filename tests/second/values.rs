@@ -1,7 +1,8 @@
 //! Values of slots, and tables made of them.
 
 use crate::call::{numbers, words};
-use crate::limits::{ITEM_BYTES, NO_POSITION, SLOT_NUMBERS};
+use crate::limits::{ITEM_BYTES, NO_POSITION, REAL, SLOT_NUMBERS};
+use crate::slots::integer;
 
 #[derive(Clone, PartialEq, Eq, Debug)]
 pub enum Value {
@@ -9,6 +10,8 @@ pub enum Value {
     Text(Vec<u8>),
     Signed(Vec<i64>),
     Unsigned(Vec<u64>),
+    /// Doubles, by their bits.
+    Real(Vec<u64>),
 }
 
 impl Value {
@@ -18,6 +21,7 @@ impl Value {
             Value::Text(_) => 1,
             Value::Signed(_) => 2,
             Value::Unsigned(_) => 3,
+            Value::Real(_) => REAL,
         }
     }
 
@@ -26,7 +30,7 @@ impl Value {
             Value::Unset => 0,
             Value::Text(bytes) => bytes.len(),
             Value::Signed(items) => items.len(),
-            Value::Unsigned(items) => items.len(),
+            Value::Unsigned(items) | Value::Real(items) => items.len(),
         }
     }
 
@@ -35,7 +39,9 @@ impl Value {
             Value::Unset => Vec::new(),
             Value::Text(bytes) => bytes.clone(),
             Value::Signed(items) => items.iter().flat_map(|n| n.to_be_bytes()).collect(),
-            Value::Unsigned(items) => items.iter().flat_map(|n| n.to_be_bytes()).collect(),
+            Value::Unsigned(items) | Value::Real(items) => {
+                items.iter().flat_map(|n| n.to_be_bytes()).collect()
+            }
         }
     }
 }
@@ -50,6 +56,10 @@ pub fn ints(items: &[i64]) -> Value {
 
 pub fn uints(items: &[u64]) -> Value {
     Value::Unsigned(items.to_vec())
+}
+
+pub fn reals(items: &[f64]) -> Value {
+    Value::Real(items.iter().map(|x| x.to_bits()).collect())
 }
 
 /// The bytes of a slot whose field begins at the position.
@@ -79,22 +89,18 @@ pub fn table(values: &[Value], start: usize) -> (Vec<u8>, Vec<u8>) {
 
 /// The values that the slots show; each is not set or lies inside the area.
 pub fn shown(slots: &[u8], area: &[u8]) -> Vec<Value> {
-    let item = |bytes: &[u8]| {
-        let mut eight = [0; ITEM_BYTES];
-        eight.copy_from_slice(bytes);
-        u64::from_be_bytes(eight)
-    };
     let value = |slot: &[u32]| {
         let (length, rest) = (
             slot[2] as usize,
             &area[slot[1].min(area.len() as u32) as usize..],
         );
-        let items = rest.chunks_exact(ITEM_BYTES).take(length).map(item);
+        let items = rest.chunks_exact(ITEM_BYTES).take(length).map(integer);
         match slot[0] {
             0 => Value::Unset,
             1 => text(&rest[..length]),
             2 => Value::Signed(items.map(|n| n as i64).collect()),
-            _ => Value::Unsigned(items.collect()),
+            3 => Value::Unsigned(items.collect()),
+            _ => Value::Real(items.collect()),
         }
     };
     numbers(slots)

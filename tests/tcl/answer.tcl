@@ -1,16 +1,19 @@
 # Answers calls of `binary format` and `binary scan`: one line for each line of standard input.
 #
 #   format LAYOUT ARGUMENT..      ok RECORD, or error
-#   scan LAYOUT RECORD VARIABLES  ok COUNT VALUE.., or error
+#   scan LAYOUT RECORD SORTS      ok COUNT VALUE.., or error
 #
-# Layouts, records and values are hex after a colon; VARIABLES is a number.
-# An argument is hex after a colon, or integers between commas after `=`.
-# A value that was not set is `-`.
+# Layouts, records and values are hex after a colon. SORTS has a letter for each variable: `o` or `l` for one real or a list of
+# reals, whose values come back as the bytes of doubles (Tcl's text of some does not tell them from their neighbours).
+# An argument is hex after a colon, integers between commas after `=`, or the bytes of doubles as hex after `~`; those of one
+# double after `!`. A value that was not set is `-`.
 
 proc decoded {word} {
     set rest [string range $word 1 end]
-    if {[string index $word 0] eq "="} {
-        return [split $rest ,]
+    switch [string index $word 0] {
+        = {return [split $rest ,]}
+        ~ {binary scan [binary decode hex $rest] Q* reals; return $reals}
+        ! {binary scan [binary decode hex $rest] Q real; return $real}
     }
     return [binary decode hex $rest]
 }
@@ -30,18 +33,26 @@ proc answerFormat {layout arguments} {
     return "ok [coded $record]"
 }
 
-proc answerScan {layout record variables} {
+proc shown {sort value} {
+    switch $sort {
+        o {return [coded [binary format Q $value]]}
+        l {return [coded [binary format Q* $value]]}
+    }
+    return [coded $value]
+}
+
+proc answerScan {layout record sorts} {
     set names {}
-    for {set i 0} {$i < $variables} {incr i} {
+    for {set i 0} {$i < [string length $sorts]} {incr i} {
         lappend names value($i)
     }
     if {[catch {binary scan $record $layout {*}$names} count]} {
         return error
     }
     set answer "ok $count"
-    foreach name $names {
+    foreach name $names sort [split $sorts ""] {
         if {[info exists $name]} {
-            append answer " [coded [set $name]]"
+            append answer " [shown $sort [set $name]]"
         } else {
             append answer " -"
         }

@@ -1,28 +1,30 @@
 -- The check of an argument, line by line, on plain values.
-use Prim.Native.Nat.{ℕ, _+_, _*_, _%_, _≤_, _<_, min}
+use Prim.Native.Nat.{ℕ, zero, suc, _+_, _*_, _%_, _≤_, _<_, min}
+use native.Mathlib.Nat.{le-of-suc-le-suc, not-suc-le-zero}
 use native.Mathlib.Omega.{arith}
 use mathlib.Core.Path.{_≡_, refl, sym, ap, _∙_}
 use mathlib.Core.Bool.{Bool, true, false, _&&_, not}
-use mathlib.Core.List.{List}
+use mathlib.Core.List.{List, _∷_}
 use borrow.Author.Tests.{le-leb, leb-true, eq-eqb, ne-eqb}
 use lib.Dec.{eqb, leb, ltb}
 use lib.ListN.{length, take, drop, length-take}
 use lib.Seq.{take-take, take-all}
 use Rattle.layout.specs.declared.Shape.{Shape}
-use Rattle.layout.specs.declared.Shape.the-variants.{Text, Digits, Integers}
+use Rattle.layout.specs.declared.Shape.the-variants.{Text, Digits, Integers, Reals}
 use Rattle.layout.specs.declared.Count.{Count}
-use Rattle.layout.specs.declared.Refusal.the-variants.{NotSet, BadSlot, WrongKind, WrongAmount, BadDigit}
+use Rattle.layout.specs.declared.Refusal.the-variants.{NotSet, BadSlot, WrongKind, WrongAmount, BadDigit, BadReal}
 use Rattle.layout.specs.Refusals.{ok}
 use Rattle.layout.specs.Words.{lastText, lastBinary, lastDigits, shapeNumbered}
 use Rattle.layout.proofs.Numbered.{shape-text, shape-digits}
-use Rattle.layout.proofs.Laws.{demanded, demand-true}
-use Rattle.record.specs.Bytes.{part}
+use Rattle.layout.proofs.Laws.{demanded}
+use Rattle.record.specs.Bytes.{part, pieces, number, ordered, bigEndianIn}
 use Rattle.record.proofs.Bytes.{and-true}
 use Rattle.record.specs.declared.slots.Slot.{Slot}
-use Rattle.record.specs.Table.{shown, itemSize}
+use Rattle.record.specs.Table.{maxKind, real, shown, itemSize, integerSize, integersIn}
+use Rattle.record.proofs.NumberLaws.{length-bigEndianIn}
 use Rattle.record.specs.Geometry.{amount}
-use Rattle.record.proofs.Tables.{kind-integers}
-use Rattle.record.specs.Packing.{kindFits, enough, amountFits, digitsFit, allDigits, insideArea, argumentFits}
+use Rattle.record.proofs.Tables.{kind-integers, reals-kind}
+use Rattle.record.specs.Packing.{kindFits, enough, amountFits, digitsFit, allDigits, realsFit, noNaN, insideArea, argumentFits}
 use Rattle.record.proofs.Fields.{split}
 use Rattle.arguments.specs.Checks.{verdictOf, Sound}
 use Rattle.arguments.specs.declared.check.Verdict.the-variants.{Fits, Refused}
@@ -35,11 +37,11 @@ module _ (area : List ℕ) (s : Shape) (n : Count) (k : ℕ) (a : Slot) where
   not-set e = simp e
 
   module _ (e₁ : eqb (a .kind) 0 ≡ false) where
-    pub bad-slot : (leb (a .kind) 3 && insideArea area a) ≡ false → Refused BadSlot k ≡ verdictOf (argumentFits area s n k a)
+    pub bad-slot : (leb (a .kind) maxKind && insideArea area a) ≡ false → Refused BadSlot k ≡ verdictOf (argumentFits area s n k a)
     unfolding argumentFits
     bad-slot e = simp (e₁, e)
 
-    module _ (e₂ : (leb (a .kind) 3 && insideArea area a) ≡ true) where
+    module _ (e₂ : (leb (a .kind) maxKind && insideArea area a) ≡ true) where
       pub wrong-kind : kindFits s (a .kind) ≡ false → Refused WrongKind k ≡ verdictOf (argumentFits area s n k a)
       unfolding argumentFits
       wrong-kind e = simp (e₁, e₂, e)
@@ -54,9 +56,14 @@ module _ (area : List ℕ) (s : Shape) (n : Count) (k : ℕ) (a : Slot) where
           unfolding argumentFits
           bad-digit e = simp (e₁, e₂, e₃, e₄, e)
 
-          pub all-fits : digitsFit s (amount n (a .len)) (shown area a .items) ≡ true → Fits ≡ verdictOf (argumentFits area s n k a)
-          unfolding argumentFits
-          all-fits e = simp (e₁, e₂, e₃, e₄, e)
+          module _ (e₅ : digitsFit s (amount n (a .len)) (shown area a .items) ≡ true) where
+            pub bad-real : realsFit s (amount n (a .len)) (shown area a .items) ≡ false → Refused BadReal k ≡ verdictOf (argumentFits area s n k a)
+            unfolding argumentFits
+            bad-real e = simp (e₁, e₂, e₃, e₄, e₅, e)
+
+            pub all-fits : realsFit s (amount n (a .len)) (shown area a .items) ≡ true → Fits ≡ verdictOf (argumentFits area s n k a)
+            unfolding argumentFits
+            all-fits e = simp (e₁, e₂, e₃, e₄, e₅, e)
 
 -- what a field can rely on whose argument was checked
 pub record Checked (area : List ℕ) (s : Shape) (n : Count) (a : Slot) : Type 0 where
@@ -69,14 +76,15 @@ pub checked-argument : (area : List ℕ) (s : Shape) (n : Count) (k : ℕ) (a : 
 unfolding argumentFits
 checked-argument area s n k a e =
     let x₁ = demanded (not (eqb (a .kind) 0)) NotSet k _ tt e in
-    let x₂ = demanded (leb (a .kind) 3 && insideArea area a) BadSlot k _ tt (x₁ .1) in
+    let x₂ = demanded (leb (a .kind) maxKind && insideArea area a) BadSlot k _ tt (x₁ .1) in
     let x₃ = demanded (kindFits s (a .kind)) WrongKind k _ tt (x₂ .1) in
     let x₄ = demanded (amountFits s n (a .len)) WrongAmount k _ tt (x₃ .1) in
+    let x₅ = demanded (digitsFit s (amount n (a .len)) (shown area a .items)) BadDigit k _ tt (x₄ .1) in
     record {
-      inside = and-true (leb (a .kind) 3) (insideArea area a) (x₂ .0) .1;
+      inside = and-true (leb (a .kind) maxKind) (insideArea area a) (x₂ .0) .1;
       kind = x₃ .0;
       amounts = x₄ .0;
-      digits = demand-true (digitsFit s (amount n (a .len)) (shown area a .items)) BadDigit k (x₄ .1);
+      digits = x₅ .0;
     }
 
 -- ---- a value inside the area, by its kind
@@ -107,6 +115,29 @@ pub digits-part : (area : List ℕ) (hex high : Bool) (n : ℕ) (a : Slot) → e
 unfolding digitsFit
 digits-part area hex high n a e = rw (shown-string area a e) (ap (allDigits hex) (sym (take-part n (a .len) (drop (a .start) area))))
 
+pub take-integers : (n len : ℕ) (l : List ℕ) → n ≤ len → take n (integersIn len l) ≡ integersIn n l
+unfolding bigEndianIn pieces
+take-integers zero len l h = refl
+take-integers (suc n) zero l h = absurd (not-suc-le-zero h)
+take-integers (suc n) (suc len) l h = ap (λ (r : List ℕ). number 256 (ordered true (take 8 l)) ∷ r) (take-integers n len (drop 8 l) (le-of-suc-le-suc h))
+
+-- the first n of the numbers in an area
+pub first-integers : (n len : ℕ) (l : List ℕ) → take n (integersIn len l) ≡ integersIn (min n len) l
+first-integers n len l =
+    split n len
+    (λ h. let e : min n len ≡ n = omega arith in take-integers n len l h ∙ ap (λ (m : ℕ). integersIn m l) (sym e))
+    (λ h. let e : min n len ≡ len = omega arith in take-all n (integersIn len l) (omega (arith, length-bigEndianIn integerSize len l)) ∙ ap (λ (m : ℕ). integersIn m l) (sym e))
+
+pub shown-integers : (area : List ℕ) (a : Slot) → eqb (a .kind) 1 ≡ false → shown area a .items ≡ integersIn (a .len) (drop (a .start) area)
+unfolding shown
+shown-integers area a e = simp e
+
+-- only the reals up to the count are looked at
+pub reals-part : (area : List ℕ) (big : Bool) (n : ℕ) (a : Slot) → eqb (a .kind) real ≡ true
+    → noNaN (integersIn (min n (a .len)) (drop (a .start) area)) ≡ realsFit (Reals true big) n (shown area a .items)
+unfolding realsFit
+reals-part area big n a e = rw (shown-integers area a (reals-kind (a .kind) e)) (ap noNaN (sym (first-integers n (a .len) (drop (a .start) area))))
+
 -- ---- the quick test: where it passes, no line is due
 
 module _ (area : List ℕ) (n : Count) (a : Slot) where
@@ -115,19 +146,30 @@ module _ (area : List ℕ) (n : Count) (a : Slot) where
   none-sound s = record { fits = λ e k. let z : _≡_ {A = ℕ} 0 1 = cc in absurd (omega arith) }
 
   -- no line is due
-  fine : (s : Shape) (k : ℕ) → eqb (a .kind) 0 ≡ false → leb (a .kind) 3 ≡ true → insideArea area a ≡ true → kindFits s (a .kind) ≡ true
-      → amountFits s n (a .len) ≡ true → digitsFit s (amount n (a .len)) (shown area a .items) ≡ true → argumentFits area s n k a ≡ ok tt
+  fine : (s : Shape) (k : ℕ) → eqb (a .kind) 0 ≡ false → leb (a .kind) maxKind ≡ true → insideArea area a ≡ true → kindFits s (a .kind) ≡ true
+      → amountFits s n (a .len) ≡ true → digitsFit s (amount n (a .len)) (shown area a .items) ≡ true → realsFit s (amount n (a .len)) (shown area a .items) ≡ true
+      → argumentFits area s n k a ≡ ok tt
   unfolding argumentFits
-  fine s k e₁ e₂ e₃ e₄ e₅ e₆ = simp (e₁, e₂, e₃, e₄, e₅, e₆)
+  fine s k e₁ e₂ e₃ e₄ e₅ e₆ e₇ = simp (e₁, e₂, e₃, e₄, e₅, e₆, e₇)
 
   pub integers-sound : 2 ≤ a .kind → a .kind ≤ 3 → a .start + a .len * 8 ≤ length area → (t : Bool) → t ≡ enough n (a .len)
       → (w : ℕ) (big : Bool) → Sound t area (Integers w big) n a
-  unfolding digitsFit
+  unfolding digitsFit realsFit
   integers-sound h l i t q w big =
       let e : eqb (a .kind) 1 ≡ false = ne-eqb (a .kind) 1 (λ x. omega arith) in
       record {
         fits = λ p k.
-            fine (Integers w big) k (ne-eqb (a .kind) 0 (λ x. omega arith)) (le-leb (a .kind) 3 l) (rw e (le-leb _ _ i)) (kind-integers (a .kind) h l) (sym q ∙ p) refl;
+            fine (Integers w big) k (ne-eqb (a .kind) 0 (λ x. omega arith)) (le-leb (a .kind) maxKind (omega arith)) (rw e (le-leb _ _ i)) (kind-integers (a .kind) h l) (sym q ∙ p) refl refl;
+      }
+
+  pub reals-sound : a .kind ≡ real → a .start + a .len * 8 ≤ length area → enough n (a .len) ≡ true → (single big : Bool) (t : Bool)
+      → t ≡ realsFit (Reals single big) (amount n (a .len)) (shown area a .items) → Sound t area (Reals single big) n a
+  unfolding digitsFit
+  reals-sound h i m single big t q =
+      let e : eqb (a .kind) 1 ≡ false = ne-eqb (a .kind) 1 (λ x. omega arith) in
+      record {
+        fits = λ p k.
+            fine (Reals single big) k (ne-eqb (a .kind) 0 (λ x. omega arith)) (le-leb (a .kind) maxKind (omega arith)) (rw e (le-leb _ _ i)) (eq-eqb (a .kind) real h) m refl (sym q ∙ p);
       }
 
   module _ (h : a .kind ≡ 1) (i : a .start + a .len ≤ length area) where
@@ -135,19 +177,20 @@ module _ (area : List ℕ) (n : Count) (a : Slot) where
     string = eq-eqb (a .kind) 1 h
 
     string-fine : (s : Shape) (k : ℕ) → kindFits s (a .kind) ≡ true → amountFits s n (a .len) ≡ true
-        → digitsFit s (amount n (a .len)) (shown area a .items) ≡ true → argumentFits area s n k a ≡ ok tt
-    string-fine s k e₄ e₅ e₆ =
-        fine s k (ne-eqb (a .kind) 0 (λ x. omega arith)) (le-leb (a .kind) 3 (omega arith))
-        (rw string (le-leb (a .start + a .len * 1) (length area) (omega arith))) e₄ e₅ e₆
+        → digitsFit s (amount n (a .len)) (shown area a .items) ≡ true → realsFit s (amount n (a .len)) (shown area a .items) ≡ true → argumentFits area s n k a ≡ ok tt
+    string-fine s k e₄ e₅ e₆ e₇ =
+        fine s k (ne-eqb (a .kind) 0 (λ x. omega arith)) (le-leb (a .kind) maxKind (omega arith))
+        (rw string (le-leb (a .start + a .len * 1) (length area) (omega arith))) e₄ e₅ e₆ e₇
 
     pub text-sound : (d : ℕ) → d ≤ lastText → Sound true area (shapeNumbered d) n a
-    unfolding digitsFit
-    text-sound d l = rw (shape-text d l) (record { fits = λ p k. string-fine (Text (32 * d)) k string refl refl })
+    unfolding digitsFit realsFit
+    text-sound d l = rw (shape-text d l) (record { fits = λ p k. string-fine (Text (32 * d)) k string refl refl refl })
 
     pub digits-sound : (d : ℕ) → lastText < d → d ≤ lastDigits → (t : Bool) → t ≡ allDigits (ltb lastBinary d) (part area (a .start) (min (amount n (a .len)) (a .len)))
         → Sound t area (shapeNumbered d) n a
+    unfolding realsFit
     digits-sound d l m t q =
         let hex : Bool = ltb lastBinary d in
         let high : Bool = eqb (d % 2) 1 in
         let e : t ≡ digitsFit (Digits hex high) (amount n (a .len)) (shown area a .items) = q ∙ digits-part area hex high (amount n (a .len)) a string in
-        rw (shape-digits d l m) (record { fits = λ p k. string-fine (Digits hex high) k string refl (sym e ∙ p) })
+        rw (shape-digits d l m) (record { fits = λ p k. string-fine (Digits hex high) k string refl (sym e ∙ p) refl })

@@ -14,7 +14,7 @@ use Rattle.layout.specs.declared.Shape.{Shape}
 use Rattle.layout.specs.declared.Count.{Count}
 use Rattle.layout.specs.declared.Field.{Field}
 use Rattle.layout.specs.declared.Refusal.{Refusal}
-use Rattle.layout.specs.declared.Refusal.the-variants.{NotSet, BadSlot, WrongKind, WrongAmount, BadDigit}
+use Rattle.layout.specs.declared.Refusal.the-variants.{NotSet, BadSlot, WrongKind, WrongAmount, BadDigit, BadReal}
 use Rattle.layout.specs.Refusals.{if_then_else_, Result, ok, refused, _>>=_, demand}
 use Rattle.layout.specs.Layout.{slotCount, takesSlot, toNat}
 use Rattle.layout.specs.Words.{lastData, shapeNumbered, countFrom, slotsTaken, fieldOf, decoded, FieldOf, flagUnit, countUnit}
@@ -22,9 +22,9 @@ use Rattle.layout.proofs.Laws.{bound, ok-inj}
 use Rattle.layout.proofs.Decoded.{word-shape, word-count, next-field, no-field}
 use Rattle.record.specs.declared.Cursor.{Cursor}
 use Rattle.record.specs.declared.slots.Slot.{Slot}
-use Rattle.record.specs.Table.{shown, slotsOf, slotWidth}
+use Rattle.record.specs.Table.{maxKind, shown, slotsOf, slotWidth}
 use Rattle.record.specs.Geometry.{amount, bytesFor}
-use Rattle.record.specs.Packing.{kindFits, amountFits, digitsFit, insideArea, argumentFits, nextSlot}
+use Rattle.record.specs.Packing.{kindFits, amountFits, digitsFit, realsFit, insideArea, argumentFits, nextSlot}
 use Rattle.arguments.specs.declared.check.Verdict.the-variants.{Fits, Refused}
 use Rattle.arguments.specs.declared.Stepped.the-variants.{Next, Stop}
 use Rattle.arguments.specs.declared.Measured.the-variants.{Length}
@@ -102,10 +102,11 @@ argument-place : (area : List ℕ) (s : Shape) (n : Count) (k : ℕ) (a : Slot) 
 unfolding argumentFits
 argument-place area s n k a why place e =
     refused-at (not (eqb (a .kind) 0)) NotSet k _ why place e
-    (λ e₁. refused-at (leb (a .kind) 3 && insideArea area a) BadSlot k _ why place e₁
+    (λ e₁. refused-at (leb (a .kind) maxKind && insideArea area a) BadSlot k _ why place e₁
     (λ e₂. refused-at (kindFits s (a .kind)) WrongKind k _ why place e₂
     (λ e₃. refused-at (amountFits s n (a .len)) WrongAmount k _ why place e₃
-    (λ e₄. demand-at (digitsFit s (amount n (a .len)) (shown area a .items)) BadDigit k why place e₄))))
+    (λ e₄. refused-at (digitsFit s (amount n (a .len)) (shown area a .items)) BadDigit k _ why place e₄
+    (λ e₅. demand-at (realsFit s (amount n (a .len)) (shown area a .items)) BadReal k why place e₅)))))
 
 pub stepped-place : (area : List ℕ) (k : ℕ) (t : Slot) (c : Cursor) (code : Code) (n : Count) (why : Refusal) (place : ℕ) → stepped area k t c code n ≡ refused why place → place ≡ k
 unfolding stepped

@@ -1,11 +1,12 @@
-// The check of one argument: whether it is refused with one of the numbers 6 to 10 (the table of numbers is in include/curlew.h).
+// The check of one argument: whether it is refused with one of the numbers 6 to 10, or 16 (the table of numbers is in include/curlew.h).
 ghost use mathlib.Core.Path.{_≡_};
 ghost use mathlib.Core.Bool.{Bool, true};
 ghost use Prim.Native.Nat.{ℕ, _+_, _*_, _≤_, _<_};
-ghost use Rattle.layout.specs.declared.Shape.the-variants.{Integers};
-ghost use Rattle.layout.specs.Words.{lastDigits, lastData, shapeNumbered};
-ghost use Rattle.record.specs.Table.{numberLimit, shown};
-ghost use Rattle.record.specs.Packing.{kindFits, enough, amountFits, digitsFit, insideArea, argumentFits};
+ghost use lib.Dec.{eqb};
+ghost use Rattle.layout.specs.declared.Shape.the-variants.{Integers, Reals};
+ghost use Rattle.layout.specs.Words.{lastDigits, lastIntegers, lastData, shapeNumbered};
+ghost use Rattle.record.specs.Table.{numberLimit, real, shown};
+ghost use Rattle.record.specs.Packing.{kindFits, enough, amountFits, digitsFit, realsFit, insideArea, argumentFits};
 ghost use Rattle.arguments.specs.Checks.{verdictOf, Sound};
 use layout::Count;
 use layout::Refusal;
@@ -26,6 +27,7 @@ fn kind_fits(s: Shape, kind: usize) -> bool
         Shape::Text(_) => kind == 1,
         Shape::Digits(_, _) => kind == 1,
         Shape::Integers(_, _) => record::slots::is_integers(kind),
+        Shape::Reals(_, _) => kind == record::slots::REAL,
     }
 }
 
@@ -39,7 +41,7 @@ fn is_enough(n: Count, have: usize) -> bool
     }
 }
 
-// There are as many integers as the count asks for; else number 9.
+// There are as many integers or reals as the count asks for; else number 9.
 fn amount_fits(s: Shape, n: Count, have: usize) -> bool
     ensures { λ r. ⌜ r ≡ amountFits s n have ⌝ }
 {
@@ -47,6 +49,7 @@ fn amount_fits(s: Shape, n: Count, have: usize) -> bool
         Shape::Text(_) => true,
         Shape::Digits(_, _) => true,
         Shape::Integers(_, _) => is_enough(n, have),
+        Shape::Reals(_, _) => is_enough(n, have),
     }
 }
 
@@ -59,6 +62,31 @@ fn digits_fit(s: Shape, n: usize, a: Slot, area: &[u8]) -> bool
         Shape::Text(_) => true,
         Shape::Digits(hex, _) => { digits::all_digits(area, a.start, record::least(n, a.len), hex) }
         Shape::Integers(_, _) => true,
+        Shape::Reals(_, _) => true,
+    }
+}
+
+// None of the first n reals that become singles is a NaN.
+fn singles_fit(single: bool, n: usize, a: Slot, area: &[u8]) -> bool
+    requires { ⌜ (eqb (a .kind) real ≡ true) × (insideArea (now area) a ≡ true) ⌝ }
+    ensures { λ r. ⌜ ((big : Bool) → r ≡ realsFit (Reals single big) n (shown (now (area .entry)) a .items)) ⌝ }
+{
+    if single {
+        return reals::no_nan(area, a.start, record::least(n, a.len));
+    }
+    true
+}
+
+// The same of any argument; else number 16.
+fn reals_fit(s: Shape, n: usize, a: Slot, area: &[u8]) -> bool
+    requires { ⌜ (kindFits s (a .kind) ≡ true) × (insideArea (now area) a ≡ true) ⌝ }
+    ensures { λ r. ⌜ r ≡ realsFit s n (shown (now (area .entry)) a .items) ⌝ }
+{
+    match s {
+        Shape::Text(_) => true,
+        Shape::Digits(_, _) => true,
+        Shape::Integers(_, _) => true,
+        Shape::Reals(single, _) => singles_fit(single, n, a, area),
     }
 }
 
@@ -82,6 +110,9 @@ pub fn check(s: Shape, n: Count, a: Slot, k: usize, area: &[u8]) -> Verdict
     if !digits_fit(s, record::amount(n, a.len), a, area) {
         return Verdict::Refused(Refusal::BadDigit, k);
     }
+    if !reals_fit(s, record::amount(n, a.len), a, area) {
+        return Verdict::Refused(Refusal::BadReal, k);
+    }
     Verdict::Fits
 }
 
@@ -103,6 +134,23 @@ fn integers_serve(n: Count, a: Slot, area: &[u8]) -> bool
         return false;
     }
     is_enough(n, a.len)
+}
+
+// Reals serve.
+fn reals_serve(d: u32, n: Count, a: Slot, area: &[u8]) -> bool
+    requires { ⌜ (lastIntegers < d) × (d ≤ lastData) × (a .start < numberLimit) × (a .len < numberLimit) ⌝ }
+    ensures { λ r. ⌜ Sound r (now (area .entry)) (shapeNumbered d) n a ⌝ }
+{
+    if a.kind != record::slots::REAL {
+        return false;
+    }
+    if area.len() < a.start + a.len * record::numbers::INTEGER_SIZE {
+        return false;
+    }
+    if !is_enough(n, a.len) {
+        return false;
+    }
+    singles_fit(d <= layout::LAST_SINGLE, record::amount(n, a.len), a, area)
 }
 
 // A string serves.
@@ -133,6 +181,9 @@ pub fn serves(d: u32, n: Count, a: Slot, area: &[u8]) -> bool
     requires { ⌜ (d ≤ lastData) × (a .start < numberLimit) × (a .len < numberLimit) ⌝ }
     ensures { λ r. ⌜ Sound r (now (area .entry)) (shapeNumbered d) n a ⌝ }
 {
+    if layout::LAST_INTEGERS < d {
+        return reals_serve(d, n, a, area);
+    }
     if layout::LAST_DIGITS < d {
         return integers_serve(n, a, area);
     }

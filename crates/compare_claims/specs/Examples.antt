@@ -90,5 +90,5 @@ examples =
     ∷ record { layout = bytes "c"; first = 1 ∷ []; second = []; slots = (1, 0); areas = (8, 0); numbers = 2; answer = 5 ∷ 0 ∷ 0 ∷ []; report = replicate 2 7 }
     ∷ record { layout = bytes "c"; first = 1 ∷ []; second = []; slots = (1, 65); areas = (7, 0); numbers = 0; answer = 11 ∷ 0 ∷ 0 ∷ []; report = [] }
     ∷ record { layout = bytes "c"; first = 1 ∷ []; second = []; slots = (1, 65); areas = (8, 0); numbers = 0; answer = 1 ∷ 0 ∷ 0 ∷ []; report = [] }
-    ∷ record { layout = bytes "c q"; first = []; second = []; slots = (1, 65); areas = (8, 0); numbers = 0; answer = 2 ∷ 2 ∷ 0 ∷ []; report = [] }
+    ∷ record { layout = bytes "c z"; first = []; second = []; slots = (1, 65); areas = (8, 0); numbers = 0; answer = 2 ∷ 2 ∷ 0 ∷ []; report = [] }
     ∷ []

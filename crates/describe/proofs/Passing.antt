@@ -15,7 +15,7 @@ use Rattle.layout.specs.declared.Code.{Code}
 use Rattle.layout.specs.declared.Code.the-variants.{Data, Move}
 use Rattle.layout.specs.declared.Motion.the-variants.{Skip, Back, Goto}
 use Rattle.layout.specs.declared.Shape.{Shape}
-use Rattle.layout.specs.declared.Shape.the-variants.{Text, Digits, Integers}
+use Rattle.layout.specs.declared.Shape.the-variants.{Text, Digits, Integers, Reals}
 use Rattle.layout.specs.declared.Count.{Count}
 use Rattle.layout.specs.declared.Count.the-variants.{Absent, Star, Times}
 use Rattle.layout.specs.declared.Field.{Field}
@@ -63,6 +63,7 @@ served-fewest (Digits hex high) n =
     let zeros : List ℕ = replicate n 48 in
     rw (take-all n zeros (omega (arith, length-replicate {A = ℕ} n 48))) (zeros-digits hex n)
 served-fewest (Integers w big) n = omega (arith, length-replicate {A = ℕ} n 48)
+served-fewest (Reals single big) n = omega (arith, length-replicate {A = ℕ} n 48)
 
 one-field : (r : Run) (k : Code) (n : Count) → Within r → advance (cursorOf r) k n 0 ≡ cursorOf (packOne r k n (replicate (amount n 0) 48))
 unfolding packOne
@@ -104,6 +105,7 @@ bytes-more (Text pad) m n h = h
 bytes-more (Digits true high) m n h = omega arith
 bytes-more (Digits false high) m n h = omega arith
 bytes-more (Integers w big) m n h = mul-le-mul h (omega arith)
+bytes-more (Reals single big) m n h = mul-le-mul h (omega arith)
 
 advance-below : (c d : Cursor) (k : Code) (n : Count) (have : ℕ) → Below c d → Below (advance c k n 0) (advance d k n have)
 advance-below c d (Data s) n have h =

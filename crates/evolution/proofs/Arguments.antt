@@ -13,16 +13,16 @@ use Rattle.layout.specs.declared.Code.{Code}
 use Rattle.layout.specs.declared.Code.the-variants.{Data, Move}
 use Rattle.layout.specs.declared.Motion.the-variants.{Skip, Back, Goto}
 use Rattle.layout.specs.declared.Shape.{Shape}
-use Rattle.layout.specs.declared.Shape.the-variants.{Text, Digits, Integers}
+use Rattle.layout.specs.declared.Shape.the-variants.{Text, Digits, Integers, Reals}
 use Rattle.layout.specs.declared.Count.{Count}
 use Rattle.layout.specs.declared.Count.the-variants.{Absent, Star, Times}
 use Rattle.layout.specs.declared.Field.{Field}
 use Rattle.layout.specs.declared.Refusal.the-variants.{NotSet, BadSlot, WrongKind, WrongAmount, BadDigit}
 use Rattle.layout.specs.Refusals.{Result, ok, _>>=_}
 use Rattle.layout.specs.Words.{FitCode}
-use Rattle.layout.proofs.Laws.{AllSound, bound, demanded, demand-true}
+use Rattle.layout.proofs.Laws.{AllSound, bound, demanded}
 use Rattle.record.specs.declared.slots.Slot.{Slot}
-use Rattle.record.specs.Table.{shown}
+use Rattle.record.specs.Table.{maxKind, shown}
 use Rattle.record.specs.Geometry.{amount}
 use Rattle.record.specs.Packing.{insideArea, Filled, filled, nextSlot, argumentFits, argumentsFit, kindFits, amountFits, enough, digitsFit}
 use Rattle.layout.specs.Layout.{slotCount}
@@ -31,7 +31,7 @@ use Rattle.runs.proofs.Joined.{plain-amount}
 use Rattle.evolution.specs.Claim.{plain}
 use Rattle.record.proofs.Bytes.{both}
 use Rattle.record.proofs.NumberLaws.{length-bigEndianIn}
-use Rattle.record.proofs.Tables.{integers-kind}
+use Rattle.record.proofs.Tables.{integers-kind, reals-kind}
 use Rattle.record.proofs.Fields.{Served}
 use Rattle.evolution.proofs.Run.{AllGood, fieldsIn}
 
@@ -115,15 +115,17 @@ unfolding digitsFit shown
 served-by area (Text pad) n a p k c d = tt
 served-by area (Digits hex high) n a p k c d = subst (λ (t : Bool). T t) (sym (rw (plain-amount n p .1 (a .len)) at d)) tt
 served-by area (Integers w big) n a p k c d = rw (integers-kind (a .kind) k, length-bigEndianIn) (enough-le n (a .len) p c)
+served-by area (Reals single big) n a p k c d = rw (reals-kind (a .kind) k, length-bigEndianIn) (enough-le n (a .len) p c)
 
 served : (area : List ℕ) (s : Shape) (n : Count) (i : ℕ) (a : Slot) → T (plainCount n) → argumentFits area s n i a ≡ ok tt → Served s (amount n 0) (shown area a .items)
 unfolding argumentFits
 served area s n i a p e =
     let (not-unset, e₇) = demanded (not (eqb (a .kind) 0)) NotSet i _ tt e in
-    let (in-area, e₈) = demanded (leb (a .kind) 3 && insideArea area a) BadSlot i _ tt e₇ in
+    let (in-area, e₈) = demanded (leb (a .kind) maxKind && insideArea area a) BadSlot i _ tt e₇ in
     let (kind-fits, e₉) = demanded (kindFits s (a .kind)) WrongKind i _ tt e₈ in
     let (count-fits, e₁₀) = demanded (amountFits s n (a .len)) WrongAmount i _ tt e₉ in
-    served-by area s n a p kind-fits count-fits (demand-true (digitsFit s (amount n (a .len)) (shown area a .items)) BadDigit i e₁₀)
+    let (digits-fit, _) = demanded (digitsFit s (amount n (a .len)) (shown area a .items)) BadDigit i _ tt e₁₀ in
+    served-by area s n a p kind-fits count-fits digits-fit
 
 good-step : (area : List ℕ) (i : ℕ) (ts : List Slot) (fs : List Field)
     → ((i : ℕ) (ts : List Slot) → argumentsFit area i ts fs ≡ ok tt → AllGood (filled area ts fs))

@@ -10,14 +10,16 @@ use lib.Seq.{take-append-add, take-all, length-take-le}
 use borrow.Author.Tests.{le-leb, lt-leb, lt-ltb, le-ltb}
 use lib.Dec.{T, ltb, ltb→lt}
 use Rattle.layout.specs.declared.Shape.{Shape}
-use Rattle.layout.specs.declared.Shape.the-variants.{Text, Digits, Integers}
+use Rattle.layout.specs.declared.Shape.the-variants.{Text, Digits, Integers, Reals}
+use Rattle.layout.specs.Words.{realSize}
 use Rattle.record.specs.Bytes.{fit, ceilDiv, pieces, join, digits, number, ordered}
-use Rattle.record.specs.Table.{string, integerKind}
-use Rattle.record.specs.Packing.{stored, lowBytes, digitBytes, digitValue, allDigits}
+use Rattle.record.specs.Table.{string, real, integerKind}
+use Rattle.record.specs.Packing.{stored, lowBytes, patterns, digitBytes, digitValue, allDigits}
 use Rattle.record.specs.Geometry.{base, perByte}
-use Rattle.record.specs.Reading.{loaded, widened, digitChar}
+use Rattle.record.specs.Reading.{loaded, widened, doubles, digitChar}
 use Rattle.evolution.specs.Claim.{readBack, lowered}
-use Rattle.record.proofs.Fields.{Served, split, item, length-item, number-item}
+use Rattle.record.proofs.Fields.{Served, split, item, length-item, number-item, length-patterns}
+use Rattle.packer.proofs.StoreLaws.{take-map, take-patterns}
 use Rattle.record.proofs.Bytes.{length-fit, ordered-ordered, length-ordered, digits-number, pieces-join, join-pieces, both, All, all-take, all-drop, all-append, all-replicate, all-ordered}
 
 -- ---- integers
@@ -29,6 +31,17 @@ integers-back w big u n xs h =
     let cut : pieces w n (lowBytes w big n xs) ≡ map (item w big) (take n xs) =
     ap (λ (m : ℕ). pieces w m (lowBytes w big n xs)) (sym (length-take-le n xs h)) ∙ pieces-join (item w big) w (length-item w big) (take n xs) in
     rw cut (rw map-map (simp number-item))
+
+-- ---- reals, which stand in a field as unsigned integers do
+
+reals-back : (single big : Bool) (n : ℕ) (xs : List ℕ) → n ≤ length xs
+    → doubles single (map (λ p. number 256 (ordered big p)) (pieces (realSize single) n (lowBytes (realSize single) big n (patterns single xs))))
+    ≡ doubles single (map (λ x. x % 256 ^ realSize single) (patterns single (take n xs)))
+unfolding widened
+reals-back single big n xs h =
+    ap (doubles single)
+    (integers-back (realSize single) big true n (patterns single xs) (rw (length-patterns single xs) h)
+    ∙ ap (map (λ x. x % 256 ^ realSize single)) (take-patterns single n xs))
 
 -- ---- digits
 
@@ -75,11 +88,6 @@ take-replicate : (i n a : ℕ) → i ≤ n → take i (replicate n a) ≡ replic
 take-replicate zero n a h = refl
 take-replicate (suc i) zero a h = absurd (not-suc-le-zero h)
 take-replicate (suc i) (suc n) a h = ap (λ (r : List ℕ). a ∷ r) (take-replicate i n a (le-of-suc-le-suc h))
-
-take-map : (f : ℕ → ℕ) (n : ℕ) (xs : List ℕ) → take n (map f xs) ≡ map f (take n xs)
-take-map f zero xs = refl
-take-map f (suc n) [] = refl
-take-map f (suc n) (x ∷ xs) = ap (λ (r : List ℕ). f x ∷ r) (take-map f n xs)
 
 -- padding further and cutting again changes nothing
 take-fit : (n m pad : ℕ) (cs : List ℕ) → n ≤ m → take n (fit m pad (take n cs)) ≡ fit n pad cs
@@ -150,3 +158,4 @@ unfolding loaded stored readBack
 back (Text pad) u n xs h = refl
 back (Digits hex high) u n xs h = ap (λ (r : List ℕ). record { kind = string; items = r }) (digits-back hex high n xs (all-digits hex (take n xs) h))
 back (Integers w big) u n xs h = ap (λ (r : List ℕ). record { kind = integerKind u; items = r }) (integers-back w big u n xs h)
+back (Reals single big) u n xs h = ap (λ (r : List ℕ). record { kind = real; items = r }) (reals-back single big n xs h)

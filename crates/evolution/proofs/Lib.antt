@@ -5,5 +5,6 @@ mod Arguments
 mod Proper
 mod ReadsBack
 mod Calls
+mod Reals
 mod Instance
 mod Examples

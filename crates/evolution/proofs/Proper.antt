@@ -1,5 +1,7 @@
--- What demand 3 reads back is proper: strings are, and an integer that was widened fits eight bytes.
+-- What demand 3 reads back is proper: strings are, and an integer that was widened fits eight bytes, as a double does.
 use Prim.Native.Nat.{ℕ, _+_, _%_, _^_, _≤_, _<_}
+use native.Mathlib.Nat.{mod-lt}
+use native.Mathlib.Omega.{arith}
 use mathlib.Core.Bool.{Bool, true, false}
 use mathlib.Core.List.{List, [], _∷_, map}
 use lib.ListN.{take}
@@ -7,9 +9,12 @@ use lib.Dec.{leb}
 use Rattle.layout.specs.declared.Code.{Code}
 use Rattle.layout.specs.declared.Code.the-variants.{Data, Move}
 use Rattle.layout.specs.declared.Shape.{Shape}
-use Rattle.layout.specs.declared.Shape.the-variants.{Text, Digits, Integers}
+use Rattle.layout.specs.declared.Shape.the-variants.{Text, Digits, Integers, Reals}
 use Rattle.layout.specs.declared.Count.{Count}
 use Rattle.layout.specs.Words.{FitCode}
+use Rattle.real.specs.Narrowing.{singleOf}
+use Rattle.real.specs.Widening.{doubleOf}
+use Rattle.real.proofs.WidenLaws.{double-below}
 use Rattle.layout.specs.Refusals.{if_then_else_}
 use Rattle.record.specs.Table.{Value}
 use Rattle.record.specs.Geometry.{amount, bytesFor}
@@ -24,11 +29,21 @@ all-widened : (w : ℕ) (u : Bool) (xs : List ℕ) → w ≤ 8 → All (λ x. x 
 all-widened w u [] h = tt
 all-widened w u (x ∷ xs) h = (widened-fits w u x h, all-widened w u xs h)
 
+all-cut : (xs : List ℕ) → All (λ x. x < 2 ^ 64) (map (λ x. x % 256 ^ 8) xs)
+all-cut [] = tt
+all-cut (x ∷ xs) = (mod-lt x (omega arith), all-cut xs)
+
+all-doubles : (xs : List ℕ) → All (λ x. x < 2 ^ 64) (map doubleOf (map (λ x. x % 256 ^ 4) xs))
+all-doubles [] = tt
+all-doubles (x ∷ xs) = (double-below (x % 256 ^ 4) (mod-lt x (omega arith)), all-doubles xs)
+
 read-back-proper : (s : Shape) (u : Bool) (n : ℕ) (xs : List ℕ) → FitCode (Data s) → Proper (readBack s u n xs)
 unfolding readBack
 read-back-proper (Text pad) u n xs h e = true-false e
 read-back-proper (Digits hex high) u n xs h e = true-false e
 read-back-proper (Integers w big) u n xs h e = all-widened w u (take n xs) (h .1)
+read-back-proper (Reals true big) u n xs h e = all-doubles (map singleOf (take n xs))
+read-back-proper (Reals false big) u n xs h e = all-cut (take n xs)
 
 chosen : (t : Bool) (v : Value) (vs : List Value) → Proper v → AllProper vs → AllProper (if t then v ∷ vs else vs)
 chosen true v vs h k = (h, k)

@@ -8,16 +8,17 @@ use lib.ListN.{length, getD, take}
 use lib.Dec.{T, leb, eqb}
 use Rattle.layout.specs.declared.Code.the-variants.{Data, Move}
 use Rattle.layout.specs.declared.Shape.{Shape}
-use Rattle.layout.specs.declared.Shape.the-variants.{Text, Digits, Integers}
+use Rattle.layout.specs.declared.Shape.the-variants.{Text, Digits, Integers, Reals}
 use Rattle.layout.specs.declared.Field.{Field}
 use Rattle.layout.specs.Refusals.{if_then_else_, ok}
 use Rattle.layout.specs.Layout.{fieldsOf, slotCount}
+use Rattle.layout.specs.Words.{realSize}
 use Rattle.record.specs.Bytes.{fit}
-use Rattle.record.specs.Table.{string, integerKind, slotsOf, Value, shown, slotWidth, noPosition, valueBytes}
+use Rattle.record.specs.Table.{string, real, integerKind, slotsOf, Value, shown, slotWidth, noPosition, valueBytes}
 use Rattle.record.specs.Slots.{slotAt}
 use Rattle.record.specs.Geometry.{amount, sizesFit}
-use Rattle.record.specs.Packing.{Filled, filled, argumentsFit, accepted, Packed, pack}
-use Rattle.record.specs.Reading.{trimmed, widened, putInto, read, readSteps}
+use Rattle.record.specs.Packing.{patterns, Filled, filled, argumentsFit, accepted, Packed, pack}
+use Rattle.record.specs.Reading.{trimmed, widened, doubles, putInto, read, readSteps}
 use Rattle.runs.specs.Ends.{plainCode, plainCount, fills, endOf, recordOf}
 
 -- ---- a plain layout: no star, no `X`, no `@`, no count of 0
@@ -41,6 +42,10 @@ readBack (Digits hex high) u n xs = record { kind = string; items = map lowered 
 -- integers: n of them, each cut to the bits of its type and read again with its sign (kind 2), or with `u` without one (kind 3)
 readBack (Integers w big) u n xs =
     record { kind = integerKind u; items = map (λ x. widened w u (x % 256 ^ w)) (take n xs) }
+-- reals (02, M-108): n of them, of `r R` each as the double of its nearest single, of `q Q` as it is; kind 4 with `u` too. (Every single is below
+-- 256 ^ 4 and every double below 256 ^ 8, so cutting them to their bits changes none: proofs/Reals.antt.)
+readBack (Reals single big) u n xs =
+    record { kind = real; items = doubles single (map (λ x. x % 256 ^ realSize single) (patterns single (take n xs))) }
 
 -- ---- what a reading of a cut record sets
 
@@ -105,7 +110,7 @@ pub record Layouts : Type 0 where
   pub old-fields : fieldsOf true old ≡ ok fields
   pub new-fields : fieldsOf true new ≡ ok (fields ++ added)
   pub is-plain : T (plain (fields ++ added))
-  -- the arguments are such as the packer takes for the new layout: a slot for each field (no number 5), and each serves its field (no number 6 to 10)
+  -- the arguments are such as the packer takes for the new layout: a slot for each field (no number 5), and each serves its field (no number 6 to 10, nor 16)
   pub slot-for-each : length (slotsOf slots) ≡ slotCount (fields ++ added)
   pub served : argumentsFit area 0 (slotsOf slots) (fields ++ added) ≡ ok tt
   -- both packings keep to the sizes (no number 1), and their results have room (no number 11)

@@ -46,7 +46,7 @@ reverse-replicate (suc k) x = reverse-cons x (replicate k x) ∙ rw (reverse-rep
 pub turned-at : (xs : List ℕ) (n j : ℕ) → j < n → length xs ≡ n → getD (ordered true xs) j 0 ≡ getD xs (n - 1 - j) 0
 turned-at xs n j h e = rw (← e) (getD-reverse xs j (omega arith))
 
-part-bytes : (xs : List ℕ) (start n : ℕ) → ((i : ℕ) → getD xs i 0 < 256) → All (λ d. d < 256) (part xs start n)
+pub part-bytes : (xs : List ℕ) (start n : ℕ) → ((i : ℕ) → getD xs i 0 < 256) → All (λ d. d < 256) (part xs start n)
 part-bytes xs start n small = all-take (λ d. d < 256) n (drop start xs) (all-drop (λ d. d < 256) start xs (all-below xs small))
 
 -- ---- one integer
@@ -115,7 +115,7 @@ runs-same (suc n) f g h = rw (runs-same n f g h, h n)
 
 -- what is made of the pieces of a run, one after the other
 module _ (g : ℕ → List ℕ) (h : List ℕ → ℕ) (k : ℕ) (xs : List ℕ) where
-  joined : (n start : ℕ) → join (map g (map h (pieces k n (drop start xs)))) ≡ runs n (λ i. g (h (part xs (start + i * k) k)))
+  pub joined : (n start : ℕ) → join (map g (map h (pieces k n (drop start xs)))) ≡ runs n (λ i. g (h (part xs (start + i * k) k)))
   unfolding join pieces runs
   joined zero start = refl
   joined (suc n) start =
@@ -125,7 +125,7 @@ module _ (g : ℕ → List ℕ) (h : List ℕ → ℕ) (k : ℕ) (xs : List ℕ)
       rw (drop-drop k start xs, joined n (start + k), runs-same n _ _ next)
       (sym (runs-first n (λ i. g (h (part xs (start + i * k) k))) ∙ rw here))
 
-pieces-take : (k n : ℕ) (xs : List ℕ) → pieces k n (take (n * k) xs) ≡ pieces k n xs
+pub pieces-take : (k n : ℕ) (xs : List ℕ) → pieces k n (take (n * k) xs) ≡ pieces k n xs
 unfolding pieces
 pieces-take k zero xs = refl
 pieces-take k (suc n) xs =

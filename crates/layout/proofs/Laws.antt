@@ -87,9 +87,13 @@ sound-type c =
     (fit-either (eqb c 73) _ _ (omega arith, omega arith)
     (fit-either (eqb c 119) _ _ (omega arith, omega arith)
     (fit-either (eqb c 87) _ _ (omega arith, omega arith)
+    (fit-either (eqb c 114) _ _ tt
+    (fit-either (eqb c 82) _ _ tt
+    (fit-either (eqb c 113) _ _ tt
+    (fit-either (eqb c 81) _ _ tt
     (fit-either (eqb c 120) _ _ tt
     (fit-either (eqb c 88) _ _ tt
-    (fit-either (eqb c 64) _ _ tt tt)))))))))))))))
+    (fit-either (eqb c 64) _ _ tt tt)))))))))))))))))))
 
 abbrev pub AllSound : List Field → Type 0
 AllSound [] = Unit {0}

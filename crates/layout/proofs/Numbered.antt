@@ -12,13 +12,13 @@ use Rattle.layout.specs.declared.Code.{Code}
 use Rattle.layout.specs.declared.Code.the-variants.{Data, Move}
 use Rattle.layout.specs.declared.Motion.the-variants.{Skip, Back, Goto}
 use Rattle.layout.specs.declared.Shape.{Shape}
-use Rattle.layout.specs.declared.Shape.the-variants.{Text, Digits, Integers}
+use Rattle.layout.specs.declared.Shape.the-variants.{Text, Digits, Integers, Reals}
 use Rattle.layout.specs.declared.Count.{Count}
 use Rattle.layout.specs.declared.Typed.{Typed}
 use Rattle.layout.specs.declared.Typed.the-variants.{Known, Unknown}
 use Rattle.layout.specs.Refusals.{if_then_else_}
 use Rattle.layout.specs.Layout.{takesSlot, hasMeaning}
-use Rattle.layout.specs.Words.{lastText, lastBinary, lastDigits, lastData, skipNumber, backNumber, gotoNumber, lastType, widthNumbered, typeNumbered, known, shapeOf, shapeNumbered, FitCode}
+use Rattle.layout.specs.Words.{lastText, lastBinary, lastDigits, lastIntegers, lastSingle, lastData, skipNumber, backNumber, gotoNumber, lastType, widthNumbered, realSize, sizeNumbered, typeNumbered, known, shapeOf, shapeNumbered, FitCode}
 use Rattle.layout.proofs.Steps.{type-fits, known-fits}
 
 -- ---- each form by its numbers
@@ -31,9 +31,16 @@ digits-code : (d : ℕ) → lastText < d → d ≤ lastDigits → known (typeNum
 unfolding typeNumbered
 digits-code d l h = rw (lt-leb d lastText l, le-leb d lastDigits h)
 
-integers-code : (d : ℕ) → lastDigits < d → d ≤ lastData → known (typeNumbered d) ≡ Data (Integers (widthNumbered d) (eqb (d % 2) 1))
+integers-code : (d : ℕ) → lastDigits < d → d ≤ lastIntegers → known (typeNumbered d) ≡ Data (Integers (widthNumbered d) (eqb (d % 2) 1))
 unfolding typeNumbered
-integers-code d l h = let k : lastText < d = omega arith in rw (lt-leb d lastText k, lt-leb d lastDigits l, le-leb d lastData h)
+integers-code d l h = let k : lastText < d = omega arith in rw (lt-leb d lastText k, lt-leb d lastDigits l, le-leb d lastIntegers h)
+
+reals-code : (d : ℕ) → lastIntegers < d → d ≤ lastData → known (typeNumbered d) ≡ Data (Reals (leb d lastSingle) (eqb (d % 2) 1))
+unfolding typeNumbered
+reals-code d l h =
+    let text : lastText < d = omega arith in
+    let digits : lastDigits < d = omega arith in
+    rw (lt-leb d lastText text, lt-leb d lastDigits digits, lt-leb d lastIntegers l, le-leb d lastData h)
 
 pub shape-text : (d : ℕ) → d ≤ lastText → shapeNumbered d ≡ Text (32 * d)
 unfolding shapeNumbered
@@ -49,9 +56,13 @@ shape-binary d l h = let e = shape-digits d l (omega arith) in rw (le-ltb lastBi
 pub shape-hex : (d : ℕ) → lastBinary < d → d ≤ lastDigits → shapeNumbered d ≡ Digits true (eqb (d % 2) 1)
 shape-hex d l h = let e = shape-digits d (omega arith) h in rw (lt-ltb lastBinary d l) at e
 
-pub shape-integers : (d : ℕ) → lastDigits < d → d ≤ lastData → shapeNumbered d ≡ Integers (widthNumbered d) (eqb (d % 2) 1)
+pub shape-integers : (d : ℕ) → lastDigits < d → d ≤ lastIntegers → shapeNumbered d ≡ Integers (widthNumbered d) (eqb (d % 2) 1)
 unfolding shapeNumbered
 shape-integers d l h = ap shapeOf (integers-code d l h)
+
+pub shape-reals : (d : ℕ) → lastIntegers < d → d ≤ lastData → shapeNumbered d ≡ Reals (leb d lastSingle) (eqb (d % 2) 1)
+unfolding shapeNumbered
+shape-reals d l h = ap shapeOf (reals-code d l h)
 
 pub shape-kept : (d : ℕ) → d ≡ 0 → shapeNumbered d ≡ Text 0
 unfolding shapeNumbered typeNumbered
@@ -63,25 +74,29 @@ shape-trimmed d e = ap shapeNumbered e
 
 -- ---- what takes a slot, and what moves the cursor
 
+abbrev oneOf : Bool → Bool → Bool → Shape → Shape → Shape → Shape → Typed
+oneOf text digits integers r s t v = if text then Known (Data r) else if digits then Known (Data s) else if integers then Known (Data t) else Known (Data v)
+
 pub data-code : (d : ℕ) → d ≤ lastData → known (typeNumbered d) ≡ Data (shapeNumbered d)
 unfolding typeNumbered shapeNumbered
-data-code d h = rw (le-leb d lastData h) (shapes (leb d lastText) (leb d lastDigits) _ _ _)
+data-code d h = rw (le-leb d lastData h) (shapes (leb d lastText) (leb d lastDigits) (leb d lastIntegers) _ _ _ _)
   where
-    shapes : (text digits : Bool) (r s t : Shape)
-        → known (if text then Known (Data r) else if digits then Known (Data s) else Known (Data t)) ≡ Data (shapeOf (known (if text then Known (Data r) else if digits then Known (Data s) else Known (Data t))))
-    shapes true digits r s t = refl
-    shapes false true r s t = refl
-    shapes false false r s t = refl
+    shapes : (text digits integers : Bool) (r s t v : Shape) → known (oneOf text digits integers r s t v) ≡ Data (shapeOf (known (oneOf text digits integers r s t v)))
+    shapes true digits integers r s t v = refl
+    shapes false true integers r s t v = refl
+    shapes false false true r s t v = refl
+    shapes false false false r s t v = refl
 
-abbrev moving : Bool → Bool → Bool → Typed
+abbrev pub moving : Bool → Bool → Bool → Typed
 moving skip back goto = if skip then Known (Move Skip) else if back then Known (Move Back) else if goto then Known (Move Goto) else Unknown
 
-move-type : (d : ℕ) → lastData < d → typeNumbered d ≡ moving (eqb d skipNumber) (eqb d backNumber) (eqb d gotoNumber)
+pub move-type : (d : ℕ) → lastData < d → typeNumbered d ≡ moving (eqb d skipNumber) (eqb d backNumber) (eqb d gotoNumber)
 unfolding typeNumbered
 move-type d h =
     let text : lastText < d = omega arith in
     let digits : lastDigits < d = omega arith in
-    rw (lt-leb d lastText text, lt-leb d lastDigits digits, lt-leb d lastData h)
+    let integers : lastIntegers < d = omega arith in
+    rw (lt-leb d lastText text, lt-leb d lastDigits digits, lt-leb d lastIntegers integers, lt-leb d lastData h)
 
 pub move-code : (d : ℕ) → lastData < d → takesSlot (known (typeNumbered d)) ≡ false
 move-code d h = rw (move-type d h) (moves (eqb d skipNumber) (eqb d backNumber) (eqb d gotoNumber))
@@ -123,9 +138,9 @@ module _ (packing : Bool) (d : ℕ) (n : Count) where
 pub past : {d k : ℕ} → k ≤ d → (d ≡ k → ⊥) → suc k ≤ d
 past h n = omega arith
 
--- ---- the bytes of an integer
+-- ---- the bytes of an integer or a real
 
-power : (d k : ℕ) → lastDigits < d → d ≤ lastData → d / 2 - 3 ≡ k → 2 ^ k ≡ widthNumbered d
+power : (d k : ℕ) → lastDigits < d → d ≤ lastIntegers → d / 2 - 3 ≡ k → 2 ^ k ≡ widthNumbered d
 power d zero l h e = let t : d < 8 = omega arith in rw (lt-ltb d 8 t)
 power d (suc zero) l h e =
     let s : 8 ≤ d = omega arith in
@@ -143,8 +158,14 @@ power d (suc (suc (suc zero))) l h e =
     rw (le-ltb d 8 r, le-ltb d 10 s, le-ltb d 12 t)
 power d (suc (suc (suc (suc k)))) l h e = absurd (omega arith)
 
-pub width-power : (d : ℕ) → lastDigits < d → d ≤ lastData → 2 ^ (d / 2 - 3) ≡ widthNumbered d
-width-power d l h = power d (d / 2 - 3) l h refl
+pub integer-power : (d : ℕ) → lastDigits < d → d ≤ lastIntegers → 2 ^ (d / 2 - 3) ≡ sizeNumbered d
+integer-power d l h = rw (le-leb d lastIntegers h) (power d (d / 2 - 3) l h refl)
+
+pub real-power : (d : ℕ) → lastIntegers < d → d ≤ lastData → 2 ^ (d / 2 - 5) ≡ sizeNumbered d
+real-power d l h = rw (lt-leb d lastIntegers l) (elim (decLe d lastSingle) [
+  | yes k ↦ (let e : d / 2 - 5 ≡ 2 = omega arith in rw (le-leb d lastSingle k, e))
+  | no k ↦ (let m : lastSingle < d = lt-of-not-le k in let e : d / 2 - 5 ≡ 3 = omega arith in rw (lt-leb d lastSingle m, e))
+])
 
 pub shape-fits : (d : ℕ) → d ≤ lastData → FitCode (Data (shapeNumbered d))
 shape-fits d h = let f : FitCode (known (typeNumbered d)) = known-fits (typeNumbered d) (type-fits d) in rw (data-code d h) at f

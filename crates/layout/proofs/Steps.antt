@@ -24,7 +24,7 @@ use Rattle.layout.specs.Refusals.{if_then_else_, refused}
 use Rattle.layout.specs.Layout.{maxCount, isDecimal, digitRun, decimal, typeOf, flagged, countOf, countLength, inLimit, hasMeaning, toNat, takesSlot, field, bad, fieldAfter, fieldAt, stepOf}
 use Rattle.layout.proofs.Laws.{FitType, fit-either, decimal-held}
 use Rattle.layout.specs.declared.Found.the-variants.{Item, Bad}
-use Rattle.layout.specs.Words.{lastText, lastDigits, lastData, skipNumber, backNumber, gotoNumber, lastType, typeNumbered, countFrom, known, HasType, fieldOf, wordOf, overCount, heldNumber, NumberAt, CountAt, TailAt, FitCode, FitCount, FieldOf, FoundAs, flagUnit, countUnit}
+use Rattle.layout.specs.Words.{lastText, lastDigits, lastIntegers, lastData, skipNumber, backNumber, gotoNumber, lastType, typeNumbered, countFrom, known, HasType, fieldOf, wordOf, overCount, heldNumber, NumberAt, CountAt, TailAt, FitCode, FitCount, FieldOf, FoundAs, flagUnit, countUnit}
 
 -- ---- a decimal number from the place i on
 
@@ -159,10 +159,11 @@ unfolding typeNumbered
 type-fits k =
     fit-either (leb k lastText) _ _ tt
     (fit-either (leb k lastDigits) _ _ tt
-    (fit-either (leb k lastData) _ _ (width-fits (ltb k 8) (ltb k 10) (ltb k 12))
+    (fit-either (leb k lastIntegers) _ _ (width-fits (ltb k 8) (ltb k 10) (ltb k 12))
+    (fit-either (leb k lastData) _ _ tt
     (fit-either (eqb k skipNumber) _ _ tt
     (fit-either (eqb k backNumber) _ _ tt
-    (fit-either (eqb k gotoNumber) _ _ tt tt)))))
+    (fit-either (eqb k gotoNumber) _ _ tt tt))))))
 
 pub known-fits : (t : Typed) → FitType t → FitCode (known t)
 known-fits (Known k) h = h

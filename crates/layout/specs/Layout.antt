@@ -8,7 +8,7 @@ use lib.Dec.{eqb, leb}
 use Rattle.layout.specs.declared.Code.{Code}
 use Rattle.layout.specs.declared.Code.the-variants.{Data, Move}
 use Rattle.layout.specs.declared.Motion.the-variants.{Skip, Back, Goto}
-use Rattle.layout.specs.declared.Shape.the-variants.{Text, Digits, Integers}
+use Rattle.layout.specs.declared.Shape.the-variants.{Text, Digits, Integers, Reals}
 use Rattle.layout.specs.declared.Count.{Count}
 use Rattle.layout.specs.declared.Count.the-variants.{Absent, Star, Times}
 use Rattle.layout.specs.declared.Field.{Field}
@@ -30,7 +30,8 @@ maxCount = 32768
 
 -- ---- the type characters (01, What the work covers)
 
--- the pad of a text; hex or binary digits, high or low digit first; an integer's bytes, big- or little-endian
+-- the pad of a text; hex or binary digits, high or low digit first; an integer's bytes, big- or little-endian; a real as a single or a double, big- or
+-- little-endian (02, M-108)
 unfoldable pub typeOf : ℕ → Typed
 typeOf c =
     if eqb c 97 then Known (Data (Text 0))  -- a
@@ -46,6 +47,10 @@ typeOf c =
     else if eqb c 73 then Known (Data (Integers 4 true))  -- I
     else if eqb c 119 then Known (Data (Integers 8 false))  -- w
     else if eqb c 87 then Known (Data (Integers 8 true))  -- W
+    else if eqb c 114 then Known (Data (Reals true false))  -- r
+    else if eqb c 82 then Known (Data (Reals true true))  -- R
+    else if eqb c 113 then Known (Data (Reals false false))  -- q
+    else if eqb c 81 then Known (Data (Reals false true))  -- Q
     else if eqb c 120 then Known (Move Skip)  -- x
     else if eqb c 88 then Known (Move Back)  -- X
     else if eqb c 64 then Known (Move Goto)  -- @

@@ -3,7 +3,7 @@
 use Prim.Native.Nat.{ℕ, suc}
 use mathlib.Core.Bool.{Bool, true, false}
 use Rattle.layout.specs.declared.Refusal.{Refusal}
-use Rattle.layout.specs.declared.Refusal.the-variants.{BadSize, UnknownType, CountTooLarge, CountMisused, WrongSlots, NotSet, BadSlot, WrongKind, WrongAmount, BadDigit, NoRoom, BadSheet, BadVersion, BadMark, BadTemplate}
+use Rattle.layout.specs.declared.Refusal.the-variants.{BadSize, UnknownType, CountTooLarge, CountMisused, WrongSlots, NotSet, BadSlot, WrongKind, WrongAmount, BadDigit, NoRoom, BadSheet, BadVersion, BadMark, BadTemplate, BadReal}
 
 infixr 10 if_then_else_
 abbrev pub if_then_else_ {ℓ} : {A : Type ℓ} → Bool → A → A → A
@@ -27,6 +27,7 @@ lineOf BadSheet = 11
 lineOf BadVersion = 12
 lineOf BadMark = 13
 lineOf BadTemplate = 14
+lineOf BadReal = 15
 
 -- its number: 0 is that of an accepted call, so the first line has 1
 abbrev pub numberOf : Refusal → ℕ

@@ -2,7 +2,7 @@
 -- (01, Layout text).
 use Prim.Native.Nat.{ℕ, zero, suc, _+_, _*_, _/_, _%_, _^_, _≤_, _<_, min}
 use mathlib.Core.Path.{_≡_}
-use mathlib.Core.Bool.{Bool}
+use mathlib.Core.Bool.{Bool, true, false}
 use mathlib.Core.List.{List, map}
 use lib.ListN.{length, take, drop, getD}
 use lib.Dec.{eqb, leb, ltb}
@@ -10,7 +10,7 @@ use Rattle.layout.specs.declared.Code.{Code}
 use Rattle.layout.specs.declared.Code.the-variants.{Data, Move}
 use Rattle.layout.specs.declared.Motion.the-variants.{Skip, Back, Goto}
 use Rattle.layout.specs.declared.Shape.{Shape}
-use Rattle.layout.specs.declared.Shape.the-variants.{Text, Digits, Integers}
+use Rattle.layout.specs.declared.Shape.the-variants.{Text, Digits, Integers, Reals}
 use Rattle.layout.specs.declared.Count.{Count}
 use Rattle.layout.specs.declared.Count.the-variants.{Absent, Star, Times}
 use Rattle.layout.specs.declared.Field.{Field}
@@ -23,8 +23,8 @@ use Rattle.layout.specs.declared.Found.the-variants.{Item, Bad}
 use Rattle.layout.specs.Refusals.{if_then_else_, Result, ok, refused}
 use Rattle.layout.specs.Layout.{maxLayout, maxCount, toNat, takesSlot, flagged, digitRun, decimal, countOf, countLength, Step, field, bad, stepOf, fieldsFrom, slotCount}
 
--- ---- the types by number: texts, then digits, then integers, each up to its last number, take a slot; the moves stand behind a gap that has room
--- for further types
+-- ---- the types by number: texts, then digits, then integers, then reals, each up to its last number, take a slot; the moves stand behind a gap that
+-- has room for further types
 
 abbrev pub lastText : ℕ
 lastText = 1
@@ -35,8 +35,14 @@ lastBinary = 3
 abbrev pub lastDigits : ℕ
 lastDigits = 5
 
+abbrev pub lastIntegers : ℕ
+lastIntegers = 13
+
+abbrev pub lastSingle : ℕ
+lastSingle = 15
+
 abbrev pub lastData : ℕ
-lastData = 13
+lastData = 17
 
 abbrev pub skipNumber : ℕ
 skipNumber = 24
@@ -54,11 +60,21 @@ lastType = gotoNumber
 abbrev pub widthNumbered : ℕ → ℕ
 widthNumbered k = if ltb k 8 then 1 else if ltb k 10 then 2 else if ltb k 12 then 4 else 8
 
+-- the bytes of a real: a single or a double
+abbrev pub realSize : Bool → ℕ
+realSize true = 4
+realSize false = 8
+
+-- the bytes of an item, where all items have as many: an integer or a real
+abbrev pub sizeNumbered : ℕ → ℕ
+sizeNumbered k = if leb k lastIntegers then widthNumbered k else realSize (leb k lastSingle)
+
 unfoldable pub typeNumbered : ℕ → Typed
 typeNumbered k =
     if leb k lastText then Known (Data (Text (32 * k)))
     else if leb k lastDigits then Known (Data (Digits (ltb lastBinary k) (eqb (k % 2) 1)))
-    else if leb k lastData then Known (Data (Integers (widthNumbered k) (eqb (k % 2) 1)))
+    else if leb k lastIntegers then Known (Data (Integers (widthNumbered k) (eqb (k % 2) 1)))
+    else if leb k lastData then Known (Data (Reals (leb k lastSingle) (eqb (k % 2) 1)))
     else if eqb k skipNumber then Known (Move Skip)
     else if eqb k backNumber then Known (Move Back)
     else if eqb k gotoNumber then Known (Move Goto)
@@ -106,6 +122,7 @@ abbrev pub FitCode : Code → Type 0
 FitCode (Data (Text pad)) = Unit {0}
 FitCode (Data (Digits hex high)) = Unit {0}
 FitCode (Data (Integers w big)) = (0 < w) × (w ≤ 8)
+FitCode (Data (Reals single big)) = Unit {0}
 FitCode (Move m) = Unit {0}
 
 abbrev pub FitCount : Count → Type 0

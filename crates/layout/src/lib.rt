@@ -4,7 +4,7 @@ ghost use mathlib.Core.Path.{_≡_};
 ghost use Prim.Native.Nat.{_+_, _-_, _*_, _^_, _≤_, _<_, min};
 ghost use lib.ListN.{length, getD};
 ghost use Rattle.layout.specs.Layout.{maxLayout, typeOf, hasMeaning, toNat, fieldsOf};
-ghost use Rattle.layout.specs.Words.{lastDigits, lastData, overCount, HasType, typeNumbered, widthNumbered, countFrom, known, FieldOf, SlotsIn, SpacesEnd, NumberAt, CountAt, TailAt, FoundAs, Parses};
+ghost use Rattle.layout.specs.Words.{lastDigits, lastData, overCount, HasType, typeNumbered, widthNumbered, sizeNumbered, countFrom, known, FieldOf, SlotsIn, SpacesEnd, NumberAt, CountAt, TailAt, FoundAs, Parses};
 
 // The limits of a layout and of a count (01, Slot tables, sizes). A field has a byte at least, so that so many words hold the fields of a layout.
 pub const MAX_LAYOUT: usize = 256;
@@ -16,7 +16,7 @@ const OVER_COUNT: u32 = MAX_COUNT + 1;
 
 const LAST_COUNT: u32 = MAX_COUNT + 2;
 
-// The types by number: texts come first, then digits, then integers, each up to its last number, and these take a slot.
+// The types by number: texts come first, then digits, then integers, then reals, each up to its last number, and these take a slot.
 // The moves stand behind a gap that has room for further types.
 pub const LAST_TEXT: u32 = 1;
 
@@ -24,7 +24,11 @@ pub const LAST_BINARY: u32 = 3;
 
 pub const LAST_DIGITS: u32 = 5;
 
-pub const LAST_DATA: u32 = 13;
+pub const LAST_INTEGERS: u32 = 13;
+
+pub const LAST_SINGLE: u32 = 15;
+
+pub const LAST_DATA: u32 = 17;
 
 const SKIP: u32 = 24;
 
@@ -47,6 +51,8 @@ pub enum Shape {
     Digits(bool, bool),
     // c s S i I w W: integers; the bytes of each, and whether the highest stands first
     Integers(usize, bool),
+    // r R q Q: reals; whether singles or doubles, and whether the highest byte stands first
+    Reals(bool, bool),
 }
 
 // x X @: what moves the cursor and takes no slot.
@@ -79,6 +85,7 @@ pub enum Refusal {
     BadVersion,
     BadMark,
     BadTemplate,
+    BadReal,
 }
 
 pub enum Count {
@@ -135,6 +142,8 @@ fn letter(n: u8) -> u8
         2 => 3,
         8 => 5,
         9 => 11,
+        17 => 17,
+        18 => 15,
         19 => 9,
         23 => 13,
         24 => 25,
@@ -143,6 +152,8 @@ fn letter(n: u8) -> u8
         35 => 6,
         40 => 4,
         41 => 10,
+        49 => 16,
+        50 => 14,
         51 => 8,
         55 => 12,
         56 => 24,
@@ -171,12 +182,16 @@ fn width(k: u32) -> usize
     if k < 12 { 4 } else { 8 }
 }
 
-// The bytes of an integer of type d, as a power of two.
+// The bytes of an item of type d, an integer or a real, as a power of two.
 pub fn width_power(d: u32) -> u32
     requires { ⌜ (lastDigits < d) × (d ≤ lastData) ⌝ }
-    ensures { λ r. ⌜ (2 ^ r ≡ widthNumbered d) × (r ≤ 3) ⌝ }
+    ensures { λ r. ⌜ (2 ^ r ≡ sizeNumbered d) × (r ≤ 3) ⌝ }
 {
-    d / 2 - 3
+    if d <= LAST_INTEGERS {
+        d / 2 - 3
+    } else {
+        d / 2 - 5
+    }
 }
 
 fn type_numbered(k: u32) -> Typed
@@ -188,8 +203,11 @@ fn type_numbered(k: u32) -> Typed
     if k <= LAST_DIGITS {
         return Typed::Known(Code::Data(Shape::Digits(LAST_BINARY < k, k % 2 == 1)));
     }
-    if k <= LAST_DATA {
+    if k <= LAST_INTEGERS {
         return Typed::Known(Code::Data(Shape::Integers(width(k), k % 2 == 1)));
+    }
+    if k <= LAST_DATA {
+        return Typed::Known(Code::Data(Shape::Reals(k <= LAST_SINGLE, k % 2 == 1)));
     }
     if k == SKIP {
         return Typed::Known(Code::Move(Motion::Skip));

@@ -11,7 +11,7 @@ use borrow.Author.Tests.{lt-leb, le-leb, lt-ltb, le-ltb, eq-eqb}
 use lib.Dec.{T, leb, eqb, eqb→eq}
 use Rattle.layout.specs.declared.Code.the-variants.{Data}
 use Rattle.layout.specs.declared.Shape.{Shape}
-use Rattle.layout.specs.declared.Shape.the-variants.{Text, Digits, Integers}
+use Rattle.layout.specs.declared.Shape.the-variants.{Text, Digits, Integers, Reals}
 use Rattle.layout.specs.declared.Count.{Count}
 use Rattle.layout.specs.declared.Count.the-variants.{Absent, Star, Times}
 use Rattle.layout.specs.Refusals.{if_then_else_, ok}
@@ -20,7 +20,7 @@ use Rattle.record.specs.Bytes.{fit, ceilDiv, pieces, join, digits, number, orde
 use Rattle.record.specs.declared.slots.Slot.{Slot}
 use Rattle.record.specs.Table.{maxKind, integerSize, Value, integerBytes, areaBytes, shown}
 use Rattle.record.specs.Geometry.{amount, base, perByte, bytesFor}
-use Rattle.record.specs.Packing.{stored, lowBytes, digitBytes, digitValue, allDigits, kindFits, enough, amountFits, digitsFit, insideArea, argumentFits}
+use Rattle.record.specs.Packing.{stored, lowBytes, digitBytes, digitValue, allDigits, kindFits, enough, amountFits, digitsFit, realsFit, insideArea, argumentFits}
 use Rattle.record.specs.Reading.{loaded, widened, digitChar}
 use Rattle.record.proofs.Fields.{split, item}
 use Rattle.record.proofs.Bytes.{All, all-take, all-drop, all-append, all-ordered, length-digits, length-ordered, ordered-ordered, number-digits, length-join, pieces-join, length-pieces, join-pieces}
@@ -186,16 +186,20 @@ module _ (hex high : Bool) (n : ℕ) (bs : List ℕ) (whole : T (showsAll (Digit
 
 pub again : (s : Shape) (u : Bool) (n : ℕ) (bs : List ℕ) → T (showsAll s n) → FitCode (Data s) → length bs ≡ bytesFor s n → All Byte bs
     → stored s n (loaded s u n bs .items) ≡ bs
-unfolding stored loaded chars
+unfolding stored loaded widened chars
 again (Text pad) u n bs h k len all = rw (eqb→eq pad 0 h) (fit-all n 0 bs len)
 again (Digits hex high) u n bs h k len all = digits-again hex high n bs h len all
 again (Integers w big) u n bs h k len all = integers-again w big u n bs len (k .1) all
+again (Reals true big) u n bs h k len all = absurd h
+again (Reals false big) u n bs h k len all = integers-again 8 big true n bs len (omega arith) all
 
 pub length-items : (s : Shape) (u : Bool) (n : ℕ) (bs : List ℕ) → T (showsAll s n) → length bs ≡ bytesFor s n → length (loaded s u n bs .items) ≡ n
 unfolding loaded chars
 length-items (Text pad) u n bs h len = rw (eqb→eq pad 0 h) len
 length-items (Digits hex high) u n bs h len = ap length (all-chars hex high n bs h len) ∙ length-chars hex high n bs h len
 length-items (Integers w big) u n bs h len = length-map (pieces w n bs) _ ∙ length-pieces w n bs
+length-items (Reals true big) u n bs h len = absurd h
+length-items (Reals false big) u n bs h len = length-map (pieces 8 n bs) _ ∙ length-pieces 8 n bs
 
 -- integers fit eight bytes
 integers-proper : (w : ℕ) (big u : Bool) (n : ℕ) (bs : List ℕ) → length bs ≡ n * w → w ≤ 8 → All Byte bs
@@ -209,11 +213,13 @@ integers-proper w big u (suc n) bs len small all =
     let low : number 256 p < 256 ^ w = rw long at (number-below 256 p (all-ordered Byte big (take w bs) (all-take Byte w bs all))) in
     (rw (mod-eq-of-lt low) at (widened-fits w u (number 256 p) small), integers-proper w big u n (drop w bs) (length-drop w bs ∙ (omega arith)) small (all-drop Byte w bs all))
 
-pub loaded-proper : (s : Shape) (u : Bool) (n : ℕ) (bs : List ℕ) → FitCode (Data s) → length bs ≡ bytesFor s n → All Byte bs → Proper (loaded s u n bs)
-unfolding loaded
-loaded-proper (Text pad) u n bs k len all e = true-false e
-loaded-proper (Digits hex high) u n bs k len all e = true-false e
-loaded-proper (Integers w big) u n bs k len all e = integers-proper w big u n bs len (k .1) all
+pub loaded-proper : (s : Shape) (u : Bool) (n : ℕ) (bs : List ℕ) → T (showsAll s n) → FitCode (Data s) → length bs ≡ bytesFor s n → All Byte bs → Proper (loaded s u n bs)
+unfolding loaded widened
+loaded-proper (Text pad) u n bs h k len all e = true-false e
+loaded-proper (Digits hex high) u n bs h k len all e = true-false e
+loaded-proper (Integers w big) u n bs h k len all e = integers-proper w big u n bs len (k .1) all
+loaded-proper (Reals true big) u n bs h k len all e = absurd h
+loaded-proper (Reals false big) u n bs h k len all e = integers-proper 8 big true n bs len (omega arith) all
 
 -- ---- what was loaded serves its field
 
@@ -226,9 +232,9 @@ enough-all Star have h e = absurd h
 enough-all (Times n) have h e = le-leb n have (omega arith)
 
 passes : (area : List ℕ) (s : Shape) (n : Count) (i : ℕ) (a : Slot) → not (eqb (a .kind) 0) ≡ true → (leb (a .kind) maxKind && insideArea area a) ≡ true → kindFits s (a .kind) ≡ true
-    → amountFits s n (a .len) ≡ true → digitsFit s (amount n (a .len)) (shown area a .items) ≡ true → argumentFits area s n i a ≡ ok tt
+    → amountFits s n (a .len) ≡ true → digitsFit s (amount n (a .len)) (shown area a .items) ≡ true → realsFit s (amount n (a .len)) (shown area a .items) ≡ true → argumentFits area s n i a ≡ ok tt
 unfolding argumentFits
-passes area s n i a set inside kind count digit = rw (set, inside, kind, count, digit)
+passes area s n i a set inside kind count digit real = rw (set, inside, kind, count, digit, real)
 
 module _ (area : List ℕ) (start position i : ℕ) (n : Count) (plain : T (plainCount n)) (same : (all : ℕ) → amount n all ≡ amount n 0) where
   abbrev slotFor : Value → Slot
@@ -246,14 +252,18 @@ module _ (area : List ℕ) (start position i : ℕ) (n : Count) (plain : T (plai
       → start + length (areaBytes (loaded s u (amount n 0) bs)) ≤ length area
       → shown area (slotFor (loaded s u (amount n 0) bs)) ≡ loaded s u (amount n 0) bs
       → argumentFits area s n i (slotFor (loaded s u (amount n 0) bs)) ≡ ok tt
-  unfolding loaded digitsFit chars
-  serves (Text pad) u bs h len room e = passes area (Text pad) n i (slotFor (loaded (Text pad) u (amount n 0) bs)) refl (inside (loaded (Text pad) u (amount n 0) bs) room) refl refl refl
+  unfolding loaded digitsFit realsFit chars
+  serves (Text pad) u bs h len room e = passes area (Text pad) n i (slotFor (loaded (Text pad) u (amount n 0) bs)) refl (inside (loaded (Text pad) u (amount n 0) bs) room) refl refl refl refl
   serves (Digits hex high) u bs h len room e =
       passes area (Digits hex high) n i (slotFor (loaded (Digits hex high) u (amount n 0) bs)) refl (inside (loaded (Digits hex high) u (amount n 0) bs) room) refl refl
-      (rw (e, same (length (loaded (Digits hex high) u (amount n 0) bs .items))) (T→true _ (served-digits hex high (amount n 0) bs h len)))
+      (rw (e, same (length (loaded (Digits hex high) u (amount n 0) bs .items))) (T→true _ (served-digits hex high (amount n 0) bs h len))) refl
   serves (Integers w big) true bs h len room e =
       passes area (Integers w big) n i (slotFor (loaded (Integers w big) true (amount n 0) bs)) refl (inside (loaded (Integers w big) true (amount n 0) bs) room) refl
-      (enough-all n _ plain (length-items (Integers w big) true (amount n 0) bs h len)) refl
+      (enough-all n _ plain (length-items (Integers w big) true (amount n 0) bs h len)) refl refl
   serves (Integers w big) false bs h len room e =
       passes area (Integers w big) n i (slotFor (loaded (Integers w big) false (amount n 0) bs)) refl (inside (loaded (Integers w big) false (amount n 0) bs) room) refl
-      (enough-all n _ plain (length-items (Integers w big) false (amount n 0) bs h len)) refl
+      (enough-all n _ plain (length-items (Integers w big) false (amount n 0) bs h len)) refl refl
+  serves (Reals true big) u bs h len room e = absurd h
+  serves (Reals false big) u bs h len room e =
+      passes area (Reals false big) n i (slotFor (loaded (Reals false big) u (amount n 0) bs)) refl (inside (loaded (Reals false big) u (amount n 0) bs) room) refl
+      (enough-all n _ plain (length-items (Reals false big) u (amount n 0) bs h len)) refl refl

@@ -109,7 +109,7 @@ module _ (bs : List ℕ) (are-bytes : All Byte bs) where
       own-bytes = all-take Byte need (drop at bs) (all-drop Byte at bs are-bytes)
 
       is-proper : Proper value
-      is-proper = loaded-proper s u (amount n 0) (part bs at need) (h .1) long own-bytes
+      is-proper = loaded-proper s u (amount n 0) (part bs at need) (h .0) (h .1) long own-bytes
 
       restores-more : restored (made (Data s) u n ∷ fs) (value ∷ vs) ≡ drop at bs
       unfolding restored bytesOf

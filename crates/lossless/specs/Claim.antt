@@ -2,14 +2,14 @@
 -- Each part names the words of the request that it states. The proof is in proofs/LosesNothing.antt.
 use Prim.Native.Nat.{ℕ, _+_, _%_, _≤_}
 use mathlib.Core.Path.{_≡_}
-use mathlib.Core.Bool.{Bool, true, false, _&&_}
+use mathlib.Core.Bool.{Bool, true, false, _&&_, not}
 use mathlib.Core.List.{List, [], _∷_, _++_, map}
 use lib.ListN.{length, drop}
 use lib.Dec.{T, leb, ltb, eqb}
 use Rattle.layout.specs.declared.Code.{Code}
 use Rattle.layout.specs.declared.Code.the-variants.{Data, Move}
 use Rattle.layout.specs.declared.Shape.{Shape}
-use Rattle.layout.specs.declared.Shape.the-variants.{Text, Digits, Integers}
+use Rattle.layout.specs.declared.Shape.the-variants.{Text, Digits, Integers, Reals}
 use Rattle.layout.specs.declared.Count.{Count}
 use Rattle.layout.specs.declared.Field.{Field}
 use Rattle.layout.specs.Refusals.{ok}
@@ -28,6 +28,7 @@ showsAll (Text pad) n = eqb pad 0  -- `a`
 showsAll (Digits false high) n = eqb (n % 8) 0  -- `b B`
 showsAll (Digits true high) n = eqb (n % 2) 0  -- `h H`
 showsAll (Integers w big) n = true  -- `c s S i I w W`
+showsAll (Reals single big) n = not single  -- `q Q` (02, M-108); of `r R` an infinity is shown but not stored
 
 -- `x X @` show nothing
 abbrev pub losslessCode : Code → Count → Bool

@@ -2,7 +2,7 @@
 use Prim.Native.Nat.{ℕ, _+_, _*_, _≤_}
 use native.Mathlib.Omega.{arith}
 use mathlib.Core.Path.{_≡_, refl, sym, ap, _∙_}
-use mathlib.Core.Bool.{Bool, true, false, not}
+use mathlib.Core.Bool.{Bool, true, false}
 use mathlib.Core.List.{List}
 use borrow.Author.Tests.{leb-true, eqb-true}
 use lib.Dec.{eqb, leb}
@@ -13,9 +13,10 @@ use Rattle.layout.specs.Refusals.{if_then_else_, Result, ok, refused, _>>=_, de
 use Rattle.layout.proofs.Laws.{demanded, ok-inj}
 use Rattle.record.specs.Bytes.{pieces, bigEndianIn, numberAt}
 use Rattle.record.specs.declared.slots.Slot.{Slot}
-use Rattle.record.specs.Table.{unset as kindUnset, string as kindString, maxKind, integerSize, shown, itemSize}
+use Rattle.record.specs.Table.{unset as kindUnset, maxKind, isIntegers, integerSize, shown, itemSize}
 use Rattle.record.specs.Slots.{valueEnd, isInside}
 use Rattle.record.proofs.Bytes.{and-true}
+use Rattle.record.proofs.Tables.{integers-kind}
 use Rattle.mean.specs.declared.Tally.{Tally}
 use Rattle.mean.specs.declared.Turn.the-variants.{Next, Stop}
 use Rattle.mean.specs.Mean.{Leg, unset, marked, maxMark, markIn, legOf}
@@ -26,7 +27,7 @@ use Rattle.mean.specs.Walk.{counted, turnOf}
 record Tests : Type 0 where
   blank : Bool
   inside : Bool
-  string : Bool
+  integers : Bool
   one : Bool
   small : Bool
 
@@ -35,7 +36,7 @@ testsOf area s =
     record {
       blank = eqb (s .kind) kindUnset;
       inside = isInside s (length area);
-      string = eqb (s .kind) kindString;
+      integers = isIntegers (s .kind);
       one = eqb (s .len) 1;
       small = leb (markIn area s) maxMark;
     }
@@ -45,7 +46,7 @@ legBy : Tests → ℕ → ℕ → Result Leg
 legBy x m i =
     if x .blank then ok unset else do
       _ ← demand (x .inside) BadSlot i
-      _ ← demand (not (x .string)) WrongKind i
+      _ ← demand (x .integers) WrongKind i
       _ ← demand (x .one) WrongAmount i
       _ ← demand (x .small) BadMark i
       ok (marked m)
@@ -65,11 +66,11 @@ module _ (t : Tally) (x : Tests) (m i : ℕ) where
     slot-by h = simp (e₁, h)
 
     module _ (e₂ : x .inside ≡ true) where
-      kind-by : x .string ≡ true → Stop WrongKind ≡ turnOf t (legBy x m i)
+      kind-by : x .integers ≡ false → Stop WrongKind ≡ turnOf t (legBy x m i)
       unfolding legBy
       kind-by h = simp (e₁, e₂, h)
 
-      module _ (e₃ : x .string ≡ false) where
+      module _ (e₃ : x .integers ≡ true) where
         amount-by : x .one ≡ false → Stop WrongAmount ≡ turnOf t (legBy x m i)
         unfolding legBy
         amount-by h = simp (e₁, e₂, e₃, h)
@@ -97,10 +98,10 @@ module _ (area : List ℕ) (k : ℕ) (s : Slot) (t : Tally) where
     bad-slot e = slot-by t (testsOf area s) (markIn area s) k e₁ e ∙ by
 
     module _ (e₂ : isInside s (length area) ≡ true) where
-      pub wrong-kind : eqb (s .kind) kindString ≡ true → Stop WrongKind ≡ turnOf t (legOf area k s)
+      pub wrong-kind : isIntegers (s .kind) ≡ false → Stop WrongKind ≡ turnOf t (legOf area k s)
       wrong-kind e = kind-by t (testsOf area s) (markIn area s) k e₁ e₂ e ∙ by
 
-      module _ (e₃ : eqb (s .kind) kindString ≡ false) where
+      module _ (e₃ : isIntegers (s .kind) ≡ true) where
         pub wrong-amount : eqb (s .len) 1 ≡ false → Stop WrongAmount ≡ turnOf t (legOf area k s)
         wrong-amount e = amount-by t (testsOf area s) (markIn area s) k e₁ e₂ e₃ e ∙ by
 
@@ -108,11 +109,11 @@ module _ (area : List ℕ) (k : ℕ) (s : Slot) (t : Tally) where
           -- the one integer stands at the slot's start
           mark-at : markIn area s ≡ numberAt integerSize area (s .start)
           unfolding markIn shown bigEndianIn pieces numberAt
-          mark-at = simp (e₃, eqb-true (s .len) 1 e₄)
+          mark-at = simp (integers-kind (s .kind) e₃, eqb-true (s .len) 1 e₄)
 
           pub mark-inside : s .start + integerSize ≤ length area
           mark-inside =
-              let e : itemSize (s .kind) ≡ 8 = simp e₃ in
+              let e : itemSize (s .kind) ≡ 8 = simp (integers-kind (s .kind) e₃) in
               let one : s .len ≡ 1 = eqb-true (s .len) 1 e₄ in
               let h : s .start + s .len * itemSize (s .kind) ≤ length area = leb-true _ _ (and-true (leb (s .kind) maxKind) (leb (valueEnd s) (length area)) e₂ .1) in
               let i : s .start + 1 * 8 ≤ length area = rw (e, one) at h in
@@ -146,36 +147,36 @@ Alike (refused v q) (ok m) = ⊥
 Alike (refused v q) (refused w p) = v ≡ w
 
 abbrev tests : Bool → Bool → Bool → Bool → Bool → Tests
-tests a b c d e = record { blank = a; inside = b; string = c; one = d; small = e }
+tests a b c d e = record { blank = a; inside = b; integers = c; one = d; small = e }
 
 alike-by : (a b c d e : Bool) (m i j : ℕ) → Alike (legBy (tests a b c d e) m i) (legBy (tests a b c d e) m j)
 unfolding legBy
 alike-by true b c d e m i j = refl
 alike-by false false c d e m i j = refl
-alike-by false true true d e m i j = refl
-alike-by false true false false e m i j = refl
-alike-by false true false true false m i j = refl
-alike-by false true false true true m i j = refl
+alike-by false true false d e m i j = refl
+alike-by false true true false e m i j = refl
+alike-by false true true true false m i j = refl
+alike-by false true true true true m i j = refl
 
 pub leg-alike : (area : List ℕ) (i j : ℕ) (s : Slot) → Alike (legOf area i s) (legOf area j s)
 leg-alike area i j s =
     let x = testsOf area s in
-    rw (leg-by area i s, leg-by area j s) (alike-by (x .blank) (x .inside) (x .string) (x .one) (x .small) (markIn area s) i j)
+    rw (leg-by area i s, leg-by area j s) (alike-by (x .blank) (x .inside) (x .integers) (x .one) (x .small) (markIn area s) i j)
 
 place-by : (a b c d e : Bool) (m i : ℕ) (why : Refusal) (place : ℕ) → legBy (tests a b c d e) m i ≡ refused why place → place ≡ i
 unfolding legBy
 place-by true b c d e m i why place h = let z : _≡_ {A = ℕ} 0 1 = cc in absurd (omega arith)
 place-by false false c d e m i why place h = cc
-place-by false true true d e m i why place h = cc
-place-by false true false false e m i why place h = cc
-place-by false true false true false m i why place h = cc
-place-by false true false true true m i why place h = let z : _≡_ {A = ℕ} 0 1 = cc in absurd (omega arith)
+place-by false true false d e m i why place h = cc
+place-by false true true false e m i why place h = cc
+place-by false true true true false m i why place h = cc
+place-by false true true true true m i why place h = let z : _≡_ {A = ℕ} 0 1 = cc in absurd (omega arith)
 
 -- a refusal's place is the slot's number
 pub leg-place : (area : List ℕ) (i : ℕ) (s : Slot) (why : Refusal) (place : ℕ) → legOf area i s ≡ refused why place → place ≡ i
 leg-place area i s why place h =
     let x = testsOf area s in
-    place-by (x .blank) (x .inside) (x .string) (x .one) (x .small) (markIn area s) i why place (sym (leg-by area i s) ∙ h)
+    place-by (x .blank) (x .inside) (x .integers) (x .one) (x .small) (markIn area s) i why place (sym (leg-by area i s) ∙ h)
 
 -- a leg that is accepted is in range
 abbrev pub InRange : Leg → Type 0
@@ -187,7 +188,7 @@ unfolding legBy
 range-by true b c d m i l h = rw (← ok-inj h) tt
 range-by false b c d m i l h =
     let x₁ = demanded b BadSlot i _ l h in
-    let x₂ = demanded (not c) WrongKind i _ l (x₁ .1) in
+    let x₂ = demanded c WrongKind i _ l (x₁ .1) in
     let x₃ = demanded d WrongAmount i _ l (x₂ .1) in
     let x₄ = demanded (leb m maxMark) BadMark i _ l (x₃ .1) in
     rw (← ok-inj (x₄ .1)) (leb-true m maxMark (x₄ .0))
@@ -195,4 +196,4 @@ range-by false b c d m i l h =
 pub leg-range : (area : List ℕ) (i : ℕ) (s : Slot) (l : Leg) → legOf area i s ≡ ok l → InRange l
 leg-range area i s l h =
     let x = testsOf area s in
-    range-by (x .blank) (x .inside) (x .string) (x .one) (markIn area s) i l (sym (leg-by area i s) ∙ h)
+    range-by (x .blank) (x .inside) (x .integers) (x .one) (markIn area s) i l (sym (leg-by area i s) ∙ h)

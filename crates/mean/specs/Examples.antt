@@ -62,12 +62,13 @@ examples =
     ∷ noMean (legsFrom 2 0) (integerBytes (1000000 ∷ 1000001 ∷ [])) 14 1
     ∷ noMean (2 ∷ 0 ∷ 1 ∷ 0 ∷ []) (replicate 8 255) 14 0
     ∷ noMean (3 ∷ 0 ∷ 1 ∷ 0 ∷ []) (replicate 8 255) 14 0
-    -- line 7: kind above 3, value not inside the area, in whole numbers
-    ∷ noMean (4 ∷ 0 ∷ 1 ∷ 0 ∷ []) (replicate 8 0) 7 0
+    -- line 7: kind above 4, value not inside the area, in whole numbers
+    ∷ noMean (5 ∷ 0 ∷ 1 ∷ 0 ∷ []) (replicate 8 0) 7 0
     ∷ noMean (3 ∷ 1 ∷ 1 ∷ 0 ∷ []) (replicate 8 0) 7 0
     ∷ noMean (0 ∷ 0 ∷ 0 ∷ 0 ∷ 2 ∷ 8 ∷ 536870911 ∷ 4294967295 ∷ []) (replicate 8 0) 7 1
-    -- line 8 for a string, before line 9; line 9 for none and for two integers, before line 14
+    -- line 8 for a string and for a real, before line 9; line 9 for none and for two integers, before line 14
     ∷ noMean (1 ∷ 0 ∷ 2 ∷ 0 ∷ []) (replicate 8 0) 8 0
+    ∷ noMean (4 ∷ 0 ∷ 0 ∷ 0 ∷ []) (replicate 8 0) 8 0
     ∷ noMean (2 ∷ 8 ∷ 0 ∷ 0 ∷ []) (replicate 8 0) 9 0
     ∷ noMean (2 ∷ 0 ∷ 2 ∷ 0 ∷ []) (replicate 16 255) 9 0
     -- line 1: a run of numbers that is cut; one slot too many

@@ -1,6 +1,5 @@
 -- The mean of the marked legs (02, M-104): each slot of a table is one leg. THE EFFECT OF A CALL is `mean`, at the end.
 use Prim.Native.Nat.{ℕ, suc, _+_}
-use mathlib.Core.Bool.{not}
 use mathlib.Core.List.{List, [], _∷_}
 use lib.Dec.{eqb, leb}
 use lib.ListN.{length, getD}
@@ -9,7 +8,7 @@ use lib.Ieee.{Float, binary64, ofInt, div}
 use Rattle.layout.specs.declared.Refusal.the-variants.{BadSize, BadSlot, WrongKind, WrongAmount, BadMark}
 use Rattle.layout.specs.Refusals.{if_then_else_, Result, ok, refused, _>>=_, demand}
 use Rattle.record.specs.declared.slots.Slot.{Slot}
-use Rattle.record.specs.Table.{unset as kindUnset, string as kindString, slotsOf, shown}
+use Rattle.record.specs.Table.{unset as kindUnset, isIntegers, slotsOf, shown}
 use Rattle.record.specs.Geometry.{tableFits}
 use Rattle.record.specs.Packing.{accepted, refusal}
 use Rattle.record.specs.Slots.{isInside}
@@ -39,7 +38,7 @@ unfolding markIn
 legOf area i s =
     if eqb (s .kind) kindUnset then ok unset else do
       _ ← demand (isInside s (length area)) BadSlot i
-      _ ← demand (not (eqb (s .kind) kindString)) WrongKind i
+      _ ← demand (isIntegers (s .kind)) WrongKind i
       _ ← demand (eqb (s .len) 1) WrongAmount i
       _ ← demand (leb (markIn area s) maxMark) BadMark i
       ok (marked (markIn area s))

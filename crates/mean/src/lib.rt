@@ -64,7 +64,7 @@ fn step(slots: &[u32], area: &[u8], k: usize, t: Tally) -> Turn
     if !slots::is_inside(s, area.len()) {
         return Turn::Stop(Refusal::BadSlot);
     }
-    if s.kind == slots::STRING {
+    if !slots::is_integers(s.kind) {
         return Turn::Stop(Refusal::WrongKind);
     }
     if s.len != 1 {

@@ -1,44 +1,49 @@
 -- The value of a checked argument, as the leaf loops store it.
 use Prim.Native.Nat.{ℕ, zero, suc, _+_, _*_, _≤_}
-use native.Mathlib.Nat.{le-of-suc-le-suc, not-suc-le-zero}
 use native.Mathlib.Omega.{arith}
 use mathlib.Core.Path.{_≡_, refl, sym, ap, _∙_, subst}
 use mathlib.Core.Bool.{Bool, true, false}
-use mathlib.Core.List.{List, _∷_}
+use mathlib.Core.List.{List, [], _∷_, map}
 use borrow.Author.Tests.{eqb-true, leb-true}
 use lib.Dec.{eqb, T}
 use lib.ListN.{length, take, drop}
 use Rattle.layout.specs.declared.Shape.{Shape}
-use Rattle.layout.specs.declared.Shape.the-variants.{Text, Digits, Integers}
+use Rattle.layout.specs.declared.Shape.the-variants.{Text, Digits, Integers, Reals}
 use Rattle.layout.specs.declared.Count.{Count}
 use Rattle.layout.specs.declared.Count.the-variants.{Absent, Star, Times}
-use Rattle.record.specs.Bytes.{part, ceilDiv, pieces, number, ordered, bigEndianIn}
+use Rattle.layout.specs.Words.{realSize}
+use Rattle.real.specs.Narrowing.{singleOf}
+use Rattle.record.specs.Bytes.{part, ceilDiv}
 use Rattle.record.specs.declared.slots.Slot.{Slot}
 use Rattle.record.specs.Table.{maxArea, shown, integerSize, integersIn}
 use Rattle.record.specs.Geometry.{amount, perByte}
-use Rattle.record.specs.Packing.{stored, lowBytes, enough, amountFits, allDigits, digitsFit, insideArea}
+use Rattle.record.specs.Packing.{stored, lowBytes, patterns, enough, amountFits, allDigits, digitsFit, insideArea}
 use Rattle.record.proofs.NumberLaws.{length-bigEndianIn}
 use Rattle.record.proofs.Fields.{Served}
-use Rattle.record.proofs.Tables.{integers-kind}
+use Rattle.record.proofs.Tables.{integers-kind, reals-kind}
 use Rattle.record.proofs.Stores.{length-part}
 use Rattle.packer.specs.Writing.{Enough, Storable}
 use Rattle.record.proofs.Bounds.{few-digits}
-use Rattle.arguments.proofs.ArgumentLaws.{string-inside, integers-inside, shown-string, Checked}
+use Rattle.arguments.proofs.ArgumentLaws.{string-inside, integers-inside, shown-string, shown-integers, take-integers, Checked}
 
-take-integers : (n len : ℕ) (l : List ℕ) → n ≤ len → take n (integersIn len l) ≡ integersIn n l
-unfolding bigEndianIn pieces
-take-integers zero len l h = refl
-take-integers (suc n) zero l h = absurd (not-suc-le-zero h)
-take-integers (suc n) (suc len) l h = ap (λ (r : List ℕ). number 256 (ordered true (take 8 l)) ∷ r) (take-integers n len (drop 8 l) (le-of-suc-le-suc h))
+pub take-map : (f : ℕ → ℕ) (n : ℕ) (xs : List ℕ) → take n (map f xs) ≡ map f (take n xs)
+take-map f zero xs = refl
+take-map f (suc n) [] = refl
+take-map f (suc n) (x ∷ xs) = ap (λ (r : List ℕ). f x ∷ r) (take-map f n xs)
 
--- only the first n integers are stored
+pub take-patterns : (single : Bool) (n : ℕ) (xs : List ℕ) → take n (patterns single xs) ≡ patterns single (take n xs)
+take-patterns true n xs = take-map singleOf n xs
+take-patterns false n xs = refl
+
+-- only the first n integers or reals are stored
 pub stored-integers : (w : ℕ) (big : Bool) (n len : ℕ) (l : List ℕ) → n ≤ len → stored (Integers w big) n (integersIn n l) ≡ stored (Integers w big) n (integersIn len l)
 unfolding stored lowBytes
 stored-integers w big n len l h = rw (take-integers n len l h, take-integers n n l (omega arith))
 
-pub shown-integers : (area : List ℕ) (a : Slot) → eqb (a .kind) 1 ≡ false → shown area a .items ≡ integersIn (a .len) (drop (a .start) area)
-unfolding shown
-shown-integers area a e = simp e
+pub stored-reals : (single big : Bool) (n len : ℕ) (l : List ℕ) → n ≤ len → stored (Reals single big) n (integersIn n l) ≡ stored (Reals single big) n (integersIn len l)
+unfolding stored lowBytes
+stored-reals single big n len l h =
+    rw (take-patterns single n (integersIn n l), take-patterns single n (integersIn len l), take-integers n len l h, take-integers n n l (omega arith))
 
 -- a value has as many items as its slot says
 pub length-shown : (area : List ℕ) (a : Slot) → insideArea area a ≡ true → length (shown area a .items) ≡ a .len
@@ -57,6 +62,7 @@ pub amounts-enough : (s : Shape) (n : Count) (have : ℕ) → amountFits s n hav
 amounts-enough (Text pad) n have e = tt
 amounts-enough (Digits hex high) n have e = tt
 amounts-enough (Integers w big) n have e = enough-items n have e
+amounts-enough (Reals single big) n have e = enough-items n have e
 
 -- what was checked is what the laws of a field's bytes ask
 pub served : (area : List ℕ) (s : Shape) (n : Count) (a : Slot) → Checked area s n a → Served s (amount n (a .len)) (shown area a .items)
@@ -64,6 +70,7 @@ unfolding digitsFit
 served area (Text pad) n a c = tt
 served area (Digits hex high) n a c = subst T (sym (c .digits)) tt
 served area (Integers w big) n a c = rw (length-shown area a (c .inside)) (enough-items n (a .len) (c .amounts))
+served area (Reals single big) n a c = rw (length-shown area a (c .inside)) (enough-items n (a .len) (c .amounts))
 
 -- ---- what each leaf loop asks, and that it stores the slot's value
 
@@ -94,3 +101,13 @@ module _ (area : List ℕ) (n : ℕ) (a : Slot) (at size : ℕ) where
 
     pub integers-value : stored (Integers w big) n (integersIn n (drop (a .start) area)) ≡ stored (Integers w big) n (shown area a .items)
     integers-value = stored-integers w big n (a .len) (drop (a .start) area) (s .amounts) ∙ ap (stored (Integers w big) n) (sym (shown-integers area a integers))
+
+  module _ (single big : Bool) (s : Storable area (Reals single big) n a at size) where
+    reals : eqb (a .kind) 1 ≡ false
+    reals = reals-kind (a .kind) (s .kind)
+
+    pub reals-asks : (at + n * realSize single ≤ size) × (a .start + n * 8 ≤ length area)
+    reals-asks = (s .room, omega (arith, s .amounts, integers-inside area a (s .inside) reals))
+
+    pub reals-value : stored (Reals single big) n (integersIn n (drop (a .start) area)) ≡ stored (Reals single big) n (shown area a .items)
+    reals-value = stored-reals single big n (a .len) (drop (a .start) area) (s .amounts) ∙ ap (stored (Reals single big) n) (sym (shown-integers area a reals))

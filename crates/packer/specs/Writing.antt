@@ -9,7 +9,7 @@ use Rattle.layout.specs.declared.Code.the-variants.{Data, Move}
 use Rattle.layout.specs.declared.Motion.{Motion}
 use Rattle.layout.specs.declared.Motion.the-variants.{Skip, Back, Goto}
 use Rattle.layout.specs.declared.Shape.{Shape}
-use Rattle.layout.specs.declared.Shape.the-variants.{Text, Digits, Integers}
+use Rattle.layout.specs.declared.Shape.the-variants.{Text, Digits, Integers, Reals}
 use Rattle.layout.specs.declared.Count.{Count}
 use Rattle.layout.specs.declared.Field.{Field}
 use Rattle.layout.specs.Words.{slotsTaken, decoded, fieldOf, FitCode}
@@ -59,6 +59,7 @@ abbrev pub Enough : Shape → ℕ → ℕ → Type 0
 Enough (Text pad) n have = Unit {0}
 Enough (Digits hex high) n have = Unit {0}
 Enough (Integers w big) n have = n ≤ have
+Enough (Reals single big) n have = n ≤ have
 
 -- n items of the value in a slot can be stored from the place `at` on, in a buffer of so many bytes
 pub record Storable (area : List ℕ) (s : Shape) (n : ℕ) (a : Slot) (at size : ℕ) : Type 0 where

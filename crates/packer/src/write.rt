@@ -3,7 +3,7 @@ ghost use mathlib.Core.Path.{_≡_};
 ghost use mathlib.Core.Bool.{false};
 ghost use Prim.Native.Nat.{_+_, _≤_, _<_};
 ghost use lib.ListN.{length};
-ghost use Rattle.layout.specs.declared.Shape.the-variants.{Text, Digits, Integers};
+ghost use Rattle.layout.specs.declared.Shape.the-variants.{Text, Digits, Integers, Reals};
 ghost use Rattle.layout.specs.Words.{lastData, decoded, fieldOf, shapeNumbered};
 ghost use Rattle.layout.specs.Lent.{before, after};
 ghost use Rattle.record.specs.Bytes.{storeAt};
@@ -77,6 +77,24 @@ fn store_integers(
     n * w
 }
 
+// n reals.
+fn store_reals(
+    n: usize,
+    a: Slot,
+    area: &[u8],
+    out: &mut [u8],
+    at: usize,
+    single: bool,
+    big: bool,
+) -> usize
+    requires { ⌜ Storable (now area) (Reals single big) n a at (length (now out)) ⌝ }
+    ensures { λ r. ⌜ StoredAs (now (area .entry)) (Reals single big) n a at (now (out .entry)) r (now (out .exit)) ⌝ }
+{
+    let bytes = n * record::real_size(single);
+    reals::store(out, at, area, a.start, n, single, big);
+    bytes
+}
+
 // n items of a value of the type number d; tells how many bytes they fill. A call with constants for each type, so that the compiler makes
 // code of its own for each, and tests the type once.
 fn store_value(d: u32, n: usize, a: Slot, area: &[u8], out: &mut [u8], at: usize) -> usize
@@ -97,7 +115,11 @@ fn store_value(d: u32, n: usize, a: Slot, area: &[u8], out: &mut [u8], at: usize
         10 => store_integers(n, a, area, out, at, 4, false),
         11 => store_integers(n, a, area, out, at, 4, true),
         12 => store_integers(n, a, area, out, at, 8, false),
-        _ => store_integers(n, a, area, out, at, 8, true),
+        13 => store_integers(n, a, area, out, at, 8, true),
+        14 => store_reals(n, a, area, out, at, true, false),
+        15 => store_reals(n, a, area, out, at, true, true),
+        16 => store_reals(n, a, area, out, at, false, false),
+        _ => store_reals(n, a, area, out, at, false, true),
     }
 }
 

@@ -13,7 +13,7 @@ use Rattle.layout.specs.declared.Code.the-variants.{Data, Move}
 use Rattle.layout.specs.declared.Shape.{Shape}
 use Rattle.layout.specs.declared.Count.{Count}
 use Rattle.layout.specs.declared.Field.{Field}
-use Rattle.layout.specs.declared.Refusal.the-variants.{NotSet, BadSlot, WrongKind, WrongAmount, BadDigit}
+use Rattle.layout.specs.declared.Refusal.the-variants.{NotSet, BadSlot, WrongKind, WrongAmount, BadDigit, BadReal}
 use Rattle.layout.specs.Refusals.{ok, _>>=_}
 use Rattle.layout.specs.Layout.{slotCount}
 use Rattle.layout.proofs.Laws.{bound, still, still-last}
@@ -21,7 +21,7 @@ use Rattle.record.specs.declared.slots.Slot.{Slot}
 use Rattle.record.specs.Table.{unset, shown}
 use Rattle.record.specs.Slots.{isInside}
 use Rattle.record.specs.Geometry.{amount}
-use Rattle.record.specs.Packing.{kindFits, amountFits, digitsFit, Filled, filled, nextSlot, argumentFits, argumentsFit}
+use Rattle.record.specs.Packing.{kindFits, amountFits, digitsFit, realsFit, Filled, filled, nextSlot, argumentFits, argumentsFit}
 
 abbrev made : Code → Bool → Count → Field
 made k u n = record { code = k; unsigned = u; count = n }
@@ -34,7 +34,8 @@ module _ (area : List ℕ) where
       (still (isInside a (length area)) BadSlot i j _ _
       (still (kindFits s (a .kind)) WrongKind i j _ _
       (still (amountFits s n (a .len)) WrongAmount i j _ _
-      (still-last (digitsFit s (amount n (a .len)) (shown area a .items)) BadDigit i j))))
+      (still (digitsFit s (amount n (a .len)) (shown area a .items)) BadDigit i j _ _
+      (still-last (realsFit s (amount n (a .len)) (shown area a .items)) BadReal i j)))))
 
   from-step : (fs : List Field) → ((i j : ℕ) (ts : List Slot) → argumentsFit area i ts fs ≡ ok tt → argumentsFit area j ts fs ≡ ok tt)
       → (i j : ℕ) (ts : List Slot) (k : Code) (u : Bool) (n : Count) → argumentsFit area i ts (made k u n ∷ fs) ≡ ok tt → argumentsFit area j ts (made k u n ∷ fs) ≡ ok tt

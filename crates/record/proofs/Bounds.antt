@@ -1,18 +1,22 @@
 -- Bounds of the numbers that code computes from a field's geometry.
-use Prim.Native.Nat.{ℕ, _*_, _%_, _^_, _≤_, _<_}
+use Prim.Native.Nat.{ℕ, _*_, _/_, _%_, _^_, _≤_, _<_}
 use native.Mathlib.Nat.{mul-le-mul, mod-eq-of-lt}
 use native.Mathlib.Omega.{arith}
 use mathlib.Core.Path.{_≡_}
 use mathlib.Core.Bool.{Bool, true, false}
 use lib.Dec.{eqb}
+use lib.Pow.{pow-mono}
+use borrow.Author.Tests.{le-leb, lt-leb}
 use Rattle.layout.specs.declared.Code.the-variants.{Data}
 use Rattle.layout.specs.declared.Shape.{Shape}
-use Rattle.layout.specs.declared.Shape.the-variants.{Text, Digits, Integers}
+use Rattle.layout.specs.declared.Shape.the-variants.{Text, Digits, Integers, Reals}
 use Rattle.layout.specs.Refusals.{if_then_else_}
-use Rattle.layout.specs.Words.{FitCode}
+use Rattle.layout.specs.Words.{lastDigits, lastIntegers, lastData, realSize, sizeNumbered, shapeNumbered, FitCode}
+use Rattle.layout.proofs.Numbered.{shape-integers, shape-reals}
 use Rattle.record.specs.Bytes.{ceilDiv}
-use Rattle.record.specs.Geometry.{perByte, bytesFor, itemsLimit, wordLimit}
+use Rattle.record.specs.Geometry.{perByte, bytesFor, itemsIn, itemsLimit, wordLimit}
 use Rattle.record.specs.Table.{itemSize}
+use Rattle.record.proofs.Fields.{split}
 
 pub product-small : (a b x y : ℕ) → a ≤ x → b ≤ y → a * b ≤ x * y
 product-small a b x y h k = mul-le-mul h k
@@ -21,12 +25,18 @@ pub per-byte-small : (hex : Bool) → (2 ≤ perByte hex) × (perByte hex ≤ 8)
 per-byte-small true = (omega arith, omega arith)
 per-byte-small false = (omega arith, omega arith)
 
+pub real-small : (single : Bool) → realSize single ≤ 8
+real-small true = omega arith
+real-small false = omega arith
+
 -- an item fills at most eight bytes
 pub bytes-small : (s : Shape) (n : ℕ) → FitCode (Data s) → bytesFor s n ≤ n * 8
 bytes-small (Text pad) n h = omega arith
 bytes-small (Digits true high) n h = omega arith
 bytes-small (Digits false high) n h = omega arith
 bytes-small (Integers w big) n h = product-small n w n 8 (omega arith) (h .1)
+bytes-small (Reals true big) n h = omega arith
+bytes-small (Reals false big) n h = omega arith
 
 -- so many bytes hold no more than eight times as many digits
 pub few-digits : (hex : Bool) (n m : ℕ) → ceilDiv n (perByte hex) ≤ m → n ≤ m * 8
@@ -40,9 +50,22 @@ item-small kind = chosen (eqb kind 1)
     chosen true = omega arith
     chosen false = omega arith
 
--- integers of 2 ^ k bytes each, by a shift that does not wrap
-pub shifted-bytes : (s : Shape) (n k : ℕ) {w : ℕ} {big : Bool} → s ≡ Integers w big → FitCode (Data s) → 2 ^ k ≡ w → n < itemsLimit → n * 2 ^ k % wordLimit ≡ bytesFor s n
-shifted-bytes s n k {w} {big} e f p h =
-    let g : FitCode (Data (Integers w big)) = rw e at f in
-    let m : n * w ≤ itemsLimit * 8 = product-small n w itemsLimit 8 (omega arith) (g .1) in
-    rw (e, p) (mod-eq-of-lt (omega arith))
+-- the types of integers and reals, by number: each item has as many bytes
+pub sized-bytes : (d n : ℕ) → lastDigits < d → d ≤ lastData → bytesFor (shapeNumbered d) n ≡ n * sizeNumbered d
+sized-bytes d n l h =
+    split d lastIntegers
+    (λ k. rw (shape-integers d l k, le-leb d lastIntegers k))
+    (λ k. rw (shape-reals d k h, lt-leb d lastIntegers k))
+
+pub sized-items : (d left : ℕ) → lastDigits < d → d ≤ lastData → itemsIn (shapeNumbered d) left ≡ left / sizeNumbered d
+sized-items d left l h =
+    split d lastIntegers
+    (λ k. rw (shape-integers d l k, le-leb d lastIntegers k))
+    (λ k. rw (shape-reals d k h, lt-leb d lastIntegers k))
+
+-- items of 2 ^ k bytes each, by a shift that does not wrap
+pub shifted-bytes : (n k w : ℕ) → 2 ^ k ≡ w → k ≤ 3 → n < itemsLimit → n * 2 ^ k % wordLimit ≡ n * w
+shifted-bytes n k w p l h =
+    let small : 2 ^ k ≤ 2 ^ 3 = pow-mono l in
+    let m : n * w ≤ itemsLimit * 8 = product-small n w itemsLimit 8 (omega arith) (rw (← p) small) in
+    rw p (mod-eq-of-lt (omega arith))

@@ -11,7 +11,7 @@ use lib.Seq.{drop-nil, take-at, drop-at}
 use lib.Dec.{eqb}
 use borrow.Author.Tests.{eqb-true, eq-eqb, ne-eqb}
 use Rattle.record.specs.declared.slots.Slot.{Slot}
-use Rattle.record.specs.Table.{slotsOf, slotWidth, string, signed, unsigned, isIntegers}
+use Rattle.record.specs.Table.{slotsOf, slotWidth, string, signed, unsigned, real, isIntegers}
 
 pub length-slots : (ns : List ℕ) → length (slotsOf ns) ≡ length ns / slotWidth
 unfolding slotsOf
@@ -68,6 +68,10 @@ integers-kind kind h = by (eqb kind signed) refl h
     by : (t : Bool) → eqb kind signed ≡ t → (t || eqb kind unsigned) ≡ true → eqb kind string ≡ false
     by true e h = ne-eqb kind string (λ x. omega (arith, eqb-true kind signed e))
     by false e h = ne-eqb kind string (λ x. omega (arith, eqb-true kind unsigned h))
+
+-- nor are reals
+pub reals-kind : (kind : ℕ) → eqb kind real ≡ true → eqb kind string ≡ false
+reals-kind kind h = ne-eqb kind string (λ x. omega (arith, eqb-true kind real h))
 
 pub kind-integers : (kind : ℕ) → signed ≤ kind → kind ≤ unsigned → isIntegers kind ≡ true
 kind-integers kind h l =

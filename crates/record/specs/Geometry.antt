@@ -7,10 +7,11 @@ use lib.Dec.{eqb, leb}
 use Rattle.layout.specs.declared.Motion.{Motion}
 use Rattle.layout.specs.declared.Motion.the-variants.{Skip, Back, Goto}
 use Rattle.layout.specs.declared.Shape.{Shape}
-use Rattle.layout.specs.declared.Shape.the-variants.{Text, Digits, Integers}
+use Rattle.layout.specs.declared.Shape.the-variants.{Text, Digits, Integers, Reals}
 use Rattle.layout.specs.declared.Count.{Count}
 use Rattle.layout.specs.declared.Count.the-variants.{Absent, Star, Times}
 use Rattle.layout.specs.Layout.{maxLayout}
+use Rattle.layout.specs.Words.{realSize}
 use Rattle.record.specs.Bytes.{ceilDiv}
 use Rattle.record.specs.Table.{slotWidth, numberLimit, maxSlots, maxRecord, maxArea}
 
@@ -36,12 +37,14 @@ abbrev pub bytesFor : Shape → ℕ → ℕ
 bytesFor (Text pad) n = n
 bytesFor (Digits hex high) n = ceilDiv n (perByte hex)
 bytesFor (Integers w big) n = n * w
+bytesFor (Reals single big) n = n * realSize single
 
--- the items that so many bytes hold (01, Reading, `*`): all digits, and of the integers the whole ones
+-- the items that so many bytes hold (01, Reading, `*`): all digits, and of integers and reals the whole ones
 abbrev pub itemsIn : Shape → ℕ → ℕ
 itemsIn (Text pad) left = left
 itemsIn (Digits hex high) left = left * perByte hex
 itemsIn (Integers w big) left = left / w
+itemsIn (Reals single big) left = left / realSize single
 
 -- the items of a field where so many bytes are left
 abbrev pub itemsOf : Shape → Count → ℕ → ℕ

@@ -1,6 +1,6 @@
 -- The packer (document 01, Packing, and Numbers that come back): THE EFFECT OF A CALL is `pack`, at the end.
 use Prim.Native.Nat.{ℕ, suc, _+_, _-_, _*_}
-use mathlib.Core.Bool.{Bool, true, _&&_, not}
+use mathlib.Core.Bool.{Bool, true, false, _&&_, not}
 use mathlib.Core.List.{List, [], _∷_, _++_, map}
 use lib.ListN.{length, take, drop, replicate}
 use lib.Dec.{eqb, leb, ltb}
@@ -8,19 +8,22 @@ use Rattle.layout.specs.declared.Code.{Code}
 use Rattle.layout.specs.declared.Code.the-variants.{Data, Move}
 use Rattle.layout.specs.declared.Motion.the-variants.{Skip, Back, Goto}
 use Rattle.layout.specs.declared.Shape.{Shape}
-use Rattle.layout.specs.declared.Shape.the-variants.{Text, Digits, Integers}
+use Rattle.layout.specs.declared.Shape.the-variants.{Text, Digits, Integers, Reals}
 use Rattle.layout.specs.declared.Count.{Count}
 use Rattle.layout.specs.declared.Count.the-variants.{Absent, Star, Times}
 use Rattle.layout.specs.declared.Field.{Field}
 use Rattle.layout.specs.declared.Refusal.{Refusal}
-use Rattle.layout.specs.declared.Refusal.the-variants.{BadSize, WrongSlots, NotSet, BadSlot, WrongKind, WrongAmount, BadDigit, NoRoom}
+use Rattle.layout.specs.declared.Refusal.the-variants.{BadSize, WrongSlots, NotSet, BadSlot, WrongKind, WrongAmount, BadDigit, NoRoom, BadReal}
 use Rattle.layout.specs.Refusals.{if_then_else_, numberOf, Result, ok, refused, _>>=_, demand}
 use Rattle.layout.specs.Layout.{isDecimal, fieldsOf, slotCount}
+use Rattle.layout.specs.Words.{realSize}
+use Rattle.real.specs.Patterns.{isNaN}
+use Rattle.real.specs.Narrowing.{singleOf}
 use Rattle.record.specs.declared.slots.Slot.{Slot}
 use Rattle.record.specs.declared.Answer.{Answer}
 use Rattle.record.specs.declared.Cursor.{Cursor}
 use Rattle.record.specs.Bytes.{storeAt, fit, ceilDiv, pieces, join, digits, number, ordered}
-use Rattle.record.specs.Table.{unset, string, isIntegers, slotsOf, shown}
+use Rattle.record.specs.Table.{unset, string, real, isIntegers, slotsOf, shown}
 use Rattle.record.specs.Slots.{valueEnd, isInside}
 use Rattle.record.specs.Geometry.{amount, base, perByte, backFrom, gotoIn, sizesFit}
 
@@ -46,12 +49,18 @@ unfoldable pub lowBytes : ℕ → Bool → ℕ → List ℕ → List ℕ
 unfolding join digits
 lowBytes w big n xs = join (map (λ x. ordered big (digits 256 w x)) (take n xs))
 
+-- `r R q Q` (02, M-108): the numbers that a field stores of doubles, those of the nearest singles or the doubles' own
+abbrev pub patterns : Bool → List ℕ → List ℕ
+patterns true xs = map singleOf xs
+patterns false xs = xs
+
 -- the bytes of a field of n items
 unfoldable pub stored : Shape → ℕ → List ℕ → List ℕ
 unfolding fit digitBytes lowBytes
 stored (Text pad) n xs = fit n pad xs
 stored (Digits hex high) n xs = digitBytes hex high n xs
 stored (Integers w big) n xs = lowBytes w big n xs
+stored (Reals single big) n xs = lowBytes (realSize single) big n (patterns single xs)
 
 -- ---- the run over the fields
 
@@ -100,15 +109,16 @@ unfoldable pub packed : List Filled → List ℕ
 unfolding packAll
 packed fs = packAll start fs .out
 
--- ---- the arguments: each test that fails is a refusal, 6 to 10
+-- ---- the arguments: each test that fails is a refusal, 6 to 10 or 16
 
--- else 8: `a A b B h H` take a string, the other types integers
+-- else 8: `a A b B h H` take a string, `r R q Q` reals, the other types integers
 abbrev pub kindFits : Shape → ℕ → Bool
 kindFits (Text pad) k = eqb k string
 kindFits (Digits hex high) k = eqb k string
 kindFits (Integers w big) k = isIntegers k
+kindFits (Reals single big) k = eqb k real
 
--- else 9: just one integer where no count stands, and otherwise no fewer than the count
+-- else 9: just one integer or real where no count stands, and otherwise no fewer than the count
 abbrev pub enough : Count → ℕ → Bool
 enough Absent have = eqb have 1
 enough Star have = true
@@ -118,6 +128,7 @@ abbrev pub amountFits : Shape → Count → ℕ → Bool
 amountFits (Text pad) n have = true
 amountFits (Digits hex high) n have = true
 amountFits (Integers w big) n have = enough n have
+amountFits (Reals single big) n have = enough n have
 
 -- else 10: each digit that is looked at is one
 unfoldable pub allDigits : Bool → List ℕ → Bool
@@ -130,6 +141,20 @@ unfolding allDigits
 digitsFit (Text pad) n cs = true
 digitsFit (Digits hex high) n cs = allDigits hex (take n cs)
 digitsFit (Integers w big) n cs = true
+digitsFit (Reals single big) n cs = true
+
+-- else 16: none of the reals that become singles is a NaN (02, M-108); `q Q` store any
+unfoldable pub noNaN : List ℕ → Bool
+noNaN [] = true
+noNaN (x ∷ xs) = not (isNaN x) && noNaN xs
+
+unfoldable pub realsFit : Shape → ℕ → List ℕ → Bool
+unfolding noNaN
+realsFit (Text pad) n xs = true
+realsFit (Digits hex high) n xs = true
+realsFit (Integers w big) n xs = true
+realsFit (Reals true big) n xs = noNaN (take n xs)
+realsFit (Reals false big) n xs = true
 
 -- the value ends within the area
 abbrev pub insideArea : List ℕ → Slot → Bool
@@ -137,13 +162,14 @@ insideArea area a = leb (valueEnd a) (length area)
 
 -- slot number i serves a field: the tests in the order of their refusals
 unfoldable pub argumentFits : List ℕ → Shape → Count → ℕ → Slot → Result (Unit {0})
-unfolding shown digitsFit
+unfolding shown digitsFit realsFit
 argumentFits area s n i a = do
   _ ← demand (not (eqb (a .kind) unset)) NotSet i
   _ ← demand (isInside a (length area)) BadSlot i
   _ ← demand (kindFits s (a .kind)) WrongKind i
   _ ← demand (amountFits s n (a .len)) WrongAmount i
-  demand (digitsFit s (amount n (a .len)) (shown area a .items)) BadDigit i
+  _ ← demand (digitsFit s (amount n (a .len)) (shown area a .items)) BadDigit i
+  demand (realsFit s (amount n (a .len)) (shown area a .items)) BadReal i
 
 -- the next slot; there is one, unless the call was refused with 5
 abbrev pub nextSlot : List Slot → Slot

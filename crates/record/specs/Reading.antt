@@ -1,20 +1,22 @@
 -- The reader (document 01, Reading, and Numbers that come back): THE EFFECT OF A CALL is `read`, with its steps `readAll`, at the end.
 use Prim.Native.Nat.{ℕ, suc, _+_, _-_, _*_, _^_, _≤_}
-use mathlib.Core.Bool.{Bool, false, _&&_, _||_}
+use mathlib.Core.Bool.{Bool, true, false, _&&_, _||_}
 use mathlib.Core.List.{List, [], _∷_, _++_, map}
 use lib.ListN.{length, take, drop}
 use lib.Dec.{eqb, leb, ltb}
 use Rattle.layout.specs.declared.Code.the-variants.{Data, Move}
 use Rattle.layout.specs.declared.Shape.{Shape}
-use Rattle.layout.specs.declared.Shape.the-variants.{Text, Digits, Integers}
+use Rattle.layout.specs.declared.Shape.the-variants.{Text, Digits, Integers, Reals}
 use Rattle.layout.specs.declared.Field.{Field}
 use Rattle.layout.specs.declared.Refusal.the-variants.{BadSize, WrongSlots, NoRoom}
 use Rattle.layout.specs.Refusals.{if_then_else_, Result, ok, refused, _>>=_, demand}
 use Rattle.layout.specs.Layout.{fieldsOf, slotCount}
+use Rattle.layout.specs.Words.{realSize}
+use Rattle.real.specs.Widening.{doubleOf}
 use Rattle.record.specs.declared.Answer.{Answer}
 use Rattle.record.specs.declared.ReadAnswer.{ReadAnswer}
 use Rattle.record.specs.Bytes.{part, storeAt, pieces, join, digits, number, ordered}
-use Rattle.record.specs.Table.{string, integerKind, slotsOf, Value, slotWidth, slotNumbers, valueBytes}
+use Rattle.record.specs.Table.{string, real, integerKind, slotsOf, Value, slotWidth, slotNumbers, valueBytes}
 use Rattle.record.specs.Geometry.{base, perByte, bytesFor, itemsOf, movedIn, sizesFit}
 use Rattle.record.specs.Packing.{accepted, refusal}
 
@@ -40,6 +42,11 @@ digitChar d = if ltb d 10 then d + 48 else (d + 87)
 unfoldable pub widened : ℕ → Bool → ℕ → ℕ
 widened w unsigned u = if unsigned || ltb (2 * u) (256 ^ w) then u else (u + (2 ^ 64 - 256 ^ w))
 
+-- `r R q Q` (02, M-108): the doubles of the numbers in a field, which are those of singles or the doubles' own
+abbrev pub doubles : Bool → List ℕ → List ℕ
+doubles true xs = map doubleOf xs
+doubles false xs = xs
+
 -- the value of n items in a field's bytes bs
 unfoldable pub loaded : Shape → Bool → ℕ → List ℕ → Value
 unfolding trimmed digitChar widened join digits pieces number
@@ -51,6 +58,8 @@ loaded (Integers w big) u n bs =
       kind = integerKind u;
       items = map (λ p. widened w u (number 256 (ordered big p))) (pieces w n bs);
     }
+loaded (Reals single big) u n bs =
+    record { kind = real; items = doubles single (map (λ p. number 256 (ordered big p)) (pieces (realSize single) n bs)) }
 
 -- ---- the run over the fields
 

@@ -33,7 +33,7 @@ noPosition = 4294967295
 
 -- ---- slots
 
--- the kinds: nothing set, a string, signed integers, unsigned integers; and the highest
+-- the kinds: nothing set, a string, signed integers, unsigned integers, reals (02, M-108); and the highest
 abbrev pub unset : ℕ
 unset = 0
 
@@ -46,8 +46,11 @@ signed = 2
 abbrev pub unsigned : ℕ
 unsigned = 3
 
+abbrev pub real : ℕ
+real = 4
+
 abbrev pub maxKind : ℕ
-maxKind = unsigned
+maxKind = real
 
 abbrev pub isIntegers : ℕ → Bool
 isIntegers kind = eqb kind signed || eqb kind unsigned
@@ -56,7 +59,7 @@ isIntegers kind = eqb kind signed || eqb kind unsigned
 abbrev pub integerKind : Bool → ℕ
 integerKind u = if u then unsigned else signed
 
--- the slots of a lent run of numbers (a slot is declared in src/slots.rt; its `len` counts bytes or integers)
+-- the slots of a lent run of numbers (a slot is declared in src/slots.rt; its `len` counts bytes, integers or reals)
 unfoldable pub slotsOf : List ℕ → List Slot
 slotsOf [] = []
 slotsOf (k ∷ []) = []
@@ -67,19 +70,20 @@ slotsOf (k ∷ s ∷ n ∷ p ∷ rest) = record { kind = k; start = s; len = n; 
 -- ---- values
 
 -- What a set slot shows. Of kind 1 the items are the bytes of a string. Of kinds 2 and 3 each item is an integer, as the number below
--- 2 ^ 64 that its eight bytes make: a negative one is its two's complement.
+-- 2 ^ 64 that its eight bytes make: a negative one is its two's complement. Of kind 4 each item is a double, by the number that its eight
+-- bytes make (the crate `real`).
 pub record Value : Type 0 where
   pub kind : ℕ
   pub items : List ℕ
 
--- the bytes of an integer, and of an item of a kind, in the area
+-- the bytes of an integer or a double, and of an item of a kind, in the area
 abbrev pub integerSize : ℕ
 integerSize = 8
 
 abbrev pub itemSize : ℕ → ℕ
 itemSize kind = if eqb kind string then 1 else integerSize
 
--- integers as the area holds them; and the n integers that stand at the front of bs
+-- integers, or the numbers of doubles, as the area holds them; and the n of them that stand at the front of bs
 abbrev pub integerBytes : List ℕ → List ℕ
 integerBytes xs = bigEndian integerSize xs
 

@@ -2,7 +2,7 @@
 ghost use mathlib.Core.Path.{_≡_};
 ghost use Prim.Native.Nat.{_+_, _≤_, _<_, min, max};
 ghost use Rattle.layout.specs.Refusals.{lineOf, numberOf};
-ghost use Rattle.layout.specs.Words.{lastData, FitCode, FitCount, shapeNumbered};
+ghost use Rattle.layout.specs.Words.{lastData, realSize, FitCode, FitCount, shapeNumbered};
 ghost use Rattle.layout.specs.declared.Code.the-variants.{Data};
 ghost use Rattle.layout.specs.declared.Motion.the-variants.{Skip, Back, Goto};
 ghost use Rattle.record.specs.Geometry.{recordFits, tableFits, lengthsFit, amount, perByte, bytesFor, itemsLimit, wordLimit};
@@ -94,6 +94,7 @@ fn line_of(why: Refusal) -> u8
         Refusal::BadVersion => 12,
         Refusal::BadMark => 13,
         Refusal::BadTemplate => 14,
+        Refusal::BadReal => 15,
     }
 }
 
@@ -163,6 +164,13 @@ pub fn per_byte(hex: bool) -> usize
     if hex { 2 } else { 8 }
 }
 
+// The bytes of a real in a field: a single or a double.
+pub fn real_size(single: bool) -> usize
+    ensures { λ r. ⌜ r ≡ realSize single ⌝ }
+{
+    if single { 4 } else { 8 }
+}
+
 // How many bytes so many items of a field fill.
 pub fn bytes_for(s: Shape, n: usize) -> usize
     requires { ⌜ (n < itemsLimit) × FitCode (Data s) ⌝ }
@@ -172,6 +180,7 @@ pub fn bytes_for(s: Shape, n: usize) -> usize
         Shape::Text(_) => n,
         Shape::Digits(hex, _) => (n + (per_byte(hex) - 1)) / per_byte(hex),
         Shape::Integers(w, _) => n * w,
+        Shape::Reals(single, _) => n * real_size(single),
     }
 }
 

@@ -5,7 +5,7 @@ ghost use lib.ListN.{length};
 ghost use Rattle.record.specs.Bytes.{storeAt, numberBytes, numberAt};
 ghost use Rattle.record.specs.Table.{integerSize};
 
-// The bytes of an integer in the area, and the most that a number here has.
+// The bytes of an integer or a double in the area, and the most that a number here has.
 pub const INTEGER_SIZE: usize = 8;
 
 // The number that the w bytes from a place on make.

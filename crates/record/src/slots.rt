@@ -25,7 +25,9 @@ pub const SIGNED: usize = 2;
 
 pub const UNSIGNED: usize = 3;
 
-pub const MAX_KIND: usize = UNSIGNED;
+pub const REAL: usize = 4;
+
+pub const MAX_KIND: usize = REAL;
 
 // Slot number k.
 pub fn slot_at(slots: &[u32], k: usize) -> Slot

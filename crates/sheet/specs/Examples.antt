@@ -67,6 +67,10 @@ all (e ∷ es) = holds e && all es
 unfoldable pub okTable : List ℕ
 okTable = 0 ∷ 7 ∷ 5 ∷ 3 ∷ 1 ∷ 0 ∷ 2 ∷ 4096 ∷ 2 ∷ 2 ∷ 1 ∷ noPosition ∷ []
 
+-- the double 1.6
+unfoldable sixteenTenths : List ℕ
+sixteenTenths = 0x3f ∷ 0xf9 ∷ 0x99 ∷ 0x99 ∷ 0x99 ∷ 0x99 ∷ 0x99 ∷ 0x9a ∷ []
+
 unfoldable pub okArea : List ℕ
 okArea = bytes "OK" ++ (0xff ∷ 0xff ∷ 0xff ∷ 0xff ∷ 0xff ∷ 0xff ∷ 0xff ∷ 0xfe ∷ [])
 
@@ -97,7 +101,7 @@ unfoldable pub longSheet : List ℕ
 longSheet = 2 ∷ 0 ∷ 1 ∷ 0 ∷ 2 ∷ 0 ∷ 0 ∷ 255 ∷ 254 ∷ 1 ∷ replicate 65533 65
 
 unfoldable pub examples : List Example
-unfolding okTable okArea okSheet longSheet unset set unsetSlots
+unfolding okTable okArea okSheet longSheet sixteenTenths unset set unsetSlots
 examples =
     -- the example of 02
     writing okTable okArea 30 okSheet
@@ -107,10 +111,14 @@ examples =
     ∷ reading (1 ∷ 0 ∷ 0 ∷ []) 2 4 4 0 [] []
     ∷ writing (set 1 1 0 (set 3 0 0 (set 0 99 99 []))) (65 ∷ []) 12 (1 ∷ 0 ∷ 9 ∷ 0 ∷ 1 ∷ 1 ∷ 0 ∷ 1 ∷ 3 ∷ 0 ∷ 1 ∷ 0 ∷ [])
     ∷ reading (1 ∷ 0 ∷ 9 ∷ 0 ∷ 1 ∷ 1 ∷ 0 ∷ 1 ∷ 3 ∷ 0 ∷ 1 ∷ 0 ∷ []) 3 2 1 3 (set 1 1 0 (set 3 1 0 (set 0 0 0 []))) []
+    -- reals (02, M-108): 1.6, and none
+    ∷ writing (set 4 0 1 (set 4 8 0 [])) sixteenTenths 17 (1 ∷ 0 ∷ 14 ∷ 0 ∷ 9 ∷ 4 ∷ sixteenTenths ++ (0 ∷ 1 ∷ 4 ∷ []))
+    ∷ reading (1 ∷ 0 ∷ 11 ∷ 0 ∷ 9 ∷ 4 ∷ sixteenTenths) 1 8 0 1 (set 4 0 1 []) sixteenTenths
+    ∷ notRead (1 ∷ 0 ∷ 10 ∷ 0 ∷ 8 ∷ 4 ∷ 1 ∷ 2 ∷ 3 ∷ 4 ∷ 5 ∷ 6 ∷ 7 ∷ []) 1 8 0 (12 ∷ 3 ∷ 0 ∷ [])
     -- writing refused: sizes; the first bad slot; no room
     ∷ notWritten (1 ∷ 0 ∷ 0 ∷ []) [] 30 (1 ∷ 0 ∷ 0 ∷ [])
     ∷ notWritten (replicate (slotWidth * 65) 0) [] 30 (1 ∷ 0 ∷ 0 ∷ [])
-    ∷ notWritten (set 0 7 5 (set 4 0 0 (set 9 0 0 []))) okArea 30 (7 ∷ 1 ∷ 0 ∷ [])
+    ∷ notWritten (set 0 7 5 (set 5 0 0 (set 9 0 0 []))) okArea 30 (7 ∷ 1 ∷ 0 ∷ [])
     ∷ notWritten (set 1 9 2 []) okArea 0 (7 ∷ 0 ∷ 0 ∷ [])
     ∷ notWritten (set 1 11 0 []) okArea 30 (7 ∷ 0 ∷ 0 ∷ [])
     ∷ notWritten okTable okArea 21 (11 ∷ 0 ∷ 0 ∷ [])
@@ -126,7 +134,7 @@ examples =
     ∷ notRead (1 ∷ 0 ∷ 3 ∷ 0 ∷ 2 ∷ 1 ∷ []) 3 20 0 (12 ∷ 3 ∷ 0 ∷ [])
     ∷ notRead (1 ∷ 0 ∷ 4 ∷ 0 ∷ 2 ∷ 0 ∷ 7 ∷ []) 3 20 0 (12 ∷ 3 ∷ 0 ∷ [])
     ∷ notRead (1 ∷ 0 ∷ 4 ∷ 0 ∷ 2 ∷ 2 ∷ 7 ∷ []) 3 20 0 (12 ∷ 3 ∷ 0 ∷ [])
-    ∷ notRead (1 ∷ 0 ∷ 6 ∷ 0 ∷ 1 ∷ 0 ∷ 0 ∷ 1 ∷ 4 ∷ []) 0 20 0 (12 ∷ 6 ∷ 0 ∷ [])
+    ∷ notRead (1 ∷ 0 ∷ 6 ∷ 0 ∷ 1 ∷ 0 ∷ 0 ∷ 1 ∷ 5 ∷ []) 0 20 0 (12 ∷ 6 ∷ 0 ∷ [])
     ∷ notRead okSheet 2 0 0 (5 ∷ 0 ∷ 0 ∷ [])
     ∷ notRead okSheet 3 20 11 (11 ∷ 0 ∷ 0 ∷ [])
     -- 64 and 65 entries; a length of 65,535

@@ -1,3 +1,4 @@
 -- The claims on both readers, with an instance of their premises.
 mod Claims
+mod Reals
 mod Instance

@@ -1,3 +1,4 @@
--- The older reader of sheets, and what it and the reader of today make of each other's sheets (document 02, M-111). Read Older, then Claims.
+-- The older readers of sheets, and what readers make of each other's sheets (document 02, M-111; for reals M-108). Read Older, then Claims, then Kinds.
 pub mod Older
 pub mod Claims
+pub mod Kinds

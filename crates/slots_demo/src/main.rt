@@ -242,7 +242,7 @@ fn two() {
     write_record(&bytes);
     show_read(b"read", b"a3c2", &bytes, pair(unset, unset));
     show_read(b"short", b"a4c2", &bytes, pair(unset, unset));
-    show_read(b"refused", b"a3q", &bytes, pair(string, integers));
+    show_read(b"refused", b"a3z", &bytes, pair(string, integers));
 }
 
 fn main() {

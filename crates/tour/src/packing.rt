@@ -56,7 +56,7 @@ fn placed(layout: &[u8], told: &[u8], slots: &[u32], record: &mut [u8; 4096]) {
 // A slot in its place, and one of no kind.
 fn kinds(record: &mut [u8; 4096]) {
     placed(b"a", b"slot 1 1 1, area of 2 bytes", &[1, 1, 1, 0], record);
-    placed(b"a", b"slot 4 0 1, area of 2 bytes", &[4, 0, 1, 0], record);
+    placed(b"a", b"slot 5 0 1, area of 2 bytes", &[5, 0, 1, 0], record);
 }
 
 // The position in a slot is not looked at.

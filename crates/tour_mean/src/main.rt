@@ -134,14 +134,15 @@ fn placed(told: &[u8], slots: &[u32]) {
     show(told, slots, b"\x00\x00\x00\x00\x00\x00\x00\x32");
 }
 
-// Kind 3; number 7 for a kind, a start and a length.
+// Kind 3; number 8 for kind 4; number 7 for a kind, a start and a length.
 fn bad_slots() {
     placed(b"slot 3 0 1 over {50}", &[3, 0, 1, 0]);
     placed(b"slot 4 0 1 over {50}", &[4, 0, 1, 0]);
+    placed(b"slot 5 0 1 over {50}", &[5, 0, 1, 0]);
     placed(b"slot 2 1 1 over {50}", &[2, 1, 1, 0]);
     placed(
-        b"slots 2 0 1, 2 0 1, 4 0 1 over {50}",
-        &[2, 0, 1, 0, 2, 0, 1, 0, 4, 0, 1, 0],
+        b"slots 2 0 1, 2 0 1, 5 0 1 over {50}",
+        &[2, 0, 1, 0, 2, 0, 1, 0, 5, 0, 1, 0],
     );
 }
 

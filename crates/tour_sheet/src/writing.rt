@@ -71,8 +71,8 @@ fn bad_slots() {
     placed(b"slot 1 1 2 over two bytes", &[1, 1, 2, 0]);
     placed(b"slot 2 0 1 over two bytes", &[2, 0, 1, 0]);
     placed(
-        b"slots 0 0 0, 4 0 0, 5 0 0",
-        &[0, 0, 0, 0, 4, 0, 0, 0, 5, 0, 0, 0],
+        b"slots 0 0 0, 5 0 0, 6 0 0",
+        &[0, 0, 0, 0, 5, 0, 0, 0, 6, 0, 0, 0],
     );
 }
 

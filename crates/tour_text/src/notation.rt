@@ -1,5 +1,5 @@
-// The arguments of an example, from a text: strings in quotes, integers in braces, and `-` for a slot that is not set,
-// as in `"abc" {3 -3 128} -`.
+// The arguments of an example, from a text: strings in quotes, integers in braces, reals by the hex digits of their patterns in angle brackets,
+// and `-` for a slot that is not set, as in `"abc" {3 -3 128} <3ff0000000000000> -`.
 
 // How many numbers of the slot run and how many bytes of the area are in use.
 pub struct Used {
@@ -8,7 +8,7 @@ pub struct Used {
 }
 
 // What has been read of the text: the kind of the value that stands open (0: none), where it starts in the area and its items so far;
-// the digits of an integer so far.
+// the digits of an item so far.
 struct State {
     open: u32,
     start: usize,
@@ -93,6 +93,10 @@ fn between(mut s: State, b: u8, slots: &mut [u32]) -> State {
             s.open = 2;
             s
         }
+        b'<' => {
+            s.open = 4;
+            s
+        }
         b'-' => close(s, slots),
         _ => s,
     }
@@ -122,7 +126,7 @@ fn signed(n: u64, negative: bool) -> u64 {
     n
 }
 
-// An integer ends, if there is one.
+// An item ends, if there is one.
 fn item(mut s: State, area: &mut [u8]) -> State {
     if !s.any {
         return s;
@@ -147,11 +151,27 @@ fn in_list(mut s: State, b: u8, slots: &mut [u32], area: &mut [u8]) -> State {
     }
 }
 
+fn hex_digit(mut s: State, d: u64) -> State {
+    s.number = std::num::wrapping_add_u64(s.number << 4, d);
+    s.any = true;
+    s
+}
+
+fn in_reals(s: State, b: u8, slots: &mut [u32], area: &mut [u8]) -> State {
+    match b {
+        b'0'..=b'9' => hex_digit(s, (b - b'0') as u64),
+        b'a'..=b'f' => hex_digit(s, (b - b'a') as u64 + 10),
+        b'>' => close(item(s, area), slots),
+        _ => item(s, area),
+    }
+}
+
 fn next(s: State, b: u8, slots: &mut [u32], area: &mut [u8]) -> State {
     let open = s.open;
     match open {
         0 => between(s, b, slots),
         1 => in_string(s, b, slots, area),
+        4 => in_reals(s, b, slots, area),
         _ => in_list(s, b, slots, area),
     }
 }

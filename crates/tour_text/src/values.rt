@@ -1,4 +1,4 @@
-// The values that slots show: strings in quotes, integers in braces, `not set` for a slot that is not set.
+// The values that slots show: strings in quotes, integers in braces, reals by their patterns in angle brackets, `not set` for a slot that is not set.
 use super::print;
 use super::print::Style;
 use record::SLOT_WIDTH;
@@ -20,8 +20,12 @@ fn part(run: &[u8], start: usize, n: usize) -> &[u8] {
     &run[start..end]
 }
 
-fn integer(n: u64, signed: bool) {
-    if signed {
+fn integer(n: u64, kind: u32) {
+    if kind == 4 {
+        print::pattern(n);
+        return;
+    }
+    if kind == 2 {
         if 9223372036854775807 < n {
             print::text(b"-");
             print::number(18446744073709551615 - n + 1);
@@ -42,34 +46,40 @@ fn between(i: usize, comma: bool) {
     print::text(b" ");
 }
 
-fn integers(run: &[u8], signed: bool) {
+fn integers(run: &[u8], kind: u32) {
     let n = run.len() / INTEGER_SIZE;
     let mut i = 0;
     while i < n {
         between(i, false);
         integer(
             record::numbers::number_at(run, i * INTEGER_SIZE, INTEGER_SIZE),
-            signed,
+            kind,
         );
         i += 1;
     }
 }
 
 // Of a long run the first two and the last two.
-fn few_integers(run: &[u8], signed: bool) {
+fn few_integers(run: &[u8], kind: u32) {
     if run.len() <= 128 {
-        integers(run, signed);
+        integers(run, kind);
         return;
     }
     let last = run.len() - 16;
-    integers(&run[0..16], signed);
+    integers(&run[0..16], kind);
     print::text(b" .. ");
-    integers(&run[last..], signed);
+    integers(&run[last..], kind);
 }
 
-fn list(run: &[u8], signed: bool) {
+fn list(run: &[u8], kind: u32) {
+    if kind == 4 {
+        print::text(b"<");
+        few_integers(run, kind);
+        print::text(b">");
+        return;
+    }
     print::text(b"{");
-    few_integers(run, signed);
+    few_integers(run, kind);
     print::text(b"}");
 }
 
@@ -83,13 +93,9 @@ fn value(kind: u32, start: u32, length: u32, area: &[u8]) {
     match kind {
         0 => print::text(b"not set"),
         1 => string(part(area, start as usize, length as usize)),
-        2 => list(
-            part(area, start as usize, length as usize * INTEGER_SIZE),
-            true,
-        ),
         _ => list(
             part(area, start as usize, length as usize * INTEGER_SIZE),
-            false,
+            kind,
         ),
     }
 }

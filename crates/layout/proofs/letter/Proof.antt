@@ -76,6 +76,22 @@ returns-16 : tie.Need-returns-16
 unfolding typeOf typeNumbered
 returns-16 c = (ap (λ (n : ℕ). typeOf (n + 64)) (c .match .keys16), λ h. refl, omega arith)
 
+returns-17 : tie.Need-returns-17
+unfolding typeOf typeNumbered
+returns-17 c = (ap (λ (n : ℕ). typeOf (n + 64)) (c .match .keys17), λ h. refl, omega arith)
+
+returns-18 : tie.Need-returns-18
+unfolding typeOf typeNumbered
+returns-18 c = (ap (λ (n : ℕ). typeOf (n + 64)) (c .match .keys18), λ h. refl, omega arith)
+
+returns-19 : tie.Need-returns-19
+unfolding typeOf typeNumbered
+returns-19 c = (ap (λ (n : ℕ). typeOf (n + 64)) (c .match .keys19), λ h. refl, omega arith)
+
+returns-20 : tie.Need-returns-20
+unfolding typeOf typeNumbered
+returns-20 c = (ap (λ (n : ℕ). typeOf (n + 64)) (c .match .keys20), λ h. refl, omega arith)
+
 apart : (n k : ℕ) → (n ≡ k → ⊥) → eqb (n + 64) (k + 64) ≡ false
 apart n k h = ne-eqb (n + 64) (k + 64) (λ e. h (omega arith))
 
@@ -83,43 +99,47 @@ other : (c : tie.At-match-rest) → typeOf (c .before .args .n + 64) ≡ Unknown
 unfolding typeOf
 other c =
     rw (
-      apart _ 33 (c .match .rest .0 .0 .0 .0 .0 .0 .0 .0 .1),
-      apart _ 1 (c .match .rest .0 .0 .0 .0 .0 .0 .0 .0 .0 .0 .0 .0 .0 .0 .0 .1),
-      apart _ 34 (c .match .rest .0 .0 .0 .0 .0 .0 .0 .1),
-      apart _ 2 (c .match .rest .0 .0 .0 .0 .0 .0 .0 .0 .0 .0 .0 .0 .0 .0 .1),
-      apart _ 40 (c .match .rest .0 .0 .0 .0 .0 .1),
-      apart _ 8 (c .match .rest .0 .0 .0 .0 .0 .0 .0 .0 .0 .0 .0 .0 .0 .1),
-      apart _ 35 (c .match .rest .0 .0 .0 .0 .0 .0 .1),
+      apart _ 33 (c .match .rest .0 .0 .0 .0 .0 .0 .0 .0 .0 .0 .1),
+      apart _ 1 (c .match .rest .0 .0 .0 .0 .0 .0 .0 .0 .0 .0 .0 .0 .0 .0 .0 .0 .0 .0 .0 .1),
+      apart _ 34 (c .match .rest .0 .0 .0 .0 .0 .0 .0 .0 .0 .1),
+      apart _ 2 (c .match .rest .0 .0 .0 .0 .0 .0 .0 .0 .0 .0 .0 .0 .0 .0 .0 .0 .0 .0 .1),
+      apart _ 40 (c .match .rest .0 .0 .0 .0 .0 .0 .0 .1),
+      apart _ 8 (c .match .rest .0 .0 .0 .0 .0 .0 .0 .0 .0 .0 .0 .0 .0 .0 .0 .0 .0 .1),
+      apart _ 35 (c .match .rest .0 .0 .0 .0 .0 .0 .0 .0 .1),
       apart _ 51 (c .match .rest .0 .0 .0 .1),
-      apart _ 19 (c .match .rest .0 .0 .0 .0 .0 .0 .0 .0 .0 .0 .0 .1),
-      apart _ 41 (c .match .rest .0 .0 .0 .0 .1),
-      apart _ 9 (c .match .rest .0 .0 .0 .0 .0 .0 .0 .0 .0 .0 .0 .0 .1),
+      apart _ 19 (c .match .rest .0 .0 .0 .0 .0 .0 .0 .0 .0 .0 .0 .0 .0 .1),
+      apart _ 41 (c .match .rest .0 .0 .0 .0 .0 .0 .1),
+      apart _ 9 (c .match .rest .0 .0 .0 .0 .0 .0 .0 .0 .0 .0 .0 .0 .0 .0 .0 .0 .1),
       apart _ 55 (c .match .rest .0 .0 .1),
-      apart _ 23 (c .match .rest .0 .0 .0 .0 .0 .0 .0 .0 .0 .0 .1),
+      apart _ 23 (c .match .rest .0 .0 .0 .0 .0 .0 .0 .0 .0 .0 .0 .0 .1),
+      apart _ 50 (c .match .rest .0 .0 .0 .0 .1),
+      apart _ 18 (c .match .rest .0 .0 .0 .0 .0 .0 .0 .0 .0 .0 .0 .0 .0 .0 .1),
+      apart _ 49 (c .match .rest .0 .0 .0 .0 .0 .1),
+      apart _ 17 (c .match .rest .0 .0 .0 .0 .0 .0 .0 .0 .0 .0 .0 .0 .0 .0 .0 .1),
       apart _ 56 (c .match .rest .0 .1),
-      apart _ 24 (c .match .rest .0 .0 .0 .0 .0 .0 .0 .0 .0 .1),
-      apart _ 0 (c .match .rest .0 .0 .0 .0 .0 .0 .0 .0 .0 .0 .0 .0 .0 .0 .0 .0 .1),
+      apart _ 24 (c .match .rest .0 .0 .0 .0 .0 .0 .0 .0 .0 .0 .0 .1),
+      apart _ 0 (c .match .rest .0 .0 .0 .0 .0 .0 .0 .0 .0 .0 .0 .0 .0 .0 .0 .0 .0 .0 .0 .0 .1),
     )
-
-returns-17 : tie.Need-returns-17
-unfolding typeNumbered
-returns-17 c = (other (c .before .before), λ h. absurd (omega arith), omega arith)
-
-returns-18 : tie.Need-returns-18
-unfolding typeNumbered
-returns-18 c = (other (c .before .before .before), λ h. absurd (omega arith), omega arith)
-
-returns-19 : tie.Need-returns-19
-unfolding typeOf typeNumbered
-returns-19 c = (⊎-elim (ap (λ (n : ℕ). typeOf (n + 64))) (ap (λ (n : ℕ). typeOf (n + 64))) (c .match .keys17), λ h. absurd (omega arith), omega arith)
-
-returns-20 : tie.Need-returns-20
-unfolding typeNumbered
-returns-20 c = (other (c .before), λ h. absurd (omega arith), omega arith)
 
 returns-21 : tie.Need-returns-21
 unfolding typeNumbered
-returns-21 c = (other (c .before .before .before), λ h. absurd (omega arith), omega arith)
+returns-21 c = (other (c .before .before), λ h. absurd (omega arith), omega arith)
+
+returns-22 : tie.Need-returns-22
+unfolding typeNumbered
+returns-22 c = (other (c .before .before .before), λ h. absurd (omega arith), omega arith)
+
+returns-23 : tie.Need-returns-23
+unfolding typeOf typeNumbered
+returns-23 c = (⊎-elim (ap (λ (n : ℕ). typeOf (n + 64))) (ap (λ (n : ℕ). typeOf (n + 64))) (c .match .keys21), λ h. absurd (omega arith), omega arith)
+
+returns-24 : tie.Need-returns-24
+unfolding typeNumbered
+returns-24 c = (other (c .before), λ h. absurd (omega arith), omega arith)
+
+returns-25 : tie.Need-returns-25
+unfolding typeNumbered
+returns-25 c = (other (c .before .before .before), λ h. absurd (omega arith), omega arith)
 
 pub letter-spec : {M : Type 1} → statement M
 letter-spec =
@@ -145,4 +165,8 @@ letter-spec =
     returns-18
     returns-19
     returns-20
-    returns-21)
+    returns-21
+    returns-22
+    returns-23
+    returns-24
+    returns-25)

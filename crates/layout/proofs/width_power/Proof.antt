@@ -1,5 +1,5 @@
--- The power is a law of the widths.
-use Rattle.layout.proofs.Numbered.{width-power}
+-- The power is a law of the sizes, of integers and of reals.
+use Rattle.layout.proofs.Numbered.{integer-power, real-power}
 use native.Mathlib.Omega.{arith}
 use borrow.Author.Needs.{needs}
 use Rattle.layout.proofs.width_power.Statement.{statement}
@@ -9,7 +9,13 @@ sub-result : tie.Need-sub-result
 sub-result c = search needs
 
 returns : tie.Need-returns
-returns c = (width-power _ (c .pre .0) (c .pre .1), omega arith)
+returns c = (integer-power _ (c .before .pre .0) (c .if1 .taken), omega arith)
+
+sub-result-2 : tie.Need-sub-result-2
+sub-result-2 c = search needs
+
+returns-2 : tie.Need-returns-2
+returns-2 c = (real-power _ (c .if1 .left) (c .before .pre .1), omega arith)
 
 pub width-power-spec : {M : Type 1} → statement M
-width-power-spec = tie.close (tie.spec sub-result returns)
+width-power-spec = tie.close (tie.spec sub-result sub-result-2 returns returns-2)

@@ -5,7 +5,7 @@ use mathlib.Core.Bool.{true, false}
 use lib.Dec.{eqb}
 use lib.ListN.{length}
 use borrow.Author.Tests.{eq-eqb, ne-eqb, le-leb, lt-leb, not-true, not-false}
-use Rattle.record.specs.Table.{unset, string}
+use Rattle.record.specs.Table.{unset, isIntegers}
 use Rattle.record.specs.Slots.{isInside}
 use Rattle.mean.proofs.LegLaws.{not-set, bad-slot, wrong-kind, wrong-amount, mark-inside, out-of-range, in-range}
 use borrow.Author.Needs.{needs}
@@ -37,14 +37,17 @@ returns-2 c =
 inside : (c : tie.Else2) → isInside (c .before .before .before .before .slot-at .result) (length (c .before .before .before .before .before .before .before .args .area .now)) ≡ true
 inside c = sym (c .before .is-inside .ensures) ∙ not-false _ (c .if2 .left)
 
+is-integers-requires : tie.Need-is-integers-requires
+is-integers-requires c κs = search needs
+
 returns-3 : tie.Need-returns-3
 returns-3 c =
     let tested = c .before .before in
     let slot = tested .before .before .before .before .slot-at in
-    rw (← slot .ensures .same) (wrong-kind _ _ (slot .result) _ (set (tested .before .before)) (inside tested) (eq-eqb _ _ (c .if3 .taken)))
+    rw (← slot .ensures .same) (wrong-kind _ _ (slot .result) _ (set (tested .before .before)) (inside tested) (sym (c .before .is-integers .ensures) ∙ not-true _ (c .if3 .taken)))
 
-integers : (c : tie.Else3) → eqb (c .before .before .before .before .before .before .slot-at .result .kind) string ≡ false
-integers c = ne-eqb _ _ (c .if3 .left)
+integers : (c : tie.Else3) → isIntegers (c .before .before .before .before .before .before .slot-at .result .kind) ≡ true
+integers c = sym (c .before .is-integers .ensures) ∙ not-false _ (c .if3 .left)
 
 returns-4 : tie.Need-returns-4
 returns-4 c =
@@ -101,6 +104,7 @@ step-spec =
     returns
     is-inside-requires
     returns-2
+    is-integers-requires
     returns-3
     returns-4
     number-at-requires

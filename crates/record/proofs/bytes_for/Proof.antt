@@ -4,7 +4,7 @@ use Rattle.layout.specs.declared.Code.the-variants.{Data}
 use Rattle.layout.specs.declared.Shape.the-variants.{Integers}
 use Rattle.layout.specs.Words.{FitCode}
 use Rattle.record.specs.Geometry.{itemsLimit}
-use Rattle.record.proofs.Bounds.{per-byte-small, product-small}
+use Rattle.record.proofs.Bounds.{per-byte-small, real-small, product-small}
 use borrow.Author.Needs.{needs}
 use Rattle.record.proofs.bytes_for.Statement.{statement}
 use Rattle.record.proofs.bytes_for.Tie as tie
@@ -40,6 +40,18 @@ mul-result c =
     let fit : FitCode (Data (Integers (s .0 .0) (s .0 .1 .0))) = rw (s .1) at (start .pre .1) in
     omega (arith, product-small (start .args .n) (s .0 .0) itemsLimit 8 (omega arith) (fit .1))
 
+enum-known-s-3 : tie.Need-enum-known-s-3
+enum-known-s-3 c = search needs
+
+real-size-requires : tie.Need-real-size-requires
+real-size-requires c κs = search needs
+
+mul-result-2 : tie.Need-mul-result-2
+mul-result-2 c =
+    let start = c .before .before .before .before in
+    let single = c .before .before .s3 .given .0 .0 in
+    omega (arith, product-small (start .args .n) (c .real-size .result) itemsLimit 8 (omega arith) (omega (arith, c .real-size .ensures, real-small single)))
+
 returns : tie.Need-returns
 returns c = search needs
 
@@ -48,6 +60,9 @@ returns-2 c = rw (c .before .before .before .s .given .1) (cc)
 
 returns-3 : tie.Need-returns-3
 returns-3 c = rw (c .before .s2 .given .1)
+
+returns-4 : tie.Need-returns-4
+returns-4 c = rw (c .before .before .s3 .given .1) (cc)
 
 pub bytes-for-spec : {M : Type 1} → statement M
 bytes-for-spec =
@@ -62,6 +77,10 @@ bytes-for-spec =
     div-result
     enum-known-s-2
     mul-result
+    enum-known-s-3
+    real-size-requires
+    mul-result-2
     returns
     returns-2
-    returns-3)
+    returns-3
+    returns-4)

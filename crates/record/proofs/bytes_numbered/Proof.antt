@@ -1,6 +1,6 @@
 -- Each form's bytes are computed as the definition says; a shift is a product.
-use Rattle.layout.proofs.Numbered.{shape-text, shape-binary, shape-hex, shape-integers, shape-fits}
-use Rattle.record.proofs.Bounds.{shifted-bytes}
+use Rattle.layout.proofs.Numbered.{shape-text, shape-binary, shape-hex}
+use Rattle.record.proofs.Bounds.{sized-bytes, shifted-bytes}
 use native.Mathlib.Omega.{arith}
 use borrow.Author.Needs.{needs}
 use Rattle.record.proofs.bytes_numbered.Statement.{statement}
@@ -18,7 +18,7 @@ shl-result c = search needs
 returns : tie.Need-returns
 returns c =
     let s = c .before .before in
-    shifted-bytes _ _ _ (shape-integers _ (c .before .if1 .taken) (s .pre .1)) (shape-fits _ (s .pre .1)) (c .width-power .ensures .0) (s .pre .0)
+    rw (sized-bytes _ _ (c .before .if1 .taken) (s .pre .1)) (shifted-bytes _ _ _ (c .width-power .ensures .0) (c .width-power .ensures .1) (s .pre .0))
 
 returns-2 : tie.Need-returns-2
 returns-2 c = rw (shape-text _ (c .if2 .taken))

@@ -27,6 +27,9 @@ all-digits-requires c κs = omega (arith, c .least .ensures, string-inside (c .b
 enum-told-2 : tie.Need-enum-told-2
 enum-told-2 c = search needs
 
+enum-told-3 : tie.Need-enum-told-3
+enum-told-3 c = search needs
+
 returns : tie.Need-returns
 unfolding digitsFit
 returns c = rw (c .enum-told .given .1)
@@ -41,6 +44,10 @@ returns-3 : tie.Need-returns-3
 unfolding digitsFit
 returns-3 c = rw (c .enum-told2 .given .1)
 
+returns-4 : tie.Need-returns-4
+unfolding digitsFit
+returns-4 c = rw (c .enum-told3 .given .1)
+
 pub digits-fit-spec : {M : Type 1} → statement M
 digits-fit-spec =
     tie.close
@@ -50,6 +57,8 @@ digits-fit-spec =
     least-requires
     all-digits-requires
     enum-told-2
+    enum-told-3
     returns
     returns-2
-    returns-3)
+    returns-3
+    returns-4)

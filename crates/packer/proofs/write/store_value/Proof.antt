@@ -1,30 +1,20 @@
 -- In each arm the constants are those of the type's number.
-use Prim.Native.Nat.{ℕ, _+_, _≤_, _<_}
+use Prim.Native.Nat.{ℕ, _≤_}
+use native.Mathlib.Nat.{le-antisymm}
 use native.Mathlib.Omega.{arith}
 use mathlib.Core.Path.{_≡_}
 use Rattle.layout.specs.Words.{lastData, typeNumbered, shapeNumbered}
+use Rattle.layout.proofs.Numbered.{past}
 use borrow.Author.Needs.{needs}
 use Rattle.packer.proofs.write.store_value.Statement.{statement}
 use Rattle.packer.proofs.write.store_value.Tie as tie
-
-any : (d : ℕ) → 0 ≤ d
-any d = omega arith
-
--- past six numbers (as many as `omega` splits by)
-six : (m d : ℕ) → m ≤ d → (d ≡ m → ⊥) → (d ≡ m + 1 → ⊥) → (d ≡ m + 2 → ⊥) → (d ≡ m + 3 → ⊥) → (d ≡ m + 4 → ⊥) → (d ≡ m + 5 → ⊥) → m + 6 ≤ d
-six m d h e₀ e₁ e₂ e₃ e₄ e₅ = omega arith
-
-one : (d : ℕ) → 12 ≤ d → (d ≡ 12 → ⊥) → d ≤ lastData → d ≡ lastData
-one d h e l = omega arith
 
 -- the last arm is the last type of data
 last : (c : tie.At-match-rest) → c .before .before .before .args .d ≡ lastData
 last c =
     let r = c .match .rest in
-    let d : ℕ = c .before .before .before .args .d in
-    let more : 6 ≤ d = six 0 d (any d) (r .0 .0 .0 .0 .0 .0 .0 .0 .0 .0 .0 .0 .1) (r .0 .0 .0 .0 .0 .0 .0 .0 .0 .0 .0 .1) (r .0 .0 .0 .0 .0 .0 .0 .0 .0 .0 .1) (r .0 .0 .0 .0 .0 .0 .0 .0 .0 .1) (r .0 .0 .0 .0 .0 .0 .0 .0 .1) (r .0 .0 .0 .0 .0 .0 .0 .1) in
-    let most : 12 ≤ d = six 6 d more (r .0 .0 .0 .0 .0 .0 .1) (r .0 .0 .0 .0 .0 .1) (r .0 .0 .0 .0 .1) (r .0 .0 .0 .1) (r .0 .0 .1) (r .0 .1) in
-    one d most (r .1) (c .before .before .before .pre .0)
+    let z : 0 ≤ c .before .before .before .args .d = omega arith in
+    le-antisymm (c .before .before .before .pre .0) (past (past (past (past (past (past (past (past (past (past (past (past (past (past (past (past (past z (r .0 .0 .0 .0 .0 .0 .0 .0 .0 .0 .0 .0 .0 .0 .0 .0 .1)) (r .0 .0 .0 .0 .0 .0 .0 .0 .0 .0 .0 .0 .0 .0 .0 .1)) (r .0 .0 .0 .0 .0 .0 .0 .0 .0 .0 .0 .0 .0 .0 .1)) (r .0 .0 .0 .0 .0 .0 .0 .0 .0 .0 .0 .0 .0 .1)) (r .0 .0 .0 .0 .0 .0 .0 .0 .0 .0 .0 .0 .1)) (r .0 .0 .0 .0 .0 .0 .0 .0 .0 .0 .0 .1)) (r .0 .0 .0 .0 .0 .0 .0 .0 .0 .0 .1)) (r .0 .0 .0 .0 .0 .0 .0 .0 .0 .1)) (r .0 .0 .0 .0 .0 .0 .0 .0 .1)) (r .0 .0 .0 .0 .0 .0 .0 .1)) (r .0 .0 .0 .0 .0 .0 .1)) (r .0 .0 .0 .0 .0 .1)) (r .0 .0 .0 .0 .1)) (r .0 .0 .0 .1)) (r .0 .0 .1)) (r .0 .1)) (r .1))
 
 store-text-requires : tie.Need-store-text-requires
 unfolding shapeNumbered typeNumbered
@@ -80,7 +70,23 @@ store-integers-requires-7 c κs = rw (c .before .match .keys13) at (c .before .b
 
 store-integers-requires-8 : tie.Need-store-integers-requires-8
 unfolding shapeNumbered typeNumbered
-store-integers-requires-8 c κs = rw (last (c .before)) at (c .before .before .before .before .pre .1)
+store-integers-requires-8 c κs = rw (c .before .match .keys14) at (c .before .before .before .before .pre .1)
+
+store-reals-requires : tie.Need-store-reals-requires
+unfolding shapeNumbered typeNumbered
+store-reals-requires c κs = rw (c .before .match .keys15) at (c .before .before .before .before .pre .1)
+
+store-reals-requires-2 : tie.Need-store-reals-requires-2
+unfolding shapeNumbered typeNumbered
+store-reals-requires-2 c κs = rw (c .before .match .keys16) at (c .before .before .before .before .pre .1)
+
+store-reals-requires-3 : tie.Need-store-reals-requires-3
+unfolding shapeNumbered typeNumbered
+store-reals-requires-3 c κs = rw (c .before .match .keys17) at (c .before .before .before .before .pre .1)
+
+store-reals-requires-4 : tie.Need-store-reals-requires-4
+unfolding shapeNumbered typeNumbered
+store-reals-requires-4 c κs = rw (last (c .before)) at (c .before .before .before .before .pre .1)
 
 same-length : tie.Need-same-length
 same-length c = search needs
@@ -178,7 +184,35 @@ same-length-14 c = search needs
 
 returns-14 : tie.Need-returns-14
 unfolding shapeNumbered typeNumbered
-returns-14 c = rw (last (c .before .before .before .before)) (c .before .before .store-integers8 .ensures)
+returns-14 c = rw (c .before .before .before .before .match .keys14) (c .before .before .store-integers8 .ensures)
+
+same-length-15 : tie.Need-same-length-15
+same-length-15 c = search needs
+
+returns-15 : tie.Need-returns-15
+unfolding shapeNumbered typeNumbered
+returns-15 c = rw (c .before .before .before .before .match .keys15) (c .before .before .store-reals .ensures)
+
+same-length-16 : tie.Need-same-length-16
+same-length-16 c = search needs
+
+returns-16 : tie.Need-returns-16
+unfolding shapeNumbered typeNumbered
+returns-16 c = rw (c .before .before .before .before .match .keys16) (c .before .before .store-reals2 .ensures)
+
+same-length-17 : tie.Need-same-length-17
+same-length-17 c = search needs
+
+returns-17 : tie.Need-returns-17
+unfolding shapeNumbered typeNumbered
+returns-17 c = rw (c .before .before .before .before .match .keys17) (c .before .before .store-reals3 .ensures)
+
+same-length-18 : tie.Need-same-length-18
+same-length-18 c = search needs
+
+returns-18 : tie.Need-returns-18
+unfolding shapeNumbered typeNumbered
+returns-18 c = rw (last (c .before .before .before .before)) (c .before .before .store-reals4 .ensures)
 
 pub store-value-spec : {M : Type 1} → statement M
 store-value-spec =
@@ -198,6 +232,10 @@ store-value-spec =
     store-integers-requires-6
     store-integers-requires-7
     store-integers-requires-8
+    store-reals-requires
+    store-reals-requires-2
+    store-reals-requires-3
+    store-reals-requires-4
     same-length
     returns
     same-length-2
@@ -225,4 +263,12 @@ store-value-spec =
     same-length-13
     returns-13
     same-length-14
-    returns-14)
+    returns-14
+    same-length-15
+    returns-15
+    same-length-16
+    returns-16
+    same-length-17
+    returns-17
+    same-length-18
+    returns-18)

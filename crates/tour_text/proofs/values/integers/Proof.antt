@@ -6,10 +6,10 @@ use Rattle.tour_text.proofs.values.integers.Statement.{statement}
 use Rattle.tour_text.proofs.values.integers.Tie as tie
 
 abbrev Inv-loop : tie.InvT-loop
-Inv-loop run signed n i₀ i = (i ≤ n) × (n * 8 ≤ length run)
+Inv-loop run kind n i₀ i = (i ≤ n) × (n * 8 ≤ length run)
 
 abbrev μ-loop : tie.MeasureT-loop
-μ-loop run signed n i₀ i = n - i
+μ-loop run kind n i₀ i = n - i
 
 loop-holds : tie.Need-loop-holds Inv-loop μ-loop
 loop-holds c = search needs

@@ -1,0 +1,2 @@
+-- Laws of reals in fields.
+pub mod RealLaws
