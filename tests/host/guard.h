@@ -1,10 +1,12 @@
 /*
- * Runs between closed pages. A run lies either at the low or at the high end of a stretch of open pages, with a
- * closed page on each side, so that any touch past that end stops the program. The rest of the stretch is filled
- * with a pattern that must not change. Runs that a call may only read are write-protected while it runs.
+ * Runs between closed pages. A run lies either at the low or at the high end of a stretch of open pages, with closed pages
+ * on each side, so that any touch past that end stops the program. The rest of the stretch, a page at least, is filled with
+ * a pattern that must not change. Runs that a call may only read are write-protected while it runs.
  */
 #ifndef GUARD_H
 #define GUARD_H
+
+#include "curlew.h"
 
 #include <stdint.h>
 #include <stdio.h>
@@ -19,11 +21,13 @@ struct guard {
     uint8_t *low;
     uint8_t *expect;
     uint8_t *at;
+    size_t from, open;
     size_t offset;
     size_t len;
 };
 
-static size_t guard_space;
+/* The bytes of a page, and those that may be lent: the largest run is a sheet. */
+static size_t guard_page, guard_space;
 
 static void guard_stop(const char *what)
 {
@@ -33,22 +37,23 @@ static void guard_stop(const char *what)
 
 static void guard_open(struct guard *g)
 {
-    size_t page = (size_t)sysconf(_SC_PAGESIZE);
     void *all;
 
-    guard_space = (70000 + page - 1) / page * page;
-    all = mmap(NULL, guard_space + 2 * page, PROT_NONE, MAP_PRIVATE | MAP_ANONYMOUS, -1, 0);
+    guard_page = (size_t)sysconf(_SC_PAGESIZE);
+    guard_space = (CURLEW_MAX_SHEET / guard_page + 3) * guard_page;
+    all = mmap(NULL, guard_space + 2 * guard_page, PROT_NONE, MAP_PRIVATE | MAP_ANONYMOUS, -1, 0);
     if (all == MAP_FAILED)
         guard_stop("mmap");
-    g->low = (uint8_t *)all + page;
+    g->low = (uint8_t *)all + guard_page;
     g->expect = (uint8_t *)malloc(guard_space);
     if (g->expect == NULL)
         guard_stop("malloc");
 }
 
+/* Gives the open pages this mode. */
 static void guard_protect(struct guard *g, int mode)
 {
-    if (mprotect(g->low, guard_space, mode) != 0)
+    if (mprotect(g->low + g->from, g->open, mode) != 0)
         guard_stop("mprotect");
 }
 
@@ -57,14 +62,18 @@ static void guard_lend(struct guard *g, const uint8_t *bytes, size_t len, enum p
 {
     size_t i;
 
-    for (i = 0; i < guard_space; i++)
+    if (g->open > 0)
+        guard_protect(g, PROT_NONE);
+    g->open = (len / guard_page + 2) * guard_page;
+    g->from = place == LOW ? 0 : guard_space - g->open;
+    for (i = g->from; i < g->from + g->open; i++)
         g->expect[i] = (uint8_t)(i * 7 + 0x5a);
     g->len = len;
     g->offset = place == LOW ? 0 : guard_space - len;
     if (bytes != NULL && len > 0)
         memcpy(g->expect + g->offset, bytes, len);
     guard_protect(g, PROT_READ | PROT_WRITE);
-    memcpy(g->low, g->expect, guard_space);
+    memcpy(g->low + g->from, g->expect + g->from, g->open);
     g->at = place == NULL_IF_EMPTY && len == 0 ? NULL : g->low + g->offset;
 }
 
@@ -76,7 +85,7 @@ static uint8_t *guard_expected(struct guard *g)
 
 static int guard_holds(const struct guard *g)
 {
-    return memcmp(g->low, g->expect, guard_space) == 0;
+    return memcmp(g->low + g->from, g->expect + g->from, g->open) == 0;
 }
 
 #endif

@@ -304,10 +304,10 @@ static void test_layout_refusals(void)
         {"t", 2, 0, 2, 0}, {"c 3", 2, 2, 2, 2}, {"c*5", 2, 2, 2, 2}, {"c5*", 2, 2, 2, 2}, {"auu", 2, 2, 2, 2},
         {"xuu2", 2, 2, 2, 2}, {"cuu", 2, 2, 2, 2}, {"c\t", 2, 1, 2, 1}, {"a f", 2, 2, 2, 2}, {"5", 2, 0, 2, 0},
         {"*", 2, 0, 2, 0}, {"u", 2, 0, 2, 0}, {"a\xe4", 2, 1, 2, 1},
-        {"c4097", 3, 1, 3, 1}, {" a99999999999999999999", 3, 2, 3, 2}, {"x 4097x4097", 2, 2, 2, 2},
-        {"xu04097", 3, 2, 3, 2}, {"c4294967297", 3, 1, 3, 1}, {"c18446744073709551617", 3, 1, 3, 1},
+        {"c32769", 3, 1, 3, 1}, {" a99999999999999999999", 3, 2, 3, 2}, {"x 32769x32769", 2, 2, 2, 2},
+        {"xu032769", 3, 2, 3, 2}, {"c4294967297", 3, 1, 3, 1}, {"c18446744073709551617", 3, 1, 3, 1},
         {"@", 4, 0, 4, 0}, {"a @u", 4, 2, 4, 2}, {"@uu", 4, 0, 4, 0}, {"@ 5", 4, 0, 4, 0}, {"x2x*u", 4, 2, 2, 4},
-        {"c0004097t", 3, 1, 3, 1}, {"@t", 4, 0, 4, 0}, {"tc4097", 2, 0, 2, 0},
+        {"c00032769t", 3, 1, 3, 1}, {"@t", 4, 0, 4, 0}, {"tc32769", 2, 0, 2, 0},
     };
     size_t i;
 
@@ -534,20 +534,20 @@ static void test_record_limit(void)
     begin(&given, 0);
     add_bytes(&given, bytes, CURLEW_MAX_RECORD);
     add_text(&given, "e");
-    c = pack_call("a4096a0");
+    c = pack_call("a32768a0");
     c.data_len = CURLEW_MAX_RECORD;
     finish_pack(&c, bytes, CURLEW_MAX_RECORD);
     c.data_len = CURLEW_MAX_RECORD + 1;
     refuse_pack(&c, CURLEW_BAD_SIZE, 0);
-    c = pack_call("a4096a1");
+    c = pack_call("a32768a1");
     c.data_len = CURLEW_MAX_RECORD;
     refuse_pack(&c, CURLEW_NO_ROOM, 0);
-    c = pack_call("a4097a1");
+    c = pack_call("a32769a1");
     refuse_pack(&c, CURLEW_BAD_COUNT, 1);
 
     begin(&wanted, 0);
     add_bytes(&wanted, bytes, CURLEW_MAX_RECORD);
-    c = read_call("a4096", bytes, CURLEW_MAX_RECORD);
+    c = read_call("a32768", bytes, CURLEW_MAX_RECORD);
     c.area_len = CURLEW_MAX_RECORD;
     finish_read(&c);
     c.area_len--;
@@ -559,7 +559,7 @@ static void test_record_limit(void)
 static void test_area_limit(void)
 {
     static char digits[CURLEW_MAX_RECORD * 8];
-    uint8_t record[CURLEW_MAX_RECORD];
+    static uint8_t record[CURLEW_MAX_RECORD];
     struct call c;
 
     memset(record, 0xff, sizeof record);
@@ -587,19 +587,19 @@ static void test_area_limit(void)
 
 static void test_count_limit(void)
 {
-    uint8_t record[CURLEW_MAX_COUNT];
+    static uint8_t record[CURLEW_MAX_COUNT];
     struct call c;
 
     memset(record, 0x85, sizeof record);
     begin(&given, 0);
     add_same(&given, CURLEW_SIGNED, CURLEW_MAX_COUNT, 0x1285);
-    c = pack_call("c4096");
+    c = pack_call("c32768");
     c.data_len = CURLEW_MAX_RECORD;
     finish_pack(&c, record, sizeof record);
-    pack_refused("c4097", CURLEW_BAD_COUNT, 1);
+    pack_refused("c32769", CURLEW_BAD_COUNT, 1);
     begin(&wanted, 0);
     add_same(&wanted, CURLEW_SIGNED, CURLEW_MAX_COUNT, 0x85 - 0x100);
-    c = read_call("c4096", record, sizeof record);
+    c = read_call("c32768", record, sizeof record);
     c.area_len = CURLEW_MAX_AREA;
     finish_read(&c);
 }

@@ -104,6 +104,22 @@ static void test_damages(void)
     rescues("no sheet, no legs", "", 0, 0, 0, 0);
 }
 
+/* The same values in version 2, which has longer lengths, at every cut. */
+static void test_second_version(void)
+{
+    static const uint8_t sheet_bytes[] = {2, 0, 0, 0, 0, 0, 0, 0, 1, 0, 0, 0, 0, 3, 1, 'O', 'K', 0, 0, 0, 9, 2,
+                                          255, 255, 255, 255, 255, 255, 255, 254};
+    static const size_t ends[] = {5, 10, 17, 30};
+    size_t cut, kept;
+
+    for (cut = 0; cut <= sizeof sheet_bytes; cut++) {
+        for (kept = 0; kept < 3 && ends[kept + 1] <= cut; kept++)
+            continue;
+        want(kept, 1);
+        rescues("version 2 cut short", sheet_bytes, cut, 4, 1, (uint32_t)(cut < 5 ? cut : cut - ends[kept]));
+    }
+}
+
 static void test_refusals(void)
 {
     static const size_t sizes[] = {0, 12, 15, 17};
@@ -141,6 +157,7 @@ int main(void)
     open_sheets();
     test_cuts();
     test_damages();
+    test_second_version();
     test_refusals();
     return summary();
 }

@@ -47,7 +47,7 @@ def table(values):
     return slots, area
 
 
-def pack(lib, layout, values, room=4096):
+def pack(lib, layout, values, room=32768):
     slots, area = table(values)
     out, reply = ctypes.create_string_buffer(room), ctypes.create_string_buffer(12)
     number = lib.curlew_pack(*lent(layout), *lent(slots), *lent(area), out, room, reply, 12)
@@ -65,7 +65,7 @@ def shown(slot, area):
     return list(struct.unpack_from(f">{length}{ITEMS[kind]}", area, start))
 
 
-def read_slots(lib, layout, record, count, room=65536):
+def read_slots(lib, layout, record, count, room=524288):
     (slots, slots_run), (area, area_run), (reply, reply_run) = own(SLOT.size * count), own(room), own(THREE.size)
     number = lib.curlew_read(*lent(layout), *lent(record), *slots_run, *area_run, 0, *reply_run)
     answer = THREE.unpack(reply.raw)
@@ -86,7 +86,7 @@ def own(size):
 
 def sheet_write(lib, values):
     slots, area = table(values)
-    (sheet, sheet_run), (reply, reply_run) = own(200), own(12)
+    (sheet, sheet_run), (reply, reply_run) = own(1048576), own(12)
     number = lib.curlew_sheet_write(*lent(slots), *lent(area), *sheet_run, *reply_run)
     return number, sheet.raw[:struct.unpack(">3I", reply.raw)[1]]
 
@@ -153,11 +153,14 @@ def main():
     equal(pack(lib, b"c t", [[1]])[0], (2, 2, 0))
     equal(pack(lib, b"b3", [b"012"])[0], (10, 0, 0))
     equal(pack(lib, b"a9", [b""], 8)[0], (11, 0, 0))
-    equal(read(lib, b"c4097", b"", 1)[0], (3, 1, 0))
+    equal(read(lib, b"c32769", b"", 1)[0], (3, 1, 0))
+    equal(pack(lib, b"a32768", [b""]), ((0, 32768, 0), bytes(32768)))
     equal(pack(lib, b"", []), ((0, 0, 0), b""))
     sheet = bytes.fromhex("010013 000100 0003014f4b 000902fffffffffffffffe")
     equal(sheet_write(lib, [None, b"OK", [-2]]), (0, sheet))
     equal(sheet_read(lib, sheet, 4), ((0, 3, 10), [None, b"OK", [-2], None]))
+    written = sheet_write(lib, [bytes(65533)])
+    equal((written[0], written[1][:10], len(written[1])), (0, bytes.fromhex("0200010002 0000fffe01"), 65543))
     equal(sheet_read(lib, sheet[:-1], 4), ((12, 0, 0), [None] * 4))
     answer, slots, area = sheet_rescue(lib, sheet[:-1], 3)
     equal((answer, [shown(slot, area) for slot in slots]), ((0, 2, 1, 10), [None, b"OK", None, None]))

@@ -177,7 +177,7 @@ static void test_damaged_sheets(void)
         {"an empty sheet", "", 0, CURLEW_BAD_SHEET, 0},
         {"a version alone", "\1", 1, CURLEW_BAD_SHEET, 0},
         {"a header cut", "\1\0", 2, CURLEW_BAD_SHEET, 0},
-        {"another version", "\2\0\0", 3, CURLEW_BAD_VERSION, 0},
+        {"another version", "\3\0\0", 3, CURLEW_BAD_VERSION, 0},
         {"another version, cut", "\0", 1, CURLEW_BAD_VERSION, 0},
         {"a byte behind the end", "\1\0\0\0", 4, CURLEW_BAD_SHEET, 0},
         {"a length beyond the end", "\1\0\4\0\1\0", 6, CURLEW_BAD_SHEET, 0},
@@ -188,6 +188,11 @@ static void test_damaged_sheets(void)
         {"a value that is not set", "\1\0\4\0\2\0x", 7, CURLEW_BAD_SHEET, 3},
         {"seven bytes of an integer", "\1\0\12\0\10\2abcdefg", 13, CURLEW_BAD_SHEET, 3},
         {"a bad entry behind too many", "\1\0\20\0\1\0\0\1\0\0\1\0\0\1\0\0\1\0\0", 19, CURLEW_BAD_SHEET, 18},
+        {"version 2 alone", "\2", 1, CURLEW_BAD_SHEET, 0},
+        {"a header of version 2, cut", "\2\0\0\0", 4, CURLEW_BAD_SHEET, 0},
+        {"no entries in version 2", "\2\0\0\0\0", 5, CURLEW_BAD_SHEET, 0},
+        {"version 2 where version 1 would do", "\2\0\0\0\5\0\0\0\1\0", 10, CURLEW_BAD_SHEET, 0},
+        {"a bad entry comes before that", "\2\0\0\0\5\0\0\0\1\7", 10, CURLEW_BAD_SHEET, 5},
         {"too many entries", "\1\0\17\0\1\0\0\1\0\0\1\0\0\1\0\0\1\0", 18, CURLEW_BAD_SLOTS, 0},
     };
     size_t i;
@@ -205,42 +210,70 @@ static void test_cuts(void)
         read_refused("a sheet cut short", three, cut, CURLEW_BAD_SHEET, 0);
 }
 
-static void test_sizes(void)
+/* A sheet of one string of zero bytes: written, read, and each with a byte too few. */
+static void both_ways(const char *name, const uint8_t *bytes, size_t len, size_t string)
+{
+    begin(&given, 0);
+    add_slot(&given, CURLEW_STRING, 0, string);
+    given.used = string;
+    writes(name, len, bytes, len);
+    write_refused(name, len - 1, CURLEW_NO_ROOM, 0);
+    begin(&wanted, 0);
+    add_slot(&wanted, CURLEW_STRING, 0, string);
+    wanted.used = string;
+    reads(name, bytes, len, 1, string, 0);
+    lend_sheet(bytes, len, CURLEW_SLOT_SIZE, string - 1);
+    expect_answer(CURLEW_NO_ROOM, 0, 0);
+    run_read(name, 0, CURLEW_NO_ROOM);
+}
+
+static void test_lengths(void)
 {
     static uint8_t large[CURLEW_MAX_SHEET + 1];
-    const size_t longest = CURLEW_MAX_SHEET - 6;
+    static const uint8_t last_of_first[] = {1, 255, 255, 255, 253, 1};
+    static const uint8_t first_of_second[] = {2, 0, 1, 0, 2, 0, 0, 255, 254, 1};
+
+    memcpy(large, last_of_first, sizeof last_of_first);
+    both_ways("the longest sheet of version 1", large, 65538, 65532);
+    memcpy(large, first_of_second, sizeof first_of_second);
+    both_ways("the shortest sheet of version 2", large, 65543, 65533);
+    curlew_put_number(large + 1, CURLEW_MAX_AREA + 5);
+    curlew_put_number(large + 5, CURLEW_MAX_AREA + 1);
+    both_ways("all that an area can hold", large, CURLEW_MAX_AREA + 10, CURLEW_MAX_AREA);
 
     begin(&given, 0);
-    given.used = longest;
-    curlew_put_slot(given.slots, given.count++, CURLEW_STRING, 0, (uint32_t)longest);
-    memset(large, 0, sizeof large);
-    large[0] = 1;
-    large[1] = large[2] = large[3] = 255;
-    large[4] = 253;
-    large[5] = CURLEW_STRING;
-    writes("the longest sheet", CURLEW_MAX_SHEET, large, CURLEW_MAX_SHEET);
+    given.used = CURLEW_MAX_AREA;
+    add_slot(&given, CURLEW_STRING, 0, CURLEW_MAX_AREA);
+    add_slot(&given, CURLEW_STRING, 0, CURLEW_MAX_SHEET - CURLEW_MAX_AREA - 15);
+    curlew_put_number(large + 1, CURLEW_MAX_SHEET - 5);
+    curlew_put_number(large + 10 + CURLEW_MAX_AREA, CURLEW_MAX_SHEET - CURLEW_MAX_AREA - 14);
+    large[14 + CURLEW_MAX_AREA] = 1;
+    writes("the longest sheet of all", CURLEW_MAX_SHEET, large, CURLEW_MAX_SHEET);
     write_refused("a buffer over its limit", CURLEW_MAX_SHEET + 1, CURLEW_BAD_SIZE, 0);
-    curlew_put_slot(given.slots, 0, CURLEW_STRING, 0, (uint32_t)longest - 1);
-    curlew_put_slot(given.slots, given.count++, CURLEW_STRING, 0, 0);
-    write_refused("a sheet too long for its header", CURLEW_MAX_SHEET, CURLEW_NO_ROOM, 0);
-
-    begin(&wanted, 0);
-    wanted.used = longest;
-    add_slot(&wanted, CURLEW_STRING, 0, longest);
-    reads("the longest sheet", large, CURLEW_MAX_SHEET, 1, CURLEW_MAX_AREA, 0);
+    curlew_put_slot(given.slots, 1, CURLEW_STRING, 0, CURLEW_MAX_SHEET - CURLEW_MAX_AREA - 14);
+    write_refused("a sheet that no buffer holds", CURLEW_MAX_SHEET, CURLEW_NO_ROOM, 0);
+    lend_sheet(large, CURLEW_MAX_SHEET, 2 * CURLEW_SLOT_SIZE, CURLEW_MAX_AREA);
+    expect_answer(CURLEW_NO_ROOM, 0, 0);
+    run_read("values that no area holds", 0, CURLEW_NO_ROOM);
     lend_sheet(large, CURLEW_MAX_SHEET + 1, CURLEW_SLOT_SIZE, 100);
     expect_answer(CURLEW_BAD_SIZE, 0, 0);
     run_read("a sheet over its limit", 0, CURLEW_BAD_SIZE);
-    lend_sheet("\2", 1, CURLEW_SLOT_SIZE - 1, 100);
+    large[0] = 1;
+    read_refused("version 1 and too long for it", large, 65539, CURLEW_BAD_SHEET, 0);
+}
+
+static void test_sizes(void)
+{
+    lend_sheet("\3", 1, CURLEW_SLOT_SIZE - 1, 100);
     expect_answer(CURLEW_BAD_SIZE, 0, 0);
     run_read("slots that are no whole number", 0, CURLEW_BAD_SIZE);
-    lend_sheet("\2", 1, (CURLEW_MAX_SLOTS + 1) * CURLEW_SLOT_SIZE, 100);
+    lend_sheet("\3", 1, (CURLEW_MAX_SLOTS + 1) * CURLEW_SLOT_SIZE, 100);
     expect_answer(CURLEW_BAD_SIZE, 0, 0);
     run_read("slots over their limit", 0, CURLEW_BAD_SIZE);
-    lend_sheet("\2", 1, CURLEW_SLOT_SIZE, CURLEW_MAX_AREA + 1);
+    lend_sheet("\3", 1, CURLEW_SLOT_SIZE, CURLEW_MAX_AREA + 1);
     expect_answer(CURLEW_BAD_SIZE, 0, 0);
     run_read("an area over its limit", 0, CURLEW_BAD_SIZE);
-    lend_sheet("\2", 1, CURLEW_SLOT_SIZE, 100);
+    lend_sheet("\3", 1, CURLEW_SLOT_SIZE, 100);
     expect_answer(CURLEW_BAD_SIZE, 0, 0);
     run_read("a mark above the area", 101, CURLEW_BAD_SIZE);
 }
@@ -271,6 +304,7 @@ int main(void)
     test_write_refusals();
     test_damaged_sheets();
     test_cuts();
+    test_lengths();
     test_sizes();
     test_reply_sizes();
     return summary();

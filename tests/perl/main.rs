@@ -60,7 +60,7 @@ use call::numbers;
 use dice::Dice;
 use layouts::{random_arguments, takers, Count, Spec};
 use library::by_library;
-use limits::{AREA_MAX, LAYOUT_MAX, RECORD_MAX, SLOTS_MAX, SLOT_NUMBERS};
+use limits::{AREA_MAX, ITEM_BYTES, LAYOUT_MAX, RECORD_MAX, SLOTS_MAX, SLOT_NUMBERS};
 use peer::{answers, bytes_of, hex, integers, value};
 use std::env;
 use std::process::exit;
@@ -161,7 +161,9 @@ fn packing(template: &str, layout: &str, specs: &[Spec], arguments: &[Value]) ->
 /// Reads by the layout; gives the question that asks perl to unpack by the template.
 fn reading(template: &str, layout: &str, record: &[u8], slots: usize) -> Question {
     let mut call = fixed::reading(layout, record, slots);
-    call.area.resize(AREA_MAX, 0);
+    // No byte of a record takes more than eight of the area.
+    let room = call.mark + ITEM_BYTES * record.len();
+    call.area.resize(room, 0);
     let (after, _) = by_library(&call);
     let mut due = Vec::new();
     for slot in numbers(&after.slots).chunks_exact(SLOT_NUMBERS) {

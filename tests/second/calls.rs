@@ -260,7 +260,7 @@ fn random_room(dice: &mut Dice, need: usize) -> (usize, usize) {
     let mark = match dice.below(8) {
         0 => 0,
         1 => dice.below(300),
-        2 => AREA_MAX.saturating_sub(need),
+        2 if dice.once_in(40) => AREA_MAX.saturating_sub(need),
         _ => dice.below(20),
     };
     let end = mark + need;

@@ -54,12 +54,12 @@ const TAKERS: &[u8] = b"aAbBhHcsSiIwWqQrR";
 const MOVES: &[u8] = b"xxX@";
 
 fn random_number(dice: &mut Dice) -> usize {
-    match dice.below(100) {
-        0..=54 => dice.below(10),
-        55..=84 => dice.below(40),
-        85..=94 => dice.below(200),
-        95..=97 => dice.below(1500),
-        98 => dice.pick(&[COUNT_MAX - 6, COUNT_MAX - 1, COUNT_MAX]),
+    match dice.below(400) {
+        0..=219 => dice.below(10),
+        220..=339 => dice.below(40),
+        340..=379 => dice.below(200),
+        380..=395 => dice.below(1500),
+        396 | 397 => dice.pick(&[COUNT_MAX - 6, COUNT_MAX - 1, COUNT_MAX]),
         _ => dice.between(0, COUNT_MAX),
     }
 }

@@ -2,10 +2,13 @@
 
 pub const LAYOUT_MAX: usize = 256;
 pub const SLOTS_MAX: usize = 64;
-pub const RECORD_MAX: usize = 4096;
-pub const AREA_MAX: usize = 65536;
-pub const COUNT_MAX: usize = 4096;
-pub const SHEET_MAX: usize = 65538;
+pub const RECORD_MAX: usize = 32_768;
+pub const AREA_MAX: usize = 524_288;
+pub const COUNT_MAX: usize = 32_768;
+pub const SHEET_MAX: usize = 1_048_576;
+
+/// The largest length that the first version of sheets can tell.
+pub const SHORT_LENGTH_MAX: usize = 65_535;
 
 /// How many numbers make a slot: kind, start, length and position.
 pub const SLOT_NUMBERS: usize = 4;

@@ -1,7 +1,7 @@
 //! What can be kept of a damaged sheet: the whole and well-formed entries at its front.
 
 use crate::limits::{AREA_MAX, LEGS_MAX, NO_POSITION, RESCUE_REPLY_BYTES, SHEET_MAX, SLOT_BYTES};
-use crate::sheet::{entry, is_other_version, load, HEADER};
+use crate::sheet::{entry, is_other_version, load, opened};
 use crate::slots::{bad_slot_run, put_slot, refused, replied, Answer};
 
 /// The entries kept, the bytes of their values, and what is left of the sheet behind them.
@@ -11,15 +11,17 @@ struct Kept<'a> {
     dropped: &'a [u8],
 }
 
-/// The entries at the front, at most so many. The header's length is not looked at.
+/// The entries at the front, at most so many. The header's length is not looked at, and neither is whether the
+/// table could do with another version.
 fn kept(sheet: &[u8], most: usize) -> Kept<'_> {
+    let (length, entries) = opened(sheet).unwrap_or((usize::MAX, sheet));
     let mut kept = Kept {
         entries: 0,
         bytes: 0,
-        dropped: sheet.get(HEADER..).unwrap_or(sheet),
+        dropped: entries,
     };
-    while kept.entries < most && sheet.len() >= HEADER {
-        match entry(kept.dropped) {
+    while kept.entries < most {
+        match entry(kept.dropped, length) {
             None => break,
             Some((_, value, rest)) => {
                 kept.entries += 1;
@@ -56,9 +58,7 @@ fn rescued(
     for slot in blank.chunks_exact_mut(SLOT_BYTES) {
         put_slot(slot, 0, 0, 0, NO_POSITION);
     }
-    if kept.entries > 0 {
-        load(&sheet[HEADER..], set, area, mark);
-    }
+    load(sheet, set, area, mark);
     let blanked = legs - kept.entries;
     Ok([0, kept.entries, blanked, kept.dropped.len()].map(|n| n as u32))
 }

@@ -7,7 +7,7 @@ use crate::library::by_library;
 use crate::limits::{
     AREA_MAX, LEGS_MAX, REPLY_BYTES, RESCUE_REPLY_BYTES, SHEET_MAX, SLOTS_MAX, SLOT_BYTES,
 };
-use crate::sheet_calls::{random_sheet, random_table, size};
+use crate::sheet_calls::{entry_places, random_sheet, random_table, sheet_length, size};
 use crate::values::{ints, shown, table, text, Value};
 
 const OLD: u8 = 0xe7;
@@ -127,7 +127,8 @@ fn every_byte(t: &mut dyn Judge) {
             let call = rescue(&sheet, 3, 4, 40);
             let after = t.compare("damaged sheet", &call);
             if at == 0 {
-                t.claim("versions", &call, (after.returned == 13) == (byte != 1));
+                let known = byte == 1 || byte == 2;
+                t.claim("versions", &call, (after.returned == 13) != known);
                 continue;
             }
             let before = ENDS
@@ -213,6 +214,31 @@ fn sizes(t: &mut dyn Judge) {
     rescues(t, &sheet, 1, &[text(&long)], SHEET_MAX - used);
     let many = [&[1, 9, 9][..], &[0, 1, 0].repeat(LEGS_MAX + 6)].concat();
     rescues(t, &many, LEGS_MAX, &vec![Value::Unset; LEGS_MAX], 18);
+    let most = AREA_MAX - MARK - 2;
+    let long = vec![b'y'; most];
+    let length = (1 + most as u32).to_be_bytes();
+    let mut sheet = [&[2, 0, 0, 0, 0][..], &length, &[1], &long].concat();
+    rescues(t, &sheet, 1, &[text(&long)], 0);
+    rescues(t, &sheet[..sheet.len() - 1], 1, &[], most + 4);
+    sheet.resize(SHEET_MAX, 0);
+    rescues(t, &sheet, 1, &[text(&long)], SHEET_MAX - most - 10);
+}
+
+/// Version 2 has a header of five bytes and lengths of four; whether version 1 would do is not asked.
+fn second_version(t: &mut dyn Judge) {
+    let mut sheet = vec![2, 9, 9, 9, 9, 0, 0, 0, 1, 0, 0, 0, 0, 3, 1, b'O', b'K'];
+    sheet.extend([0, 0, 0, 9, 2, 255, 255, 255, 255, 255, 255, 255, 254]);
+    let ends = [5, 10, 17, 30];
+    for cut in 0..=sheet.len() {
+        let whole = ends.iter().filter(|&&end| end <= cut).count();
+        let end = if cut < ends[0] { 0 } else { ends[whole - 1] };
+        let values = &three_values()[..whole.saturating_sub(1)];
+        rescues(t, &sheet[..cut], 4, values, cut - end);
+    }
+    sheet[11] = 1;
+    rescues(t, &sheet, 3, &three_values()[..1], 20);
+    sheet[0] = 1;
+    rescues(t, &sheet, 3, &[], 27);
 }
 
 pub fn run(t: &mut dyn Judge) {
@@ -222,6 +248,7 @@ pub fn run(t: &mut dyn Judge) {
     order(t);
     replies(t);
     sizes(t);
+    second_version(t);
 }
 
 // Random sheets
@@ -258,12 +285,12 @@ fn random_rescue(dice: &mut Dice, sheet: &[u8], legs: usize, bytes: usize) -> Ca
     call
 }
 
-/// The writing of a table, with all the room that there can be.
+/// The writing of a table, with the room that it needs if there can be so much.
 fn writing(slots: &[u8], area: &[u8]) -> Call {
     let runs = Runs {
         slots: slots.to_vec(),
         area: area.to_vec(),
-        sheet: vec![OLD; SHEET_MAX],
+        sheet: vec![OLD; sheet_length(&shown(slots, area)).min(SHEET_MAX)],
         reply: vec![OLD; REPLY_BYTES],
         ..Runs::default()
     };
@@ -317,30 +344,20 @@ fn written(dice: &mut Dice) -> (Vec<u8>, Vec<Value>) {
     }
 }
 
-/// Where the entries of these values end.
-fn ends(values: &[Value]) -> Vec<usize> {
-    let mut end = ENDS[0];
-    let entry = |value: &Value| {
-        end += 3 + value.bytes().len();
-        end
-    };
-    values.iter().map(entry).collect()
-}
-
 /// A sheet that was written, cut at every byte or with every byte damaged.
 fn cut_and_damaged(dice: &mut Dice, judge: &mut dyn Judge) {
     let (sheet, values) = written(dice);
     as_read(judge, &sheet, &values);
-    let ends = ends(&values);
+    let ends = entry_places(&sheet, &values);
     let step = 1 + sheet.len() / 60;
     for at in (0..sheet.len()).step_by(step) {
-        let before = ends.iter().filter(|&&end| end <= at).count();
-        let dropped = match (at, before) {
-            (0..=2, _) => at,
-            (_, 0) => at - ENDS[0],
-            _ => at - ends[before - 1],
+        let whole = ends.iter().filter(|&&end| end <= at).count();
+        let dropped = if at < ends[0] {
+            at
+        } else {
+            at - ends[whole - 1]
         };
-        let kept = &values[..before];
+        let kept = &values[..whole.saturating_sub(1)];
         let legs = (values.len() + dice.below(3)).min(LEGS_MAX);
         let call = rescue(&sheet[..at], legs, legs, size(kept));
         judge.expect("a cut sheet", &call, &saved(&call, kept, dropped));

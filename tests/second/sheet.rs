@@ -1,19 +1,32 @@
 //! Tables stored as sheets: a version byte, the length of the rest, then an entry for each slot.
 //!
-//! An entry is the length of what follows in it, the kind, and the value's bytes.
+//! An entry is the length of what follows in it, the kind, and the value's bytes. A length has two bytes in version 1 and
+//! four in version 2, which only tables have that version 1 cannot hold.
 
 use crate::limits::{
-    AREA_MAX, ITEM_BYTES, KIND_MAX, NO_POSITION, REPLY_BYTES, SHEET_MAX, SLOT_BYTES,
+    AREA_MAX, ITEM_BYTES, KIND_MAX, NO_POSITION, REPLY_BYTES, SHEET_MAX, SHORT_LENGTH_MAX,
+    SLOT_BYTES,
 };
 use crate::slots::{
     accepted, bad_slot_run, item_bytes, put_slot, refused, replied, slot_at, value_of, Answer, Slot,
 };
 
-const VERSION: u8 = 1;
-/// The bytes of a length.
-const LENGTH: usize = 2;
-const LENGTH_MAX: usize = (1 << (8 * LENGTH)) - 1;
-pub const HEADER: usize = 1 + LENGTH;
+/// The bytes of a length in a version that is known.
+fn length_bytes(version: u8) -> Option<usize> {
+    match version {
+        1 => Some(2),
+        2 => Some(4),
+        _ => None,
+    }
+}
+
+/// The version of a table of so many entries, with so many bytes in their values: the first where it can tell the lengths.
+fn version_of(entries: usize, bytes: usize) -> u8 {
+    match entries * (2 + 1) + bytes {
+        0..=SHORT_LENGTH_MAX => 1,
+        _ => 2,
+    }
+}
 
 fn length_of(bytes: &[u8]) -> usize {
     bytes.iter().fold(0, |sum, &byte| sum << 8 | byte as usize)
@@ -38,23 +51,27 @@ fn written(slots: &[u8], area: &[u8], sheet: &mut [u8]) -> Result<Answer, Answer
         return Err(refused(1, 0));
     }
     let count = slots.len() / SLOT_BYTES;
-    let mut end = HEADER;
+    let mut bytes = 0;
     for index in 0..count {
         let (_, value) = stored(slot_at(slots, index), area).ok_or_else(|| refused(7, index))?;
-        end += LENGTH + 1 + value.len();
+        bytes += value.len();
     }
-    if end > sheet.len() || end - HEADER > LENGTH_MAX {
+    let version = version_of(count, bytes);
+    let length = length_bytes(version).unwrap_or(0);
+    let header = 1 + length;
+    let end = header + count * (length + 1) + bytes;
+    if end > sheet.len() {
         return Err(refused(11, 0));
     }
-    sheet[0] = VERSION;
-    put_length(&mut sheet[1..HEADER], end - HEADER);
-    let mut rest = &mut sheet[HEADER..];
+    sheet[0] = version;
+    put_length(&mut sheet[1..header], end - header);
+    let mut rest = &mut sheet[header..];
     for index in 0..count {
         let (kind, value) = stored(slot_at(slots, index), area).unwrap_or((0, &[]));
-        let (entry, next) = rest.split_at_mut(LENGTH + 1 + value.len());
-        put_length(&mut entry[..LENGTH], 1 + value.len());
-        entry[LENGTH] = kind;
-        entry[LENGTH + 1..].copy_from_slice(value);
+        let (entry, next) = rest.split_at_mut(length + 1 + value.len());
+        put_length(&mut entry[..length], 1 + value.len());
+        entry[length] = kind;
+        entry[length + 1..].copy_from_slice(value);
         rest = next;
     }
     Ok(accepted(end, 0))
@@ -62,9 +79,10 @@ fn written(slots: &[u8], area: &[u8], sheet: &mut [u8]) -> Result<Answer, Answer
 
 // Reading
 
-/// The kind, the value and what follows the entry at the front; none if it is not well formed.
-pub fn entry(bytes: &[u8]) -> Option<(u32, &[u8], &[u8])> {
-    let (length, rest) = (bytes.get(..LENGTH)?, &bytes[LENGTH..]);
+/// The kind, the value and what follows the entry at the front, whose length has so many bytes; none if
+/// it is not well formed.
+pub fn entry(bytes: &[u8], length: usize) -> Option<(u32, &[u8], &[u8])> {
+    let (length, rest) = (bytes.get(..length)?, &bytes[length..]);
     let body = rest.get(..length_of(length))?;
     let (&kind, value) = body.split_first()?;
     let kind = kind as u32;
@@ -82,7 +100,15 @@ pub fn entry(bytes: &[u8]) -> Option<(u32, &[u8], &[u8])> {
 
 /// Whether a first byte is there and no version that is known.
 pub fn is_other_version(sheet: &[u8]) -> bool {
-    sheet.first().map_or(false, |&version| version != VERSION)
+    sheet
+        .first()
+        .map_or(false, |&version| length_bytes(version).is_none())
+}
+
+/// The bytes of a length, and what follows the header; none if the sheet is shorter than its header.
+pub fn opened(sheet: &[u8]) -> Option<(usize, &[u8])> {
+    let length = length_bytes(*sheet.first()?)?;
+    Some((length, sheet.get(1 + length..)?))
 }
 
 /// How many entries the sheet has, and the bytes of their values.
@@ -90,26 +116,31 @@ fn measure(sheet: &[u8]) -> Result<(usize, usize), Answer> {
     if is_other_version(sheet) {
         return Err(refused(13, 0));
     }
-    if sheet.len() < HEADER || length_of(&sheet[1..HEADER]) != sheet.len() - HEADER {
+    let (length, entries) = opened(sheet).ok_or_else(|| refused(12, 0))?;
+    if length_of(&sheet[1..1 + length]) != entries.len() {
         return Err(refused(12, 0));
     }
     let (mut count, mut bytes) = (0, 0);
-    let mut rest = &sheet[HEADER..];
+    let mut rest = entries;
     while !rest.is_empty() {
         let place = sheet.len() - rest.len();
-        let (_, value, next) = entry(rest).ok_or_else(|| refused(12, place))?;
+        let (_, value, next) = entry(rest, length).ok_or_else(|| refused(12, place))?;
         count += 1;
         bytes += value.len();
         rest = next;
     }
+    if version_of(count, bytes) != sheet[0] {
+        return Err(refused(12, 0));
+    }
     Ok((count, bytes))
 }
 
-/// Sets the slots of the entries; there are as many slots, and room for the values.
-pub fn load(entries: &[u8], slots: &mut [u8], area: &mut [u8], mark: usize) {
-    let (mut rest, mut place) = (entries, mark);
+/// Sets as many of the slots as the sheet has entries; there is room for the values.
+pub fn load(sheet: &[u8], slots: &mut [u8], area: &mut [u8], mark: usize) {
+    let (length, mut rest) = opened(sheet).unwrap_or((0, &[]));
+    let mut place = mark;
     for slot in slots.chunks_exact_mut(SLOT_BYTES) {
-        let (kind, value, next) = match entry(rest) {
+        let (kind, value, next) = match entry(rest, length) {
             Some(entry) => entry,
             None => break,
         };
@@ -142,7 +173,7 @@ fn read_into(
     if bytes > area.len() - mark {
         return Err(refused(11, 0));
     }
-    load(&sheet[HEADER..], slots, area, mark);
+    load(sheet, slots, area, mark);
     Ok(accepted(count, mark + bytes))
 }
 

@@ -1,15 +1,19 @@
 //! Sheets: the worked example, the edges, random tables, and sheets that are damaged or cut.
 
-use crate::call::{by_twin, numbers, Call, Judge, Runs, Which};
+use crate::call::{numbers, Call, Judge, Runs, Which};
 use crate::calls::{damage_reply, damage_slot, damage_slot_run, random_slots, scattered};
 use crate::dice::Dice;
 use crate::fixed::{refuses, was_set, with_slot};
 use crate::layouts::random_value;
-use crate::limits::{AREA_MAX, KIND_MAX, REPLY_BYTES, SHEET_MAX, SLOTS_MAX, SLOT_BYTES};
+use crate::limits::{
+    AREA_MAX, KIND_MAX, REPLY_BYTES, SHEET_MAX, SHORT_LENGTH_MAX, SLOTS_MAX, SLOT_BYTES,
+};
 use crate::values::{ints, reals, shown, slot, table, text, uints, Value};
 
 const OLD: u8 = 0xab;
 const MARK: usize = 3;
+/// The longest sheet of version 1.
+const SHORT_SHEET_MAX: usize = SHORT_LENGTH_MAX + 3;
 
 fn writing(values: &[Value], room: usize) -> Call {
     let (slots, area) = table(values, 0);
@@ -87,7 +91,7 @@ fn damaged_headers(t: &mut dyn Judge) {
     reading_refused(t, &[], 12, 0);
     reading_refused(t, &[1], 12, 0);
     reading_refused(t, &[1, 0], 12, 0);
-    for version in [0, 2, 3, 255] {
+    for version in [0, 3, 4, 255] {
         reading_refused(t, &[version], 13, 0);
         reading_refused(t, &[version, 0, 0], 13, 0);
         reading_refused(t, &[version, 9, 9, 9, 9], 13, 0);
@@ -98,6 +102,25 @@ fn damaged_headers(t: &mut dyn Judge) {
     reading_refused(t, &[1, 0, 2, 0, 1, 0], 12, 0);
     reading_refused(t, &[1, 3, 0, 0, 1, 0], 12, 0);
     reading_refused(t, &[1, 0, 6, 0, 1, 0], 12, 0);
+    let long = vec![1; SHORT_SHEET_MAX + 1];
+    reading_refused(t, &long, 12, 0);
+}
+
+/// Version 2: a header of five bytes, lengths of four, and refused where version 1 would do.
+fn second_version(t: &mut dyn Judge) {
+    for cut in 1..5 {
+        reading_refused(t, &[2, 0, 0, 0, 0][..cut], 12, 0);
+    }
+    reading_refused(t, &[2, 0, 0, 0, 1], 12, 0);
+    reading_refused(t, &[2, 0, 0, 0, 0], 12, 0);
+    reading_refused(t, &[2, 0, 0, 0, 5, 0, 0, 0, 1, 0], 12, 0);
+    reading_refused(t, &[2, 0, 0, 0, 5, 0, 0, 0, 1, 9], 12, 5);
+    reading_refused(t, &[2, 0, 0, 0, 5, 0, 0, 1, 0, 0], 12, 5);
+    reading_refused(t, &[2, 0, 0, 0, 3, 0, 1, 0], 12, 5);
+    let two = [2, 0, 0, 0, 9, 0, 0, 0, 1, 0, 0, 0, 0, 0];
+    reading_refused(t, &two, 12, 10);
+    // The rule stands after the entries and before the slots.
+    refuses(t, reading(&[2, 0, 0, 0, 5, 0, 0, 0, 1, 0], 0, 0), 12, 0);
 }
 
 fn damaged_entries(t: &mut dyn Judge) {
@@ -180,27 +203,71 @@ fn sizes(t: &mut dyn Judge) {
     refuses(t, writing(&over, 1000), 1, 0);
     refuses(t, writing(&[], SHEET_MAX + 1), 1, 0);
     refuses(t, reading(&vec![1; SHEET_MAX + 1], 1, 0), 1, 0);
-    refuses(t, reading(&vec![2; SHEET_MAX + 1], 1, 0), 1, 0);
-    refuses(t, reading(&vec![2; SHEET_MAX], 1, 0), 13, 0);
+    refuses(t, reading(&vec![3; SHEET_MAX + 1], 1, 0), 1, 0);
+    refuses(t, reading(&vec![3; SHEET_MAX], 1, 0), 13, 0);
+    refuses(t, reading(&vec![2; SHEET_MAX], 1, 0), 12, 0);
     let mut call = writing(&[], 3);
     call.area = vec![OLD; AREA_MAX + 1];
     refuses(t, call, 1, 0);
     longest(t);
+    longest_of_second_version(t);
 }
 
+/// The bytes of a long value.
+fn long(bytes: usize) -> Vec<u8> {
+    (0..bytes).map(|n| (n % 251) as u8).collect()
+}
+
+/// The entry of a string, with a length of four bytes.
+fn long_entry(value: &[u8]) -> Vec<u8> {
+    let length = (1 + value.len()) as u32;
+    [&length.to_be_bytes()[..], &[1], value].concat()
+}
+
+/// The sheet of version 2 with these entries.
+fn long_sheet(entries: &[Vec<u8>]) -> Vec<u8> {
+    let entries = entries.concat();
+    let length = (entries.len() as u32).to_be_bytes();
+    [&[2][..], &length, &entries].concat()
+}
+
+/// The longest sheets of version 1, and tables that are too long for it by a byte.
 fn longest(t: &mut dyn Judge) {
-    let long: Vec<u8> = (0..65533).map(|n| (n % 251) as u8).collect();
-    let value = &long[..65532];
+    let value = &long(65532)[..];
     let sheet = [&[1, 255, 255, 255, 253, 1][..], value].concat();
     both_ways(t, &[text(value)], &sheet);
-    refuses(t, writing(&[text(&long)], SHEET_MAX), 11, 0);
+    let over = long(65533);
+    let sheet = long_sheet(&[long_entry(&over)]);
+    assert_eq!(sheet[..10], [2, 0, 1, 0, 2, 0, 0, 255, 254, 1]);
+    both_ways(t, &[text(&over)], &sheet);
     let two = [text(&value[..32765]), text(&value[..32764])];
-    let mut call = writing(&two, SHEET_MAX);
     let start = [&[1, 255, 255, 127, 254, 1][..], &value[..32765]].concat();
     let sheet = [&start, &[127, 253, 1][..], &value[..32764]].concat();
     both_ways(t, &two, &sheet);
-    call.area.push(0);
-    refuses(t, with_slot(call, 1, [1, 32765, 32765]), 11, 0);
+    let two = [text(&value[..32765]), text(&value[..32765])];
+    let entry = long_entry(&value[..32765]);
+    both_ways(t, &two, &long_sheet(&[entry.clone(), entry]));
+}
+
+/// The longest table that can be read, and the longest sheet that can be written.
+fn longest_of_second_version(t: &mut dyn Judge) {
+    let all = long(AREA_MAX - MARK);
+    both_ways(t, &[text(&all)], &long_sheet(&[long_entry(&all)]));
+    let second = SHEET_MAX - AREA_MAX - 15;
+    let mut call = writing(&[text(""), text("")], SHEET_MAX);
+    call.area = long(AREA_MAX);
+    call.slots = [slot(1, 0, AREA_MAX), slot(1, 3, second)].concat();
+    let (first, last) = (&call.area[..], &call.area[3..3 + second]);
+    let sheet = long_sheet(&[long_entry(first), long_entry(last)]);
+    let mut after = call.answered([0, SHEET_MAX as u32, 0]);
+    after.sheet = sheet.clone();
+    t.expect("the longest sheet", &call, &after);
+    let mut reading = reading(&sheet, 2, AREA_MAX);
+    refuses(t, reading.clone(), 11, 0);
+    reading.slots.truncate(SLOT_BYTES);
+    refuses(t, reading, 5, 0);
+    call.slots = [slot(1, 0, AREA_MAX), slot(1, 3, second + 1)].concat();
+    refuses(t, call, 11, 0);
 }
 
 fn replies(t: &mut dyn Judge) {
@@ -218,6 +285,7 @@ pub fn run(t: &mut dyn Judge) {
     examples(t);
     damaged_headers(t);
     damaged_entries(t);
+    second_version(t);
     order(t);
     sizes(t);
     replies(t);
@@ -254,12 +322,12 @@ fn share_area(dice: &mut Dice, slots: &mut [u8], area_len: usize) {
     }
 }
 
-/// Two strings whose sheet is about as long as one may be.
+/// Two strings whose sheet is about as long as one of version 1 may be.
 fn full_table(dice: &mut Dice) -> (Vec<u8>, Vec<u8>) {
-    let first = dice.below(AREA_MAX / 2);
-    let second = SHEET_MAX - 11 + dice.below(5) - first;
+    let first = dice.below(SHORT_SHEET_MAX / 2);
+    let second = SHORT_SHEET_MAX - 11 + dice.below(5) - first;
     let slots = [slot(1, 0, first), slot(1, 1, second)];
-    (slots.concat(), dice.bytes(AREA_MAX))
+    (slots.concat(), dice.bytes(SHORT_SHEET_MAX))
 }
 
 fn random_writing(dice: &mut Dice) -> Call {
@@ -267,8 +335,10 @@ fn random_writing(dice: &mut Dice) -> Call {
         true => full_table(dice),
         false => random_table(dice),
     };
-    if dice.once_in(30) {
-        area.resize(dice.pick(&[AREA_MAX, AREA_MAX, AREA_MAX + 1, 20000]), 5);
+    match dice.below(200) {
+        0 => area.resize(dice.pick(&[AREA_MAX, AREA_MAX + 1]), 5),
+        1..=5 => area.resize(area.len().max(20_000), 5),
+        _ => {}
     }
     if dice.once_in(4) {
         share_area(dice, &mut slots, area.len());
@@ -276,21 +346,20 @@ fn random_writing(dice: &mut Dice) -> Call {
     let runs = Runs {
         slots,
         area,
-        sheet: vec![OLD; SHEET_MAX],
         reply: dice.bytes(REPLY_BYTES),
         ..Runs::default()
     };
     let mut call = Call::new(Which::SheetWrite, runs);
     call.null = dice.once_in(2);
-    let need = sheet_length(&call);
-    let room = match dice.below(10) {
-        0 => need.saturating_sub(1),
-        1 => dice.below(need + 1),
-        2 => need + dice.below(30),
-        3 => dice.pick(&[SHEET_MAX, SHEET_MAX + 1]),
+    let need = sheet_length(&shown(&call.slots, &call.area));
+    let room = match dice.below(100) {
+        0..=9 => need.saturating_sub(1),
+        10..=19 => dice.below(need + 1),
+        20..=29 => need + dice.below(30),
+        30 => dice.pick(&[SHEET_MAX, SHEET_MAX + 1]),
         _ => need,
     };
-    call.sheet = dice.bytes(room);
+    call.sheet = dice.bytes(room.min(SHEET_MAX + 1));
     let area_len = call.area.len();
     match dice.below(20) {
         0..=3 => damage_slot(dice, &mut call.slots, area_len),
@@ -301,13 +370,12 @@ fn random_writing(dice: &mut Dice) -> Call {
     call
 }
 
-/// The length of the sheet that the twin writes; some length if it refuses.
-fn sheet_length(call: &Call) -> usize {
-    let after = by_twin(call);
-    if after.returned == 0 {
-        numbers(&after.reply)[1] as usize
-    } else {
-        40
+/// The length of the sheet that holds these values.
+pub fn sheet_length(values: &[Value]) -> usize {
+    let entries = |overhead: usize| size(values) + values.len() * overhead;
+    match entries(3) <= SHORT_LENGTH_MAX {
+        true => 3 + entries(3),
+        false => 5 + entries(5),
     }
 }
 
@@ -342,8 +410,9 @@ fn random_reading(dice: &mut Dice, sheet: &[u8], entries: usize, bytes: usize) -
     match dice.below(60) {
         0 => damage_slot_run(dice, &mut call.slots),
         1 => damage_reply(dice, &mut call.reply),
-        2 => call.sheet.resize(SHEET_MAX + dice.below(2), 1),
-        3 => call.area.resize(AREA_MAX + dice.below(2), 1),
+        2 if dice.once_in(40) => call.sheet.resize(SHEET_MAX + dice.below(2), 1),
+        3 if dice.once_in(20) => call.area.resize(AREA_MAX + dice.below(2), 1),
+        4 => call.sheet.truncate(dice.below(7)),
         _ => {}
     }
     call
@@ -351,11 +420,20 @@ fn random_reading(dice: &mut Dice, sheet: &[u8], entries: usize, bytes: usize) -
 
 /// A sheet whose header tells its length.
 fn with_header(mut sheet: Vec<u8>) -> Vec<u8> {
-    if sheet.len() >= 3 {
-        let length = (sheet.len() - 3) as u16;
-        sheet[1..3].copy_from_slice(&length.to_be_bytes());
+    let header = header(&sheet);
+    if sheet.len() >= header {
+        let length = ((sheet.len() - header) as u32).to_be_bytes();
+        sheet[1..header].copy_from_slice(&length[5 - header..]);
     }
     sheet
+}
+
+/// The bytes of the header, by the first byte.
+pub fn header(sheet: &[u8]) -> usize {
+    match sheet.first() {
+        Some(2) => 5,
+        _ => 3,
+    }
 }
 
 /// A sheet with one byte changed, added or taken out.
@@ -380,22 +458,41 @@ fn damaged(dice: &mut Dice, sheet: &[u8], at: usize) -> Vec<u8> {
     }
 }
 
-/// Bytes that look like a sheet at least at their beginning.
+/// Bytes that look like a sheet at least at their beginning, of either version.
 pub fn random_sheet(dice: &mut Dice) -> Vec<u8> {
-    let mut sheet = vec![1, 0, 0];
+    let mut sheet = dice.pick(&[&[1, 0, 0][..], &[2, 0, 0, 0, 0]]).to_vec();
     for _ in 0..dice.below(6) {
         let length = dice.pick(&[0, 1, 1, 2, 8, 9, 9, 17, 17, 18]);
-        sheet.extend([0, length as u8, dice.pick(&[0, 1, 1, 2, 2, 3, 3, 4, 4, 5])]);
+        sheet.resize(sheet.len() + header(&sheet) - 2, 0);
+        sheet.extend([length as u8, dice.pick(&[0, 1, 1, 2, 2, 3, 3, 4, 4, 5])]);
         let value = dice.between(length.max(1) - 1, length);
         sheet.extend(dice.bytes(value));
     }
     with_header(sheet)
 }
 
-/// Reads a sheet that was just written, whole, damaged at every byte and cut at every byte.
-fn every_byte(dice: &mut Dice, judge: &mut dyn Judge, sheet: &[u8], slots: usize, bytes: usize) {
-    let step = 1 + sheet.len() / 50;
-    for at in (0..sheet.len()).step_by(step) {
+/// Where the entries of these values begin, and where the last one ends.
+pub fn entry_places(sheet: &[u8], values: &[Value]) -> Vec<usize> {
+    let header = header(sheet);
+    let end = |count: usize| header + size(&values[..count]) + count * header;
+    (0..=values.len()).map(end).collect()
+}
+
+/// The places of a sheet to damage: all of a short one, or some of its; of a long one those of its lengths and kinds.
+fn places(sheet: &[u8], values: &[Value]) -> Vec<usize> {
+    if sheet.len() < 2000 {
+        return (0..sheet.len()).step_by(1 + sheet.len() / 50).collect();
+    }
+    let heads = entry_places(sheet, values).into_iter().take(4);
+    let bytes = heads.flat_map(|at| at..at + header(sheet));
+    let inside = bytes.filter(|&at| at < sheet.len());
+    (0..header(sheet)).chain(inside).collect()
+}
+
+/// Reads a sheet that was just written, damaged at every place and cut there.
+fn every_byte(dice: &mut Dice, judge: &mut dyn Judge, sheet: &[u8], values: &[Value]) {
+    let (slots, bytes) = (values.len(), size(values));
+    for at in places(sheet, values) {
         let wrong = damaged(dice, sheet, at);
         let call = random_reading(dice, &wrong, slots + 1, bytes + 16);
         judge.compare("damaged sheet", &call);
@@ -419,8 +516,11 @@ fn round_trip(dice: &mut Dice, judge: &mut dyn Judge) {
     let bytes = size(&values);
     let reading = random_reading(dice, sheet, values.len(), bytes);
     let read = judge.compare("reading a sheet", &reading);
-    if length < 2000 {
-        every_byte(dice, judge, sheet, values.len(), bytes);
+    let new = sheet[0] == 2;
+    let older = new == (length > SHORT_SHEET_MAX);
+    judge.claim("version 2 is longer than version 1 can be", &call, older);
+    if length < 2000 || new {
+        every_byte(dice, judge, sheet, &values);
     }
     if read.returned != 0 || reading.reply.len() != REPLY_BYTES {
         return;

@@ -4,7 +4,6 @@ use record::MAX_NUMBERS;
 use record::MAX_SLOTS;
 use record::SLOT_WIDTH;
 use rescue::Rescued;
-use sheet::MAX_SHEET;
 use tour_text::print;
 use tour_text::print::Style;
 use tour_text::values;
@@ -132,19 +131,11 @@ fn orders() {
 // Sizes at their limits and above.
 fn sizes() {
     show(
-        &[1; MAX_SHEET],
-        b"a sheet of the longest size, 64 legs",
+        &[1; MAX_AREA],
+        b"a sheet as long as an area, 64 legs",
         MAX_SLOTS,
         &mut [0; MAX_NUMBERS],
         &mut [0; MAX_AREA],
-        0,
-    );
-    show(
-        &[1; MAX_SHEET + 1],
-        b"a byte more",
-        1,
-        &mut [0; SLOT_WIDTH],
-        &mut [0; 8],
         0,
     );
     show(

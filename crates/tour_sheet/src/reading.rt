@@ -2,7 +2,6 @@
 use record::MAX_AREA;
 use record::MAX_NUMBERS;
 use record::SLOT_WIDTH;
-use sheet::MAX_SHEET;
 use tour_text::print;
 use tour_text::print::Style;
 use tour_text::values;
@@ -57,23 +56,9 @@ fn header(told: &[u8], slots: &mut [u32], area: &mut [u8]) {
     show(b"\x01\x00\x00", told, slots, area, 0);
 }
 
-// Number 1, which comes before 13: sheet, slots and area at their limits and above.
+// Number 1: slots and area at their limits and above.
 pub fn sizes() {
     marks();
-    show(
-        &[7; MAX_SHEET],
-        b"a sheet of the longest size",
-        &mut [0; SLOT_WIDTH],
-        &mut [0; 8],
-        0,
-    );
-    show(
-        &[7; MAX_SHEET + 1],
-        b"a byte more",
-        &mut [0; SLOT_WIDTH],
-        &mut [0; 8],
-        0,
-    );
     header(
         b"as many slots as can be",
         &mut [0; MAX_NUMBERS],

@@ -2,7 +2,6 @@
 use record::MAX_AREA;
 use record::MAX_NUMBERS;
 use record::SLOT_WIDTH;
-use sheet::MAX_SHEET;
 use tour_text::notation;
 use tour_text::print;
 use tour_text::print::Style;
@@ -104,12 +103,16 @@ pub fn refusals() {
     rooms();
 }
 
-// Writes slots over an area as long as any, into a buffer as long as any.
+// The bytes of a sheet whose one value fills an area: a header and an entry's length and kind before it.
+const ONE_AREA: usize = MAX_AREA + 10;
+
+// Writes slots over an area as long as any, into a buffer that one such value fills. (The prover has no arrays of a million bytes: the longest buffers
+// and sheets are tried by the tests outside.)
 fn long(told: &[u8], slots: &[u32]) {
-    show(told, slots, &[b'z'; MAX_AREA], &mut [0; MAX_SHEET]);
+    show(told, slots, &[b'z'; MAX_AREA], &mut [0; ONE_AREA]);
 }
 
-// The longest that version 1 can hold, and a byte more: version 2. The largest table that its own bytes can fill; and number 11.
+// The longest that version 1 can hold, and a byte more: version 2. The longest value; and number 11.
 fn lengths() {
     long(b"slot 1 0 65532", &[1, 0, 65532, 0]);
     long(b"slot 1 0 65533", &[1, 0, 65533, 0]);
@@ -122,14 +125,7 @@ fn lengths() {
         &[1, 0, 32765, 0, 1, 0, 32765, 0],
     );
     long(b"slot 1 0 524288", &[1, 0, 524288, 0]);
-    long(
-        b"slots 1 0 524288, 1 0 524273",
-        &[1, 0, 524288, 0, 1, 0, 524273, 0],
-    );
-    long(
-        b"slots 1 0 524288, 1 0 524274",
-        &[1, 0, 524288, 0, 1, 0, 524274, 0],
-    );
+    long(b"slots 1 0 524288, 0 0 0", &[1, 0, 524288, 0, 0, 0, 0, 0]);
 }
 
 // The version goes by the lengths, and not by the buffer.
@@ -148,7 +144,7 @@ fn short_buffers() {
     );
 }
 
-// Number 1: slots, area and buffer at their limits and above.
+// Number 1: slots and area at their limits and above.
 pub fn sizes() {
     lengths();
     short_buffers();
@@ -170,12 +166,6 @@ pub fn sizes() {
         &[0; 0],
         &[0; MAX_AREA + 1],
         &mut [0; 8],
-    );
-    show(
-        b"buffer over its size",
-        &[0; 0],
-        b"",
-        &mut [0; MAX_SHEET + 1],
     );
 }
 
