@@ -93,8 +93,12 @@ static MAYBE void run_read(const struct call *c, const struct result *r)
         guard_protect(&data_run, PROT_READ);
         number = curlew_read(layout_run.at, c->layout_len, data_run.at, c->data_len, slots_run.at, c->slots_len,
                              area_run.at, c->area_len, c->mark, reply_run.at, c->reply_len);
-        if (c->reply_len == CURLEW_READ_REPLY)
+        if (c->reply_len == CURLEW_READ_REPLY) {
+            size_t steps = r->number == CURLEW_OK ? walk(c->layout, c->layout_len, c->data_len).steps : 0;
+
             expect_reply(r);
+            curlew_put_number(guard_expected(&reply_run) + 12, (uint32_t)steps);
+        }
         if (c->reply_len == CURLEW_READ_REPLY && r->number == CURLEW_OK && r->first > 0) {
             put_positions(&wanted, c->layout, c->layout_len, c->data_len, c->name);
             memcpy(guard_expected(&slots_run), wanted.slots, r->first * CURLEW_SLOT_SIZE);

@@ -184,30 +184,33 @@ static void test_moves(void)
     packs("   ", "", 0);
 }
 
-/* The positions of the fields that set a slot, by hand; the record has eight bytes. */
-static void test_positions(void)
+/* The positions of the fields that set a slot and the number of fields come to, by hand; the record has eight bytes. */
+static void test_positions_and_steps(void)
 {
     static const struct {
         const char *layout;
-        size_t count, positions[4];
+        size_t steps, count, positions[4];
     } table[] = {
-        {"a2a3a", 3, {0, 2, 5}},   {"a0a8a0a*", 4, {0, 0, 8, 8}}, {"x3aX2a", 2, {3, 2}},
-        {"x*a0@2aX*a", 3, {8, 2, 0}}, {"b5b9 H3 A", 4, {0, 1, 3, 5}}, {"@7c@1i@6su", 3, {7, 1, 6}},
-        {"a6ia", 1, {0}},          {"RQ", 1, {0}},                {"q*a*", 2, {0, 8}},
+        {"a2a3a", 3, 3, {0, 2, 5}},         {"a0a8a0a*", 4, 4, {0, 0, 8, 8}}, {"x3aX2a", 4, 2, {3, 2}},
+        {"x*a0@2aX*a", 6, 3, {8, 2, 0}},    {"b5b9 H3 A", 4, 4, {0, 1, 3, 5}}, {"@7c@1i@6su", 6, 3, {7, 1, 6}},
+        {"a6ia", 2, 1, {0}},                {"RQ", 2, 1, {0}},                {"q*a*", 2, 2, {0, 8}},
+        {"a9a0xX", 1, 0, {0}},              {"  ", 0, 0, {0}},                {"x9 X@3 xx", 5, 0, {0}},
     };
     uint8_t slots[5 * CURLEW_SLOT_SIZE], area[200], reply[CURLEW_READ_REPLY];
-    size_t positions[4], i, field;
+    size_t i, field;
 
     for (i = 0; i < sizeof table / sizeof table[0]; i++) {
         const char *name = table[i].layout;
+        struct walk w = walk((const uint8_t *)name, strlen(name), 8);
 
-        check(field_positions((const uint8_t *)name, strlen(name), 8, positions) == table[i].count, name, "slots set");
+        check(w.set == table[i].count && w.steps == table[i].steps, name, "slots set and steps by the layout");
         memset(slots, 0, sizeof slots);
-        check(curlew_read((const uint8_t *)name, strlen(name), (const uint8_t *)"abcdefgh", 8, slots, sizeof slots, area,
-                          sizeof area, 9, reply, sizeof reply) == CURLEW_OK,
+        check(curlew_read(name, strlen(name), (const uint8_t *)"abcdefgh", 8, slots, sizeof slots, area, sizeof area, 9,
+                          reply, sizeof reply) == CURLEW_OK,
               name, "number returned");
+        check(curlew_get_number(reply + 12) == table[i].steps, name, "steps");
         for (field = 0; field < table[i].count; field++) {
-            check(positions[field] == table[i].positions[field], name, "position by the layout");
+            check(w.positions[field] == table[i].positions[field], name, "position by the layout");
             check(curlew_get_slot(slots, field).position == table[i].positions[field], name, "position in the slot");
         }
     }
@@ -607,6 +610,7 @@ static void test_count_limit(void)
 static void test_reply_sizes(void)
 {
     static const size_t sizes[] = {0, 1, 11, 13, 24};
+    static const size_t read_sizes[] = {0, 12, 15, 17, 24};
     struct call c;
     size_t i;
 
@@ -620,10 +624,10 @@ static void test_reply_sizes(void)
         c.reply_len = sizes[i];
         refuse_pack(&c, CURLEW_BAD_SIZE, 0);
         c = read_call("a2", "ab", 2);
-        c.reply_len = sizes[i];
+        c.reply_len = read_sizes[i];
         refuse_read(&c, CURLEW_BAD_SIZE, 0);
         c = read_call("t", "ab", 2);
-        c.reply_len = sizes[i];
+        c.reply_len = read_sizes[i];
         refuse_read(&c, CURLEW_BAD_SIZE, 0);
     }
 }
@@ -707,7 +711,7 @@ int main(void)
     test_read_examples();
     test_read_widths();
     test_moves();
-    test_positions();
+    test_positions_and_steps();
     test_positions_ignored();
     test_mark();
     test_point();

@@ -66,9 +66,9 @@ def shown(slot, area):
 
 
 def read_slots(lib, layout, record, count, room=524288):
-    (slots, slots_run), (area, area_run), (reply, reply_run) = own(SLOT.size * count), own(room), own(THREE.size)
+    (slots, slots_run), (area, area_run), (reply, reply_run) = own(SLOT.size * count), own(room), own(FOUR.size)
     number = lib.curlew_read(*lent(layout), *lent(record), *slots_run, *area_run, 0, *reply_run)
-    answer = THREE.unpack(reply.raw)
+    answer = FOUR.unpack(reply.raw)
     assert number == answer[0]
     return answer, list(SLOT.iter_unpack(slots.raw)), area.raw
 
@@ -135,17 +135,17 @@ def main():
     answer, record = pack(lib, b"A5 S2 b8 H4 c", values)
     equal((answer, record), ((0, 13, 0), b"Ada  \x00\x3d\x00\x00\x1b\xbe\xef\xff"))
     equal(read(lib, b"A5 Su2 b8 H4 cu c", record, 7),
-          ((0, 5, 3 + 16 + 8 + 4 + 8), [b"Ada", [61, 0], b"11011000", b"beef", [255], None, None]))
-    equal(read(lib, b"A5 S2 b8", record[:8], 3), ((0, 1, 3), [b"Ada", None, None]))
+          ((0, 5, 3 + 16 + 8 + 4 + 8, 6), [b"Ada", [61, 0], b"11011000", b"beef", [255], None, None]))
+    equal(read(lib, b"A5 S2 b8", record[:8], 3), ((0, 1, 3, 2), [b"Ada", None, None]))
     for width, order in ((1, "c"), (2, "sS"), (4, "iI"), (8, "wW")):
         for letter in order:
             expected = (-2 % 256 ** width).to_bytes(width, "little" if letter.islower() else "big")
             equal(pack(lib, letter.encode(), [[-2]]), ((0, width, 0), expected))
-            equal(read(lib, letter.encode(), expected, 1), ((0, 1, 8), [[-2]]))
+            equal(read(lib, letter.encode(), expected, 1), ((0, 1, 8, 1), [[-2]]))
     for letter in "rRqQ":
         expected = struct.pack(("<" if letter.islower() else ">") + ("f" if letter in "rR" else "d"), 2.5)
         equal(pack(lib, letter.encode(), [[2.5]]), ((0, len(expected), 0), expected))
-        equal(read(lib, letter.encode(), expected, 1), ((0, 1, 8), [[2.5]]))
+        equal(read(lib, letter.encode(), expected, 1), ((0, 1, 8, 1), [[2.5]]))
     equal(pack(lib, b"R", [[1e300]])[1], bytes.fromhex("7f7fffff"))
     equal(pack(lib, b"R", [[float("nan")]])[0], (16, 0, 0))
     equal(pack(lib, b"W", [[2.5]])[0], (8, 0, 0))
@@ -153,7 +153,7 @@ def main():
     equal(pack(lib, b"c t", [[1]])[0], (2, 2, 0))
     equal(pack(lib, b"b3", [b"012"])[0], (10, 0, 0))
     equal(pack(lib, b"a9", [b""], 8)[0], (11, 0, 0))
-    equal(read(lib, b"c32769", b"", 1)[0], (3, 1, 0))
+    equal(read(lib, b"c32769", b"", 1)[0], (3, 1, 0, 0))
     equal(pack(lib, b"a32768", [b""]), ((0, 32768, 0), bytes(32768)))
     equal(pack(lib, b"", []), ((0, 0, 0), b""))
     sheet = bytes.fromhex("010013 000100 0003014f4b 000902fffffffffffffffe")

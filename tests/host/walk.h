@@ -1,6 +1,6 @@
 /*
- * Where the fields of a reading begin, by the layout and the record's length alone: what the tests of reading expect in the
- * fourth number of each slot. The layout is one that reading accepts.
+ * Where the fields of a reading begin and how many it comes to, by the layout and the record's length alone: what the tests of
+ * reading expect in the fourth number of each slot and of the reply. The layout is one that reading accepts.
  */
 #ifndef WALK_H
 #define WALK_H
@@ -52,10 +52,17 @@ static size_t moved(struct field field, size_t at, size_t end)
     }
 }
 
-/* Puts the position of each field that sets a slot into `positions`; gives how many do. */
-static MAYBE size_t field_positions(const uint8_t *layout, size_t len, size_t end, size_t *positions)
+struct walk {
+    size_t set;   /* fields that set a slot */
+    size_t steps; /* fields that the reading comes to */
+    size_t positions[CURLEW_MAX_LAYOUT];
+};
+
+static MAYBE struct walk walk(const uint8_t *layout, size_t len, size_t end)
 {
-    size_t i = 0, at = 0, set = 0;
+    static const struct walk none;
+    struct walk w = none;
+    size_t i = 0, at = 0;
 
     while (i < len) {
         struct field field;
@@ -66,6 +73,7 @@ static MAYBE size_t field_positions(const uint8_t *layout, size_t len, size_t en
             continue;
         }
         field = next_field(layout, len, &i);
+        w.steps++;
         bits = item_bits(field.letter);
         if (bits == 0) {
             at = moved(field, at, end);
@@ -74,21 +82,21 @@ static MAYBE size_t field_positions(const uint8_t *layout, size_t len, size_t en
         bytes = ((field.all ? 8 * (end - at) / bits : field.count) * bits + 7) / 8;
         if (bytes > end - at)
             break;
-        positions[set++] = at;
+        w.positions[w.set++] = at;
         at += bytes;
     }
-    return set;
+    return w;
 }
 
 /* Gives the values that a reading should set the positions that it should give them. */
 static MAYBE void put_positions(struct values *v, const void *layout, size_t len, size_t end, const char *name)
 {
-    size_t positions[CURLEW_MAX_LAYOUT], i;
-    size_t set = field_positions((const uint8_t *)layout, len, end, positions);
+    struct walk w = walk((const uint8_t *)layout, len, end);
+    size_t i;
 
-    check(set == v->count, name, "fields that set a slot");
+    check(w.set == v->count, name, "fields that set a slot");
     for (i = 0; i < v->count; i++)
-        curlew_put_number(v->slots + (i + 1) * CURLEW_SLOT_SIZE - 4, (uint32_t)positions[i]);
+        curlew_put_number(v->slots + (i + 1) * CURLEW_SLOT_SIZE - 4, (uint32_t)w.positions[i]);
 }
 
 #endif

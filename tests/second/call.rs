@@ -158,10 +158,11 @@ impl Call {
         }
     }
 
-    /// The state with only the reply written.
+    /// The state with only the reply written; numbers of it that are not given are 0.
     pub fn answered<const N: usize>(&self, numbers: [u32; N]) -> After {
         let mut after = self.untouched(numbers[0]);
         after.reply = words(&numbers);
+        after.reply.resize(self.reply.len(), 0);
         after
     }
 }

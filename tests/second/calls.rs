@@ -1,14 +1,15 @@
 //! Random calls: most are accepted or refused late, some are damaged in one place.
 
-use crate::call::{numbers, words, Call, Judge, Runs, Which};
+use crate::call::{numbers, words, After, Call, Judge, Runs, Which};
 use crate::dice::Dice;
 use crate::evolution;
 use crate::layouts::{random_arguments, random_specs, spelled, takers, Spec};
 use crate::limits::{
-    AREA_MAX, COUNT_MAX, ITEM_BYTES, LAYOUT_MAX, NO_POSITION, REAL, RECORD_MAX, REPLY_BYTES,
-    SLOTS_MAX, SLOT_BYTES, SLOT_NUMBERS, SLOT_RUN_MAX,
+    AREA_MAX, COUNT_MAX, ITEM_BYTES, LAYOUT_MAX, NO_POSITION, READ_REPLY_BYTES, REAL, RECORD_MAX,
+    REPLY_BYTES, SLOTS_MAX, SLOT_BYTES, SLOT_NUMBERS, SLOT_RUN_MAX,
 };
 use crate::values::{slot, slot_from, Value};
+use crate::walk::walk;
 use crate::{packer, reader};
 
 /// Room in which a call is tried out to learn how much it needs.
@@ -39,11 +40,9 @@ impl Scratch {
 
     /// The bytes of all values of the reading; none if it is refused anyway.
     fn value_bytes(&mut self, layout: &[u8], record: &[u8]) -> Option<usize> {
-        let answer = reader::read(layout, record, &mut self.slots, &mut self.area, 0);
-        if answer.number == 0 {
-            Some(answer.second as usize)
-        } else {
-            None
+        match reader::read(layout, record, &mut self.slots, &mut self.area, 0) {
+            [0, _, end, _] => Some(end as usize),
+            _ => None,
         }
     }
 }
@@ -312,7 +311,7 @@ pub fn reading(
         record: record.to_vec(),
         slots: random_slots(dice, slots),
         area: dice.bytes(area_len),
-        reply: dice.bytes(REPLY_BYTES),
+        reply: dice.bytes(READ_REPLY_BYTES),
         ..Runs::default()
     };
     let mut call = Call::new(Which::Read, runs);
@@ -357,13 +356,23 @@ fn every_cut(dice: &mut Dice, scratch: &mut Scratch, judge: &mut dyn Judge) {
     }
 }
 
+/// Whether an accepted reading tells as many steps as a walk over the layout, and no more than it has bytes.
+fn steps_are_due(call: &Call, after: &After) -> bool {
+    if after.returned != 0 {
+        return true;
+    }
+    let due = numbers(&after.reply)[3] as usize;
+    due == walk(&call.layout, call.record.len()).len() && due <= call.layout.len()
+}
+
 /// Some calls of every sort.
 pub fn round(dice: &mut Dice, scratch: &mut Scratch, judge: &mut dyn Judge) {
     for _ in 0..100 {
         let call = random_pack(dice, scratch);
         judge.compare("random packing", &call);
         let call = random_read(dice, scratch);
-        judge.compare("random reading", &call);
+        let after = judge.compare("random reading", &call);
+        judge.claim("steps", &call, steps_are_due(&call, &after));
     }
     for _ in 0..2 {
         every_cut(dice, scratch, judge);

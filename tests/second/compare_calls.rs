@@ -6,7 +6,8 @@ use crate::dice::Dice;
 use crate::fixed::refuses;
 use crate::layouts::{random_specs, spelled, takers};
 use crate::limits::{
-    AREA_MAX, COUNT_MAX, LAYOUT_MAX, RECORD_MAX, REPLY_BYTES, REPORT_BYTES, SLOTS_MAX, SLOT_BYTES,
+    AREA_MAX, COUNT_MAX, LAYOUT_MAX, READ_REPLY_BYTES, RECORD_MAX, REPLY_BYTES, REPORT_BYTES,
+    SLOTS_MAX, SLOT_BYTES,
 };
 
 const OLD: u8 = 0x5d;
@@ -39,7 +40,7 @@ fn readings(call: &Call) -> (Call, Call) {
             record: record.to_vec(),
             slots: slots.to_vec(),
             area: area.to_vec(),
-            reply: vec![0; REPLY_BYTES],
+            reply: vec![0; READ_REPLY_BYTES],
             ..Runs::default()
         };
         Call::new(Which::Read, runs)
@@ -216,6 +217,7 @@ fn pair(
     let first = &mut copies[0];
     first.which = Which::Compare;
     first.mark = 0;
+    first.reply.truncate(REPLY_BYTES);
     first.report = dice.bytes(report);
     first.second_record = second.record;
     first.second_slots = second.slots;

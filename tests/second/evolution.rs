@@ -6,7 +6,7 @@ use crate::call::{numbers, Call, Judge, Runs, Which};
 use crate::dice::Dice;
 use crate::fixed::was_read_at;
 use crate::layouts::{plain_spec, random_arguments, spelled, takers, Count, Spec};
-use crate::limits::{AREA_MAX, RECORD_MAX, REPLY_BYTES, SLOTS_MAX, SLOT_BYTES};
+use crate::limits::{AREA_MAX, READ_REPLY_BYTES, RECORD_MAX, REPLY_BYTES, SLOTS_MAX, SLOT_BYTES};
 use crate::nearest::nearest;
 use crate::values::{table, Value};
 
@@ -71,23 +71,33 @@ fn read_back(spec: &Spec, argument: &Value) -> Value {
     })
 }
 
-/// The values that a reading of the first `cut` bytes sets, and where their fields begin.
-fn expected(specs: &[Spec], arguments: &[Value], cut: usize) -> (Vec<Value>, Vec<usize>) {
-    let (mut values, mut positions) = (Vec::new(), Vec::new());
+/// What a reading gives: the values that it sets, where their fields begin, and how many fields it comes to.
+#[derive(Default)]
+struct Due {
+    values: Vec<Value>,
+    positions: Vec<usize>,
+    steps: usize,
+}
+
+/// What a reading of the first `cut` bytes gives.
+fn expected(specs: &[Spec], arguments: &[Value], cut: usize) -> Due {
+    let mut due = Due::default();
     let mut rest = cut;
     for spec in specs {
         let size = fills(spec);
+        due.steps += 1;
         if !spec.takes_slot() {
             rest = rest.saturating_sub(size);
         } else if size <= rest {
-            values.push(read_back(spec, &arguments[values.len()]));
-            positions.push(cut - rest);
+            let argument = &arguments[due.values.len()];
+            due.values.push(read_back(spec, argument));
+            due.positions.push(cut - rest);
             rest -= size;
         } else {
             break;
         }
     }
-    (values, positions)
+    due
 }
 
 /// An old layout and a new one that adds fields at its end, both within the sizes.
@@ -131,7 +141,7 @@ pub fn reading(dice: &mut Dice, layout: &[u8], record: &[u8], slots: usize, need
         record: record.to_vec(),
         slots: dice.bytes(slots * SLOT_BYTES),
         area: dice.bytes(mark + need + rest),
-        reply: dice.bytes(REPLY_BYTES),
+        reply: dice.bytes(READ_REPLY_BYTES),
         ..Runs::default()
     };
     let mut call = Call::new(Which::Read, runs);
@@ -145,14 +155,14 @@ fn check_reading(
     judge: &mut dyn Judge,
     reader: &Layout,
     record: &[u8],
-    (values, positions): (&[Value], &[usize]),
+    due: &Due,
 ) {
-    let need: usize = values.iter().map(|v| v.bytes().len()).sum();
+    let need: usize = due.values.iter().map(|v| v.bytes().len()).sum();
     let surplus = dice.pick(&[0, 0, 1, 2]);
     let slots = (takers(&reader.specs) + surplus).min(SLOTS_MAX);
     let call = reading(dice, &reader.text, record, slots, need);
     if call.area.len() <= AREA_MAX {
-        let after = was_read_at(&call, values, positions);
+        let after = was_read_at(&call, &due.values, &due.positions, due.steps);
         judge.expect("old and new layouts", &call, &after);
     }
 }
@@ -227,9 +237,8 @@ pub fn round(dice: &mut Dice, judge: &mut dyn Judge) {
         let record = pack_by(dice, judge, writer, &arguments);
         for cut in cuts(dice, &writer.specs, record.len()) {
             for reader in [&old, &new] {
-                let (values, positions) = expected(&reader.specs, &arguments, cut);
-                let due = (&values[..], &positions[..]);
-                check_reading(dice, judge, reader, &record[..cut], due);
+                let due = expected(&reader.specs, &arguments, cut);
+                check_reading(dice, judge, reader, &record[..cut], &due);
             }
         }
     }

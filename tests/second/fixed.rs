@@ -1,12 +1,12 @@
 //! Calls whose outcome is written out by hand: the examples of the papers and the edges.
 
-use crate::call::{After, Call, Judge, Runs, Which};
+use crate::call::{numbers, After, Call, Judge, Runs, Which};
 use crate::limits::{
-    AREA_MAX, COUNT_MAX, ITEM_BYTES, KIND_MAX, LAYOUT_MAX, NO_POSITION, RECORD_MAX, REPLY_BYTES,
-    SLOTS_MAX, SLOT_BYTES, SLOT_RUN_MAX,
+    AREA_MAX, COUNT_MAX, ITEM_BYTES, KIND_MAX, LAYOUT_MAX, NO_POSITION, READ_REPLY_BYTES,
+    RECORD_MAX, REPLY_BYTES, SLOTS_MAX, SLOT_BYTES, SLOT_RUN_MAX,
 };
 use crate::values::{ints, slot, slot_from, table, text, uints, Value};
-use crate::walk::positions;
+use crate::walk::{positions, walk};
 
 const OLD_OUT: u8 = 0xee;
 const OLD_SLOT: u8 = 0xbb;
@@ -36,7 +36,7 @@ pub fn reading(layout: impl AsRef<[u8]>, record: impl AsRef<[u8]>, slots: usize)
         record: record.as_ref().to_vec(),
         slots: vec![OLD_SLOT; slots * SLOT_BYTES],
         area: vec![OLD_AREA; 200],
-        reply: vec![OLD_REPLY; REPLY_BYTES],
+        reply: vec![OLD_REPLY; READ_REPLY_BYTES],
         ..Runs::default()
     };
     let mut call = Call::new(Which::Read, runs);
@@ -61,9 +61,10 @@ pub fn was_set(call: &Call, values: &[Value]) -> After {
     after
 }
 
-/// What a reading leaves behind that set these values, whose fields begin at these positions.
-pub fn was_read_at(call: &Call, values: &[Value], positions: &[usize]) -> After {
+/// What a reading leaves behind that came to so many fields and set these values, whose fields begin at these positions.
+pub fn was_read_at(call: &Call, values: &[Value], positions: &[usize], steps: usize) -> After {
     let mut after = was_set(call, values);
+    after.reply[READ_REPLY_BYTES - 4..].copy_from_slice(&(steps as u32).to_be_bytes());
     assert_eq!(values.len(), positions.len(), "{:?}", call.layout);
     for (slot, &position) in after.slots.chunks_exact_mut(SLOT_BYTES).zip(positions) {
         slot[SLOT_BYTES - 4..].copy_from_slice(&(position as u32).to_be_bytes());
@@ -73,7 +74,9 @@ pub fn was_read_at(call: &Call, values: &[Value], positions: &[usize]) -> After 
 
 /// What a reading that set these values leaves behind.
 pub fn was_read(call: &Call, values: &[Value]) -> After {
-    was_read_at(call, values, &positions(&call.layout, call.record.len()))
+    let (layout, end) = (&call.layout, call.record.len());
+    let steps = walk(layout, end).len();
+    was_read_at(call, values, &positions(layout, end), steps)
 }
 
 fn accepts(t: &mut dyn Judge, call: Call, bytes: impl AsRef<[u8]>) {
@@ -686,7 +689,15 @@ fn marks(t: &mut dyn Judge) {
 }
 
 fn replies(t: &mut dyn Judge) {
-    for length in [0, 1, 4, REPLY_BYTES - 1, REPLY_BYTES + 1, 2 * REPLY_BYTES] {
+    for length in [
+        0,
+        1,
+        4,
+        REPLY_BYTES - 1,
+        REPLY_BYTES + 1,
+        READ_REPLY_BYTES,
+        2 * REPLY_BYTES,
+    ] {
         let mut call = packing("a", &[text("q")]);
         call.reply = vec![OLD_REPLY; length];
         t.expect("reply of another size", &call, &call.untouched(1));
@@ -694,6 +705,15 @@ fn replies(t: &mut dyn Judge) {
         t.expect("reply of another size", &call, &call.untouched(1));
         call.slots.pop();
         t.expect("reply of another size", &call, &call.untouched(1));
+    }
+    for length in [
+        0,
+        4,
+        REPLY_BYTES,
+        READ_REPLY_BYTES - 1,
+        READ_REPLY_BYTES + 1,
+        2 * REPLY_BYTES,
+    ] {
         let mut call = reading("a", "q", 1);
         call.reply = vec![OLD_REPLY; length];
         t.expect("reply of another size", &call, &call.untouched(1));
@@ -868,7 +888,8 @@ fn order_of_refusals(t: &mut dyn Judge) {
 fn field_positions(t: &mut dyn Judge) {
     let at = |t: &mut dyn Judge, layout: &str, values: &[Value], positions: &[usize]| {
         let call = reading(layout, "abcdefgh", values.len() + 2);
-        let after = was_read_at(&call, values, positions);
+        let steps = walk(layout.as_bytes(), 8).len();
+        let after = was_read_at(&call, values, positions, steps);
         t.expect("positions", &call, &after);
     };
     at(
@@ -907,6 +928,34 @@ fn field_positions(t: &mut dyn Judge) {
     at(t, "x6 A2 A", &[text("gh")], &[6]);
 }
 
+/// How many fields a reading came to: moves count, and the field that came up short, but none behind it.
+fn steps(t: &mut dyn Judge) {
+    let takes = |t: &mut dyn Judge, layout: &str, record: &str, steps: u32| {
+        let call = reading(layout, record, 5);
+        let after = t.compare("steps", &call);
+        t.claim("steps", &call, numbers(&after.reply)[3] == steps);
+    };
+    for (layout, record, steps) in [
+        ("", "abc", 0),
+        ("   ", "abc", 0),
+        ("a", "abc", 1),
+        ("a2a2a2", "abc", 2),
+        ("a3a", "abc", 2),
+        ("a9a0a0", "abc", 1),
+        ("a0a0", "", 2),
+        ("xX@0", "abc", 3),
+        ("x9aa", "abc", 2),
+        ("x*x*X*@*", "", 4),
+        (" a x2  X @u1 s*", "abc", 5),
+        ("ccccc", "abc", 4),
+        ("xxxxxxxxxx", "abc", 10),
+    ] {
+        takes(t, layout, record, steps);
+    }
+    let full = "x".repeat(LAYOUT_MAX);
+    takes(t, &full, "abc", LAYOUT_MAX as u32);
+}
+
 /// Packing does not look at positions.
 fn positions_in_packing(t: &mut dyn Judge) {
     for position in [0, 1, 7, 1 << 31, NO_POSITION] {
@@ -937,6 +986,7 @@ pub fn run(t: &mut dyn Judge) {
     argument_refusals(t);
     order_of_refusals(t);
     field_positions(t);
+    steps(t);
     positions_in_packing(t);
     old_values(t);
 }

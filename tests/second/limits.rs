@@ -37,6 +37,8 @@ pub const TEMPLATE_DEPTH_MAX: usize = 8;
 pub const LEGS_MAX: usize = SLOTS_MAX;
 
 pub const REPLY_BYTES: usize = 12;
+/// The reply of reading a record: three numbers, and how many fields it came to.
+pub const READ_REPLY_BYTES: usize = 16;
 /// The reply of a rescue: four numbers.
 pub const RESCUE_REPLY_BYTES: usize = 16;
 /// The reply of a mean: three numbers, whether there is a mean, and the mean.

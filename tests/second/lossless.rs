@@ -88,7 +88,7 @@ fn there_and_back(dice: &mut Dice, judge: &mut dyn Judge, layout: &Layout, recor
     let (read, _) = by_library(&call);
     let fields = layout.specs.len();
     let end = call.mark + value_bytes(&layout.specs);
-    let all_set = numbers(&read.reply) == [0, fields as u32, end as u32];
+    let all_set = numbers(&read.reply) == [0, fields, end, fields].map(|n| n as u32);
     judge.claim("a filled layout sets every slot", &call, all_set);
     let again = packing_again(dice, layout, &read, record.len());
     judge.expect("packing what was read", &again, &packed(&again, record));

@@ -1,9 +1,11 @@
 //! Reading of records by a layout: everything is decided before anything is written.
 
 use crate::fields::{parse, Field, Fields, Kind, NO_FIELDS, SINGLE_BYTES};
-use crate::limits::{AREA_MAX, ITEM_BYTES, LAYOUT_MAX, REAL, RECORD_MAX, REPLY_BYTES, SLOT_BYTES};
+use crate::limits::{
+    AREA_MAX, ITEM_BYTES, LAYOUT_MAX, READ_REPLY_BYTES, REAL, RECORD_MAX, SLOT_BYTES,
+};
 use crate::reals::widened;
-use crate::slots::{accepted, bad_slot_run, integer, put_slot, refused, replied, Answer};
+use crate::slots::{bad_slot_run, integer, put_slot, refused, replied, Answer};
 
 fn trimmed(text: &[u8]) -> &[u8] {
     let kept = text.iter().rposition(|&b| b != b' ' && b != 0);
@@ -42,10 +44,11 @@ fn moved(field: &Field, at: usize, end: usize) -> Option<usize> {
     }
 }
 
-/// How many slots the run sets, and the bytes of their values.
-fn measure(fields: &[Field], record: &[u8]) -> (usize, usize) {
-    let (mut at, mut set, mut bytes) = (0, 0, 0);
+/// How many slots the run sets, the bytes of their values, and how many fields it comes to.
+fn measure(fields: &[Field], record: &[u8]) -> (usize, usize, usize) {
+    let (mut at, mut set, mut bytes, mut steps) = (0, 0, 0, 0);
     for field in fields {
+        steps += 1;
         if let Some(place) = moved(field, at, record.len()) {
             at = place;
             continue;
@@ -59,7 +62,7 @@ fn measure(fields: &[Field], record: &[u8]) -> (usize, usize) {
             }
         }
     }
-    (set, bytes)
+    (set, bytes, steps)
 }
 
 fn load_bits(from: &[u8], high_first: bool, to: &mut [u8]) {
@@ -189,12 +192,13 @@ pub fn load_fields(
 }
 
 /// A reading that is accepted: how many fields it has, how many of them take a slot,
-/// how many slots it sets, and the bytes of their values.
+/// how many slots it sets, the bytes of their values, and how many fields it comes to.
 pub struct Decided {
     pub len: usize,
     pub takers: usize,
     pub set: usize,
     pub bytes: usize,
+    pub steps: usize,
 }
 
 /// Decides on a reading and writes nothing but `fields`.
@@ -218,7 +222,7 @@ pub fn decided(
     if takers * SLOT_BYTES > slots.len() {
         return Err(refused(5, 0));
     }
-    let (set, bytes) = measure(&fields[..len], record);
+    let (set, bytes, steps) = measure(&fields[..len], record);
     if bytes > area.len() - mark {
         return Err(refused(11, 0));
     }
@@ -227,6 +231,7 @@ pub fn decided(
         takers,
         set,
         bytes,
+        steps,
     })
 }
 
@@ -236,11 +241,12 @@ fn read_into(
     slots: &mut [u8],
     area: &mut [u8],
     mark: usize,
-) -> Result<Answer, Answer> {
+) -> Result<[u32; 4], Answer> {
     let mut fields = NO_FIELDS;
     let decided = decided(layout, record, slots, area, mark, &mut fields)?;
     load_fields(&fields[..decided.len], record, slots, area, mark);
-    Ok(accepted(decided.set, mark + decided.bytes))
+    let end = mark + decided.bytes;
+    Ok([0, decided.set, end, decided.steps].map(|n| n as u32))
 }
 
 /// Reads the record by the layout into the table, values going into the area from the mark on.
@@ -250,8 +256,9 @@ pub fn read(
     slots: &mut [u8],
     area: &mut [u8],
     mark: usize,
-) -> Answer {
-    read_into(layout, record, slots, area, mark).unwrap_or_else(|refusal| refusal)
+) -> [u32; 4] {
+    read_into(layout, record, slots, area, mark)
+        .unwrap_or_else(|refusal| [refusal.number, refusal.first, 0, 0])
 }
 
 /// `read` with the answer in a reply run.
@@ -263,7 +270,7 @@ pub fn read_call(
     mark: usize,
     reply: &mut [u8],
 ) -> u32 {
-    replied(reply, REPLY_BYTES, || {
-        read(layout, record, slots, area, mark).numbers()
+    replied(reply, READ_REPLY_BYTES, || {
+        read(layout, record, slots, area, mark)
     })
 }
