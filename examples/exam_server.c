@@ -436,6 +436,30 @@ static void show_partner(void)
     printf("is our layout %.*s\n", (int)curlew_get_answer(reply).first, layout);
 }
 
+/* The forms office writes a cover and the legs as two layouts. Glued together they make the record of both. */
+static void show_glued(void)
+{
+    static const char cover[] = "a6 A12", legs[] = "Su Su Su b10", both[] = "a6 A12" "Su Su Su b10";
+    struct table table, part;
+    struct record first, second, glued;
+    int joined;
+
+    fill_new(&table, &candidates[0]);
+    part = table;
+    part.count = 2;
+    if (!pack(cover, &part, &first))
+        return;
+    part.count = table.count - 2;
+    memcpy(part.slots, table.slots + 2 * CURLEW_SLOT_SIZE, part.count * CURLEW_SLOT_SIZE);
+    if (!pack(legs, &part, &second) || !pack(both, &table, &glued))
+        return;
+    joined = glued.length == first.length + second.length && memcmp(glued.bytes, first.bytes, first.length) == 0
+        && memcmp(glued.bytes + first.length, second.bytes, second.length) == 0;
+    printf("\na cover %s, %u bytes, and legs %s, %u bytes\n", cover, (unsigned)first.length, legs, (unsigned)second.length);
+    printf("glued together, %s: %u bytes, %s\n", both, (unsigned)glued.length,
+           joined ? "those of the cover and those of the legs" : "and they differ");
+}
+
 static void show_refusals(void)
 {
     static const char *const wrong_layouts[] = {"a6 A12 Su Su Yu b10", "a6 A12 Su3 b10000"};
@@ -470,6 +494,7 @@ int main(void)
     show_means();
     show_differences();
     show_partner();
+    show_glued();
     show_refusals();
     return 0;
 }

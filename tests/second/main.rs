@@ -10,6 +10,7 @@ mod dice;
 mod evolution;
 mod fields;
 mod fixed;
+mod glue_calls;
 mod layouts;
 mod library;
 mod limits;
@@ -69,6 +70,7 @@ fn main() {
     mean_calls::run(&mut tally);
     perl_calls::run(&mut tally);
     lossless::run(&mut tally);
+    glue_calls::run(&mut tally);
     real_calls::run(&mut tally);
     println!(
         "fixed calls: {} passed, {} failed",
@@ -85,6 +87,7 @@ fn main() {
         mean_calls::round(&mut dice, &mut tally);
         perl_calls::round(&mut dice, &mut tally);
         lossless::round(&mut dice, &mut tally);
+        glue_calls::round(&mut dice, &mut tally);
         real_calls::round(&mut dice, &mut tally);
     }
     tally.print();
