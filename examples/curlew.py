@@ -42,6 +42,7 @@ RESCUE_REPLY = 16
 COMPARE_REPLY = 12
 MEAN_REPLY = 24
 PERL_REPLY = 12
+LAYOUT_REPLY = 12
 FINDING_SIZE = 12
 MAX_LAYOUT = 256
 MAX_SLOTS = 64
@@ -72,6 +73,9 @@ REFUSALS = {
 
 # What is left of a damaged sheet: the values, how many entries were kept, slots cleared and bytes dropped.
 Rescue = namedtuple("Rescue", "values kept cleared dropped")
+
+# What a layout asks for: how many slots, and the length of its record where every starred value is empty.
+Layout = namedtuple("Layout", "slots length")
 
 # What differs in one field: a verdict, and for DIFFERENT the first byte and the number of bits.
 Finding = namedtuple("Finding", "verdict place bits")
@@ -172,6 +176,11 @@ def _slots_of(layout):
                 raise
             low = middle + 1
     return low
+
+
+def look_at(layout):
+    """What packing by a layout asks for; refused just as packing would refuse the layout."""
+    return Layout(*_numbers(_call("layout", LAYOUT_REPLY, _bytes(layout))))
 
 
 def pack(layout, values):

@@ -8,13 +8,14 @@
  */
 #include <inttypes.h>
 #include <stdio.h>
+#include <stdlib.h>
 #include <string.h>
 
 #include "curlew.h"
 
 #define FIELDS 6
 #define AREA 128
-#define RECORD 96
+#define SHEET 96
 #define CANDIDATES 4
 
 static const char old_layout[] = "a6 A12 Su Su";
@@ -30,8 +31,14 @@ struct table {
     size_t steps; /* fields that the reading carried out */
 };
 
+/* A record has the room that its layout asks for; see make_room. */
 struct record {
-    uint8_t bytes[RECORD];
+    uint8_t *bytes;
+    size_t length;
+};
+
+struct sheet {
+    uint8_t bytes[SHEET];
     size_t length;
 };
 
@@ -107,13 +114,12 @@ static void print_place(const char *layout, struct curlew_answer answer)
     }
 }
 
-/* Packs the table. Returns 1, or 0 after saying why not. */
-static int pack(const char *layout, const struct table *table, struct record *record)
+/* What a layout asks for: how many slots, and how many bytes for its record. None of ours has a star, so no record is
+ * longer. Returns 1, or 0 after saying what is wrong with it. */
+static int look_at(const char *layout, size_t *slots, size_t *bytes)
 {
-    uint8_t reply[CURLEW_PACK_REPLY];
-    uint32_t number = curlew_pack(layout, strlen(layout),
-                                  table->slots, table->count * CURLEW_SLOT_SIZE, table->area, table->used,
-                                  record->bytes, sizeof record->bytes, reply, sizeof reply);
+    uint8_t reply[CURLEW_LAYOUT_REPLY];
+    uint32_t number = curlew_layout(layout, strlen(layout), reply, sizeof reply);
     struct curlew_answer answer = curlew_get_answer(reply);
 
     if (number != CURLEW_OK) {
@@ -121,7 +127,42 @@ static int pack(const char *layout, const struct table *table, struct record *re
         print_refusal(answer);
         return 0;
     }
-    record->length = answer.first;
+    *slots = answer.first;
+    *bytes = answer.second;
+    return 1;
+}
+
+static int make_room(const char *layout, struct record *record)
+{
+    size_t slots;
+
+    record->bytes = NULL;
+    if (!look_at(layout, &slots, &record->length))
+        return 0;
+    record->bytes = (uint8_t *)malloc(record->length);
+    return record->bytes != NULL;
+}
+
+static void drop(struct record *record)
+{
+    free(record->bytes);
+    record->bytes = NULL;
+}
+
+/* Packs the table into a record of its own. Returns 1, or 0 after saying why not. */
+static int pack(const char *layout, const struct table *table, struct record *record)
+{
+    uint8_t reply[CURLEW_PACK_REPLY];
+
+    if (!make_room(layout, record))
+        return 0;
+    if (curlew_pack(layout, strlen(layout), table->slots, table->count * CURLEW_SLOT_SIZE, table->area, table->used,
+                    record->bytes, record->length, reply, sizeof reply) != CURLEW_OK) {
+        print_refusal(curlew_get_answer(reply));
+        drop(record);
+        return 0;
+    }
+    record->length = curlew_get_answer(reply).first;
     return 1;
 }
 
@@ -148,7 +189,7 @@ static int read_record(const char *layout, const struct record *record, struct t
 /* ---- tables kept as sheets ---- */
 
 /* Writes the table as a sheet. Returns 1, or 0 after saying why not. */
-static int keep(const struct table *table, struct record *sheet)
+static int keep(const struct table *table, struct sheet *sheet)
 {
     uint8_t reply[CURLEW_SHEET_REPLY];
     uint32_t number = curlew_sheet_write(table->slots, table->count * CURLEW_SLOT_SIZE, table->area, table->used,
@@ -163,7 +204,7 @@ static int keep(const struct table *table, struct record *sheet)
     return 1;
 }
 
-static int fetch(const struct record *sheet, struct table *table)
+static int fetch(const struct sheet *sheet, struct table *table)
 {
     uint8_t reply[CURLEW_SHEET_REPLY];
     uint32_t number;
@@ -260,6 +301,15 @@ static const struct candidate candidates[CANDIDATES] = {
     {"C00420", "Dora Weiss", 55, 73, 1, 91, "1111000010"},
 };
 
+/* A layout looked at before it is used. */
+static void show_layout(const char *layout)
+{
+    size_t slots, bytes;
+
+    if (look_at(layout, &slots, &bytes))
+        printf("%-19s  takes %u slots and fills %u bytes\n", layout, (unsigned)slots, (unsigned)bytes);
+}
+
 static int pack_all(struct record *records)
 {
     struct table table;
@@ -310,7 +360,7 @@ static void fill_open(struct table *table, size_t i)
 static void show_sheets(void)
 {
     struct table table;
-    struct record sheet;
+    struct sheet sheet;
     size_t i;
 
     printf("\nkept as sheets, with legs that are still to be marked\n");
@@ -327,7 +377,7 @@ static void show_rescue(void)
 {
     uint8_t reply[CURLEW_RESCUE_REPLY];
     struct table table;
-    struct record sheet;
+    struct sheet sheet;
 
     fill_open(&table, 3);
     if (!keep(&table, &sheet))
@@ -384,26 +434,17 @@ static void show_means(void)
     print_mean(&table);
 }
 
-/* Two markers' copies of one candidate's record: the second gave another oral mark, and lost the strip. Where they
- * differ, the slot has the byte of the record at which the mark stands. */
-static void show_differences(void)
+/* What differs between two copies of a record. Where they differ, the slot has the byte of the record at which the mark
+ * stands. */
+static void print_differences(const struct record *first, const struct record *second)
 {
     static const char *const verdicts[] = {"same", "first copy only", "second copy only", "in neither", "different"};
-    struct candidate other = candidates[0];
     struct table one, two;
-    struct record first, second;
     uint8_t report[FIELDS * CURLEW_FINDING_SIZE], reply[CURLEW_COMPARE_REPLY];
     size_t field;
 
-    printf("\nwhat differs between two markers' copies of %s\n", other.number);
-    fill_new(&one, &candidates[0]);
-    other.oral = 52;
-    fill_new(&two, &other);
-    if (!pack(new_layout, &one, &first) || !pack(new_layout, &two, &second))
-        return;
-    second.length = 24;
-    if (curlew_compare(new_layout, strlen(new_layout), first.bytes, first.length,
-                       second.bytes, second.length, one.slots, sizeof one.slots, one.area, sizeof one.area,
+    if (curlew_compare(new_layout, strlen(new_layout), first->bytes, first->length,
+                       second->bytes, second->length, one.slots, sizeof one.slots, one.area, sizeof one.area,
                        two.slots, sizeof two.slots, two.area, sizeof two.area,
                        report, sizeof report, reply, sizeof reply) != CURLEW_OK) {
         print_refusal(curlew_get_answer(reply));
@@ -418,6 +459,27 @@ static void show_differences(void)
         else
             printf("%-14s%s\n", heads[field], verdicts[finding.verdict]);
     }
+}
+
+/* Two markers' copies of one candidate's record: the second gave another oral mark, and lost the strip. */
+static void show_differences(void)
+{
+    struct candidate other = candidates[0];
+    struct table table;
+    struct record first = {NULL, 0}, second = {NULL, 0};
+
+    printf("\nwhat differs between two markers' copies of %s\n", other.number);
+    other.oral = 52;
+    fill_new(&table, &candidates[0]);
+    if (pack(new_layout, &table, &first)) {
+        fill_new(&table, &other);
+        if (pack(new_layout, &table, &second)) {
+            second.length = 24;
+            print_differences(&first, &second);
+        }
+    }
+    drop(&first);
+    drop(&second);
 }
 
 /* The partner college describes its records by a pack template of Perl. */
@@ -436,33 +498,69 @@ static void show_partner(void)
     printf("is our layout %.*s\n", (int)curlew_get_answer(reply).first, layout);
 }
 
+/* Whether a record is two others joined. */
+static int joined(const struct record *whole, const struct record *first, const struct record *second)
+{
+    return whole->length == first->length + second->length && memcmp(whole->bytes, first->bytes, first->length) == 0
+        && memcmp(whole->bytes + first->length, second->bytes, second->length) == 0;
+}
+
 /* The forms office writes a cover and the legs as two layouts. Glued together they make the record of both. */
 static void show_glued(void)
 {
     static const char cover[] = "a6 A12", legs[] = "Su Su Su b10", both[] = "a6 A12" "Su Su Su b10";
     struct table table, part;
-    struct record first, second, glued;
-    int joined;
+    struct record first = {NULL, 0}, second = {NULL, 0}, glued = {NULL, 0};
 
     fill_new(&table, &candidates[0]);
     part = table;
-    part.count = 2;
-    if (!pack(cover, &part, &first))
-        return;
     part.count = table.count - 2;
     memcpy(part.slots, table.slots + 2 * CURLEW_SLOT_SIZE, part.count * CURLEW_SLOT_SIZE);
-    if (!pack(legs, &part, &second) || !pack(both, &table, &glued))
-        return;
-    joined = glued.length == first.length + second.length && memcmp(glued.bytes, first.bytes, first.length) == 0
-        && memcmp(glued.bytes + first.length, second.bytes, second.length) == 0;
-    printf("\na cover %s, %u bytes, and legs %s, %u bytes\n", cover, (unsigned)first.length, legs, (unsigned)second.length);
-    printf("glued together, %s: %u bytes, %s\n", both, (unsigned)glued.length,
-           joined ? "those of the cover and those of the legs" : "and they differ");
+    if (pack(both, &table, &glued) && pack(legs, &part, &second)) {
+        table.count = 2;
+        if (pack(cover, &table, &first)) {
+            printf("\na cover %s, %u bytes, and legs %s, %u bytes\n",
+                   cover, (unsigned)first.length, legs, (unsigned)second.length);
+            printf("glued together, %s: %u bytes, %s\n", both, (unsigned)glued.length,
+                   joined(&glued, &first, &second) ? "those of the cover and those of the legs" : "and they differ");
+        }
+    }
+    drop(&first);
+    drop(&second);
+    drop(&glued);
+}
+
+/* Transcripts are long: records of up to CURLEW_MAX_RECORD bytes, and sheets of version 2 where version 1 cannot hold them. */
+#define TRANSCRIPT 30000
+
+static void show_transcripts(void)
+{
+    static uint8_t area[3 * TRANSCRIPT], record[CURLEW_MAX_RECORD], sheet[4 * TRANSCRIPT];
+    uint8_t slots[3 * CURLEW_SLOT_SIZE], packed[CURLEW_PACK_REPLY], kept[CURLEW_SHEET_REPLY];
+    size_t i;
+
+    memset(area, 'v', sizeof area);
+    for (i = 0; i < 3; i++)
+        curlew_put_slot(slots, i, CURLEW_STRING, (uint32_t)(i * TRANSCRIPT), TRANSCRIPT);
+    printf("\ntranscripts of %d characters\n", TRANSCRIPT);
+    if (curlew_pack("a*", 2, slots, CURLEW_SLOT_SIZE, area, sizeof area, record, sizeof record,
+                    packed, sizeof packed) != CURLEW_OK)
+        print_refusal(curlew_get_answer(packed));
+    else
+        printf("packed by a*: a record of %" PRIu32 " bytes\n", curlew_get_answer(packed).first);
+    for (i = 1; i <= 3; i++) {
+        if (curlew_sheet_write(slots, i * CURLEW_SLOT_SIZE, area, sizeof area, sheet, sizeof sheet,
+                               kept, sizeof kept) != CURLEW_OK)
+            print_refusal(curlew_get_answer(kept));
+        else
+            printf("%u in a sheet: version %u, %" PRIu32 " bytes\n",
+                   (unsigned)i, (unsigned)sheet[0], curlew_get_answer(kept).first);
+    }
 }
 
 static void show_refusals(void)
 {
-    static const char *const wrong_layouts[] = {"a6 A12 Su Su Yu b10", "a6 A12 Su3 b10000"};
+    static const char *const wrong_layouts[] = {"a6 A12 Su Su Yu b10", "a6 A12 Su3 b100000"};
     struct table table;
     struct record record;
     size_t i;
@@ -481,8 +579,11 @@ static void show_refusals(void)
 
 int main(void)
 {
-    struct record records[CANDIDATES];
+    struct record records[CANDIDATES] = {{NULL, 0}};
+    size_t i;
 
+    show_layout(old_layout);
+    show_layout(new_layout);
     if (!pack_all(records))
         return 1;
     cut(&records[3], 23, candidates[3].number);
@@ -495,6 +596,9 @@ int main(void)
     show_differences();
     show_partner();
     show_glued();
+    show_transcripts();
     show_refusals();
+    for (i = 0; i < CANDIDATES; i++)
+        drop(&records[i]);
     return 0;
 }

@@ -47,6 +47,8 @@ def values():
     equal(curlew.positions("a2 x c* @1 c", b"abcde"), [0, 3, 1])
     equal(curlew.positions("a2 c S", b"abc"), [0, 2])
     equal([curlew.steps("a2 x c S", record) for record in (b"", b"ab", b"abcde", b"abcdef")], [1, 3, 4, 4])
+    equal(curlew.look_at("a5X2a1 c*"), (3, 5))
+    equal(curlew.look_at(""), (0, 0))
     equal(curlew.pack("", []), b"")
     equal(curlew.pack("A6", ["Zoë"]), b"Zo\xc3\xab  ")
     equal(curlew.read("A6", b"Zo\xc3\xab  ", text="utf-8"), ["Zoë"])
@@ -56,6 +58,7 @@ def refusals():
     refused(1, 0, curlew.pack, "c" * 257, [])
     refused(1, 0, curlew.read, "c", bytes(curlew.MAX_RECORD + 1))
     refused(2, 2, curlew.read, "c y", b"")
+    refused(4, 1, curlew.look_at, "cx*")
     refused(5, 0, curlew.pack, "c", [])
     refused(5, 0, curlew.read, "c" * 65, b"")
     refused(6, 1, curlew.pack, "cc", [1, None])
@@ -87,6 +90,9 @@ def other_calls():
     equal(curlew.sheet_read(b"\x01\x00\x00"), [])
     equal(curlew.compare("a2 c S c", b"ab\5\0\1", b"ab\7"),
           [(curlew.SAME, 0, 0), (curlew.DIFFERENT, 7, 1), (curlew.ONLY_FIRST, 0, 0), (curlew.NEITHER, 0, 0)])
+    long = [b"v" * 30000] * 3
+    equal(curlew.sheet_write(long)[:5].hex(), "02" "00015f9f")
+    equal(curlew.sheet_read(curlew.sheet_write(long)), long)
     equal(curlew.mean([0, None, 61]), (30.5, 1))
     equal(curlew.mean([None, None]), (None, 2))
     equal(curlew.mean([]), (None, 0))

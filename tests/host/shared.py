@@ -22,7 +22,8 @@ def load(path):
     lib.curlew_compare.argtypes = RUN + RUN + RUN + OWN * 6
     lib.curlew_mean.argtypes = RUN + RUN + OWN
     lib.curlew_from_perl.argtypes = RUN + OWN + OWN
-    for name in ("pack", "read", "sheet_write", "sheet_read", "sheet_rescue", "compare", "mean", "from_perl"):
+    lib.curlew_layout.argtypes = RUN + OWN
+    for name in ("pack", "read", "sheet_write", "sheet_read", "sheet_rescue", "compare", "mean", "from_perl", "layout"):
         getattr(lib, "curlew_" + name).restype = ctypes.c_uint32
     return lib
 
@@ -124,6 +125,12 @@ def from_perl(lib, template):
     return answer, layout.raw[:answer[1]] if answer[0] == 0 else None
 
 
+def look(lib, layout):
+    reply, reply_run = own(THREE.size)
+    lib.curlew_layout(*lent(layout), *reply_run)
+    return THREE.unpack(reply.raw)
+
+
 def equal(got, expected):
     if got != expected:
         sys.exit(f"failed: got {got}, expected {expected}")
@@ -171,6 +178,8 @@ def main():
     equal(mean(lib, [None, None]), (0, 2, 0, 0, 0.0))
     equal(from_perl(lib, b"(n2a3)2 C"), ((0, 12, 0), b"Su2a3Su2a3cu"))
     equal(from_perl(lib, b"(a) 2"), ((15, 4, 0), None))
+    equal(look(lib, b"A8 S2 b* @20"), (0, 3, 20))
+    equal(look(lib, b"A8 x*"), (4, 3, 0))
     equal(lib.curlew_pack(None, 0, None, 0, None, 0, None, 0, None, 0), 1)
 
 

@@ -118,6 +118,13 @@ static uint32_t from_perl(void)
     return curlew_from_perl(deep, sizeof deep - 1, layout, sizeof layout, reply, sizeof reply);
 }
 
+static uint32_t layout(void)
+{
+    uint8_t reply[CURLEW_LAYOUT_REPLY];
+
+    return curlew_layout(EVERY_TYPE, sizeof EVERY_TYPE - 1, reply, sizeof reply);
+}
+
 struct call {
     const char *name;
     uint32_t (*make)(void);
@@ -126,7 +133,7 @@ struct call {
 static const struct call calls[] = {
     {"curlew_pack", pack}, {"curlew_read", read_record}, {"curlew_sheet_write", sheet_write},
     {"curlew_sheet_read", sheet_read}, {"curlew_sheet_rescue", sheet_rescue}, {"curlew_compare", compare},
-    {"curlew_mean", mean}, {"curlew_from_perl", from_perl},
+    {"curlew_mean", mean}, {"curlew_from_perl", from_perl}, {"curlew_layout", layout},
 };
 
 /* How many bytes of stack below this function's frame the call used. */

@@ -10,6 +10,8 @@ mod call;
 mod calls;
 #[path = "../second/compare.rs"]
 mod compare;
+#[path = "../second/describe.rs"]
+mod describe;
 #[path = "../second/dice.rs"]
 mod dice;
 #[allow(dead_code)]

@@ -1,7 +1,7 @@
 //! A call with everything lent to it, and what is found after it.
 
 use crate::compare::{self, Side};
-use crate::{mean, packer, perl, reader, rescue, sheet};
+use crate::{describe, mean, packer, perl, reader, rescue, sheet};
 use std::ops::{Deref, DerefMut};
 
 #[derive(Clone, Copy, PartialEq, Eq, Debug)]
@@ -14,9 +14,10 @@ pub enum Which {
     Compare,
     Mean,
     FromPerl,
+    Layout,
 }
 
-pub const CALLS: [Which; 8] = [
+pub const CALLS: [Which; 9] = [
     Which::Pack,
     Which::Read,
     Which::SheetWrite,
@@ -25,6 +26,7 @@ pub const CALLS: [Which; 8] = [
     Which::Compare,
     Which::Mean,
     Which::FromPerl,
+    Which::Layout,
 ];
 
 impl Which {
@@ -38,6 +40,7 @@ impl Which {
             Which::SheetRescue => &[0, 1, 5, 11, 13],
             Which::Mean => &[0, 1, 7, 8, 9, 14],
             Which::FromPerl => &[0, 1, 11, 15],
+            Which::Layout => &[0, 1, 2, 3, 4],
         }
     }
 }
@@ -87,6 +90,7 @@ impl Runs {
             ],
             Which::Mean => vec![slots, area, reply],
             Which::FromPerl => vec![("template", &mut self.template), layout, reply],
+            Which::Layout => vec![layout, reply],
         }
     }
 }
@@ -242,6 +246,7 @@ pub fn by_twin(call: &Call) -> After {
         ),
         Which::Mean => mean::mean_call(&call.slots, &call.area, &mut runs.reply),
         Which::FromPerl => perl::from_perl_call(&call.template, &mut runs.layout, &mut runs.reply),
+        Which::Layout => describe::layout_call(&call.layout, &mut runs.reply),
     };
     after
 }

@@ -195,7 +195,7 @@ fn damage(dice: &mut Dice, call: &mut Call) {
     }
 }
 
-fn random_pack(dice: &mut Dice, scratch: &mut Scratch) -> Call {
+pub fn random_pack(dice: &mut Dice, scratch: &mut Scratch) -> Call {
     let mut specs = random_specs(dice, true);
     let layout = spelled(dice, &mut specs);
     let values = random_arguments(dice, &specs);

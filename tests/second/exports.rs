@@ -1,6 +1,7 @@
 //! The twin behind C entry points, as a library of its own.
 
 mod compare;
+mod describe;
 mod fields;
 mod limits;
 mod mean;
@@ -227,4 +228,16 @@ pub unsafe extern "C" fn twin_from_perl(
         lent_mut(layout, layout_len),
         lent_mut(reply, reply_len),
     )
+}
+
+/// # Safety
+/// Each pointer leads to a run of its length; `reply` overlaps no other run.
+#[no_mangle]
+pub unsafe extern "C" fn twin_layout(
+    layout: *const u8,
+    layout_len: usize,
+    reply: *mut u8,
+    reply_len: usize,
+) -> u32 {
+    describe::layout_call(lent(layout, layout_len), lent_mut(reply, reply_len))
 }

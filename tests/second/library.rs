@@ -98,6 +98,8 @@ extern "C" {
         reply: *mut u8,
         reply_len: usize,
     ) -> u32;
+    fn curlew_layout(layout: *const u8, layout_len: usize, reply: *mut u8, reply_len: usize)
+        -> u32;
 }
 
 const GUARD: usize = 40;
@@ -183,6 +185,7 @@ pub fn by_library(call: &Call) -> (After, Vec<&'static str>) {
             ),
             Which::Mean => curlew_mean(at[0], len[0], at[1], len[1], at[2], len[2]),
             Which::FromPerl => curlew_from_perl(at[0], len[0], at[1], len[1], at[2], len[2]),
+            Which::Layout => curlew_layout(at[0], len[0], at[1], len[1]),
         }
     };
     let mut broken = Vec::new();

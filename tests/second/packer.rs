@@ -80,10 +80,12 @@ fn field_size(field: &Field, slot: Slot, area: &[u8], index: usize) -> Result<us
     Ok(field.kind.filled(count))
 }
 
-/// The length of the result, with every argument looked at.
-fn result_length(fields: &[Field], slots: &[u8], area: &[u8]) -> Result<usize, Answer> {
+/// The highest position that is reached; `size` gives the bytes that a field which takes a slot fills.
+fn highest(
+    fields: &[Field],
+    mut size: impl FnMut(&Field) -> Result<usize, Answer>,
+) -> Result<usize, Answer> {
     let mut cursor = Cursor::new();
-    let mut index = 0;
     for field in fields {
         match field.kind {
             Kind::Skip => {
@@ -92,13 +94,26 @@ fn result_length(fields: &[Field], slots: &[u8], area: &[u8]) -> Result<usize, A
             Kind::Back => cursor.back(field.count.or_all(usize::MAX)),
             Kind::Goto => cursor.goto(field.count.or_all(cursor.high)),
             _ => {
-                let size = field_size(field, slot_at(slots, index), area, index)?;
-                cursor.forward(size);
-                index += 1;
+                cursor.forward(size(field)?);
             }
         }
     }
     Ok(cursor.high)
+}
+
+/// The length of the result, with every argument looked at.
+fn result_length(fields: &[Field], slots: &[u8], area: &[u8]) -> Result<usize, Answer> {
+    let mut index = 0;
+    highest(fields, |field| {
+        index += 1;
+        field_size(field, slot_at(slots, index - 1), area, index - 1)
+    })
+}
+
+/// The length of the result where every starred value is empty.
+pub fn shortest(fields: &[Field]) -> usize {
+    let size = |field: &Field| Ok(field.kind.filled(field.count.or_all(0)));
+    highest(fields, size).unwrap_or(0)
 }
 
 fn store_text(value: &[u8], pad: u8, to: &mut [u8]) {

@@ -20,6 +20,7 @@ fn counts() {
     one(b"a8 A20 Su Iu c6");
     one(b"B9 H3 b");
     one(b"wW2i3");
+    one(b"rQ2");
 }
 
 fn stars() {
