@@ -29,7 +29,7 @@ pub record Newer (sheet : List ℕ) : Type 0 where
 abbrev pub refuses : List ℕ → List ℕ → Refusal → Read
 refuses slots area why = record { answer = refusal why 0; slots = slots; area = area }
 
--- The older reader answers 1 to a whole version 2 sheet, whatever else it is lent.
+-- A version 2 sheet that is whole the older reader refuses with 1, whatever else it is lent.
 abbrev pub WholeRefused : Type 0
 WholeRefused = (sheet : List ℕ) → Newer sheet → (slots area : List ℕ) (mark : ℕ) → olderRead sheet slots area mark ≡ refuses slots area BadSize
 
