@@ -6,9 +6,9 @@
     >>> read("A8 S2 b8 S", record, text="ascii")
     ['Ada', [61, 0], '11010000', None]
 
-A value is a str or bytes (a string), an int or a list of int (integers), or None: not marked. Reading gives bytes, or str
-where `text` names an encoding; lists of int; and None for every field that the record is too short for. A call that is
-refused raises Refused, with the number, the place and a text.
+A value is a str or bytes (a string), an int or a list of int (integers), a float or a list of float (reals), or None: not
+marked. Reading gives bytes, or str where `text` names an encoding; lists of int; lists of float; and None for every field
+that the record is too short for. A call that is refused raises Refused, with the number, the place and a text.
 
     >>> pack("A8 S", ["Ada", None])
     Traceback (most recent call last):
@@ -49,9 +49,12 @@ MAX_SLOTS = 64
 MAX_RECORD = 32768
 MAX_AREA = 524288
 MAX_SHEET = 1048576
-UNSET, STRING, SIGNED, UNSIGNED = range(4)
+UNSET, STRING, SIGNED, UNSIGNED, REAL = range(5)
 SAME, ONLY_FIRST, ONLY_SECOND, NEITHER, DIFFERENT = range(5)
 BAD_SLOTS = 5
+
+# How the items of each kind are written in the area.
+ITEM_CODES = {SIGNED: "q", UNSIGNED: "Q", REAL: "d"}
 
 REFUSALS = {
     1: "a run is larger than its limit or no whole number of slots, or the mark lies above the area",
@@ -61,14 +64,15 @@ REFUSALS = {
     5: "the number of slots does not suit the layout",
     6: "the slot is not set",
     7: "the slot has an unknown kind, or its value lies outside the area",
-    8: "the slot holds a string and the field wants integers, or the other way round",
-    9: "the slot holds fewer integers than the count, or not one where there is no count",
+    8: "the slot holds another kind of value than the field wants",
+    9: "the slot holds fewer items than the count, or not one where there is no count",
     10: "the slot's string has a character that is not a digit",
     11: "the result does not fit the run that is to hold it",
     12: "the sheet was cut, or one of its lengths or kinds is wrong",
     13: "the sheet does not begin with a version that is known",
     14: "the mark lies outside 0 to 1,000,000",
     15: "the template cannot go on like this, or it ends inside a group",
+    16: "the slot holds a NaN, which no single is stored for",
 }
 
 # What is left of a damaged sheet: the values, how many entries were kept, slots cleared and bytes dropped.
@@ -132,9 +136,12 @@ def _value(value):
     if isinstance(value, (str, bytes, bytearray, memoryview)):
         data = _bytes(value)
         return STRING, len(data), data
-    items = [value] if isinstance(value, int) else list(value)
-    kind = UNSIGNED if any(item >= 2 ** 63 for item in items) else SIGNED
-    return kind, len(items), struct.pack(f">{len(items)}{'Q' if kind == UNSIGNED else 'q'}", *items)
+    items = [value] if isinstance(value, (int, float)) else list(value)
+    if any(isinstance(item, float) for item in items):
+        kind = REAL
+    else:
+        kind = UNSIGNED if any(item >= 2 ** 63 for item in items) else SIGNED
+    return kind, len(items), struct.pack(f">{len(items)}{ITEM_CODES[kind]}", *items)
 
 
 def _table(values):
@@ -155,7 +162,7 @@ def _shown(slots, count, area, text):
             data = area[start:start + length]
             yield data.decode(text) if text else data
         else:
-            yield list(struct.unpack_from(f">{length}{'q' if kind == SIGNED else 'Q'}", area, start))
+            yield list(struct.unpack_from(f">{length}{ITEM_CODES[kind]}", area, start))
 
 
 def _own_table(count=MAX_SLOTS):

@@ -7,6 +7,7 @@
  * was cut it takes what is whole.
  */
 #include <inttypes.h>
+#include <math.h>
 #include <stdio.h>
 #include <stdlib.h>
 #include <string.h>
@@ -20,6 +21,7 @@
 
 static const char old_layout[] = "a6 A12 Su Su";
 static const char new_layout[] = "a6 A12 Su Su Su b10";
+static const char speed_layout[] = "a6 R Q";
 static const char *const heads[FIELDS] = {"number", "name", "written", "oral", "steno", "strip"};
 
 /* The values of one record, in the form in which the library takes and gives them. */
@@ -71,6 +73,13 @@ static void add_mark(struct table *table, unsigned mark)
 {
     curlew_put_uint(table->area + table->used, mark);
     curlew_put_slot(table->slots, table->count++, CURLEW_UNSIGNED, (uint32_t)table->used, 1);
+    table->used += CURLEW_ITEM_SIZE;
+}
+
+static void add_real(struct table *table, double value)
+{
+    curlew_put_double(table->area + table->used, value);
+    curlew_put_slot(table->slots, table->count++, CURLEW_REAL, (uint32_t)table->used, 1);
     table->used += CURLEW_ITEM_SIZE;
 }
 
@@ -234,6 +243,8 @@ static void show(const struct table *table, size_t field, char *cell)
         snprintf(cell, CELL, "not marked");
     else if (slot.kind == CURLEW_STRING)
         snprintf(cell, CELL, "%.*s", (int)slot.length, (const char *)table->area + slot.start);
+    else if (slot.kind == CURLEW_REAL)
+        snprintf(cell, CELL, "%.9g", curlew_get_double(table->area + slot.start));
     else
         snprintf(cell, CELL, "%" PRIu64, curlew_get_uint(table->area + slot.start));
 }
@@ -558,6 +569,39 @@ static void show_transcripts(void)
     }
 }
 
+static int pack_speed(const char *number, double speed, struct record *record)
+{
+    struct table table;
+
+    clear(&table);
+    add_text(&table, number);
+    add_real(&table, speed);
+    add_real(&table, speed);
+    return pack(speed_layout, &table, record);
+}
+
+/* Steno speeds are reals. R keeps the nearest single in four bytes, Q the double as it is in eight. */
+static void show_speeds(void)
+{
+    static const double speeds[CANDIDATES] = {182.4, 0.0, 96.25, 120.1};
+    struct record record;
+    struct table table;
+    size_t i;
+
+    printf("\nsteno speeds, packed by %s\n%-14s%-14s%s\n", speed_layout, "number", "single", "double");
+    for (i = 0; i < CANDIDATES; i++) {
+        if (!pack_speed(candidates[i].number, speeds[i], &record))
+            continue;
+        if (i == CANDIDATES - 1)
+            record.length -= 1;
+        if (read_record(speed_layout, &record, &table))
+            print_row(&table, 3);
+        drop(&record);
+    }
+    printf("a speed that is no number\n");
+    pack_speed("C00421", NAN, &record);
+}
+
 static void show_refusals(void)
 {
     static const char *const wrong_layouts[] = {"a6 A12 Su Su Yu b10", "a6 A12 Su3 b100000"};
@@ -597,6 +641,7 @@ int main(void)
     show_partner();
     show_glued();
     show_transcripts();
+    show_speeds();
     show_refusals();
     for (i = 0; i < CANDIDATES; i++)
         drop(&records[i]);

@@ -49,6 +49,9 @@ def values():
     equal([curlew.steps("a2 x c S", record) for record in (b"", b"ab", b"abcde", b"abcdef")], [1, 3, 4, 4])
     equal(curlew.look_at("a5X2a1 c*"), (3, 5))
     equal(curlew.look_at(""), (0, 0))
+    equal(curlew.pack("R Q2", [1.5, [-2.0, 0.1]]).hex(), "3fc00000" "c000000000000000" "3fb999999999999a")
+    equal(curlew.read("R Q2 r", curlew.pack("R Q2", [1.5, [-2, 0.1]])), [[1.5], [-2.0, 0.1], None])
+    equal(curlew.sheet_read(curlew.sheet_write([0.1, None])), [[0.1], None])
     equal(curlew.pack("", []), b"")
     equal(curlew.pack("A6", ["Zoë"]), b"Zo\xc3\xab  ")
     equal(curlew.read("A6", b"Zo\xc3\xab  ", text="utf-8"), ["Zoë"])
@@ -69,6 +72,9 @@ def refusals():
     refused(13, 0, curlew.sheet_read, b"\x07\x00\x00")
     refused(14, 1, curlew.mean, [0, -1])
     refused(15, 4, curlew.from_perl, "(a) 2")
+    refused(16, 0, curlew.pack, "r", [float("nan")])
+    refused(8, 0, curlew.pack, "r", [1])
+    refused(8, 0, curlew.pack, "c", [1.5])
     for wrong in ([2 ** 64], [-1, 2 ** 63]):
         try:
             curlew.pack("w*", [wrong])

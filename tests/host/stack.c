@@ -15,29 +15,27 @@
 #define NEAR 512 /* bytes below the caller's frame that are left unpainted: what is there counts as used */
 #define PAINT 0xa5
 
-#define EVERY_TYPE "a4 A4 b9 B9 h3 H3 c3 s2 S2 i2 I2 w2 W2 x2 X @30 a* c*"
-#define SLOTS 15
+#define EVERY_TYPE "a4 A4 b9 B9 h3 H3 c3 s2 S2 i2 I2 w2 W2 x2 X @30 a* q2 r2 Q2 R* c*"
+#define SLOTS 19
 
 static uint8_t slots[SLOTS * CURLEW_SLOT_SIZE], other_slots[SLOTS * CURLEW_SLOT_SIZE];
 static uint8_t area[1024], other_area[1024], record[256], sheet[2048], report[SLOTS * CURLEW_FINDING_SIZE];
 static size_t record_len, sheet_len;
 static uint8_t *low;
 
+/* A value for each field of EVERY_TYPE: nine characters, or three items. */
 static void fill_table(void)
 {
-    static const char strings[] = "aAbBhHa";
+    static const char fields[] = "aAbBhHcsSiIwWaqrQRc";
     size_t i, used = 0;
 
     for (i = 0; i < SLOTS; i++) {
-        if (i < 6 || i == SLOTS - 2) {
-            memset(area + used, strings[i < 6 ? i : 6] == 'a' ? 'v' : '1', 9);
-            curlew_put_slot(slots, i, CURLEW_STRING, (uint32_t)used, 9);
-            used += 9;
-        } else {
-            memset(area + used, (int)i, 3 * CURLEW_ITEM_SIZE);
-            curlew_put_slot(slots, i, CURLEW_SIGNED, (uint32_t)used, 3);
-            used += 3 * CURLEW_ITEM_SIZE;
-        }
+        int text = strchr("aAbBhH", fields[i]) != NULL, real = strchr("qrQR", fields[i]) != NULL;
+        size_t size = text ? 9 : 3 * CURLEW_ITEM_SIZE;
+
+        memset(area + used, text ? '1' : 3, size);
+        curlew_put_slot(slots, i, text ? CURLEW_STRING : real ? CURLEW_REAL : CURLEW_SIGNED, (uint32_t)used, text ? 9 : 3);
+        used += size;
     }
 }
 
