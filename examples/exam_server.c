@@ -286,7 +286,7 @@ static void print_table(const char *layout, size_t fields, const struct record *
     }
 }
 
-/* How much work a reading was: the fields that were set, and the one that came up short. */
+/* How much work a reading was: the fields that were set, and the first for which the record was too short. */
 static void print_steps(const char *layout, const struct record *records, size_t count)
 {
     struct table table;

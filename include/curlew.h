@@ -41,8 +41,8 @@
  *
  *   curlew_pack(layout, strlen(layout),                              and not sizeof layout
  *
- * A run that is larger than its limit is refused (number 1), also one that is only to be written: packing wants no more
- * room than a record may have. Give it a part of a larger run.
+ * A run that is larger than its limit is refused (number 1), also one that is only to be written: packing wants no
+ * more room than a record may have. Give it a part of a larger run.
  *
  *   out, room < CURLEW_MAX_RECORD ? room : CURLEW_MAX_RECORD,        and not out, room
  *
@@ -163,13 +163,14 @@
  * left of it gives the values of the fields that are still whole.
  *
  * Reading loses nothing where every byte of the record belongs to a value and every bit of it is shown: a layout of
- * `a`, integers and `q Q`, counted or not, `b B` with counts that 8 divides and `h H` with even counts, and a record of just
- * the length that its fields fill. Read such a record and pack the slots by the same layout, and you have it back;
- * two of them that show the same values are the same bytes.
+ * `a`, integers and `q Q`, counted or not, `b B` with counts that 8 divides and `h H` with even counts, and a
+ * record of just the length that its fields fill. Read such a record and pack the slots by the same layout, and you
+ * have it back; two of them that show the same values are the same bytes.
  *
  * The reply of a reading is CURLEW_READ_REPLY (16) bytes: behind the answer's three numbers it has the steps, how many
- * fields were carried out, x X @ included, and the one that came up short; fields behind that one do not count. It is never
- * more than the layout has bytes, and 0 where the reading is refused. curlew_get_steps gets it.
+ * fields the reading went through. Fields of x, X and @ count, and so does the one for which the record was too short;
+ * fields behind that one do not. The steps are never more than the layout has bytes, and 0 where the reading is
+ * refused. curlew_get_steps gets them.
  *
  *
  * SHEETS: A TABLE KEPT IN A FILE
@@ -188,12 +189,13 @@
  *
  *   01  00 13   00 01  00   00 03  01  4f 4b   00 09  02  ff ff ff ff ff ff ff fe
  *
- * and the three bytes 01 00 00 are a table of no slots. Starts and positions are not kept: where a value lay in the area,
- * or in a record, is of no matter. curlew_sheet_write writes the slots given to it; the bytes of the run behind the sheet
- * stay as they were. curlew_sheet_read puts the values into the area from the mark on, as curlew_read does, and sets a
- * slot for each entry; an entry that is not set clears its slot to CURLEW_UNSET, start 0, length 0. All slots that it sets
- * have CURLEW_NO_POSITION. Slots beyond the entries stay as they were. Writing a table and reading it back shows the same
- * values, and the slots of a sheet that was read are written as the same sheet, byte for byte.
+ * and the three bytes 01 00 00 are a table of no slots. Starts and positions are not kept: where a value lay in the
+ * area, or in a record, is of no matter. curlew_sheet_write writes the slots given to it; the bytes of the run
+ * behind the sheet stay as they were. curlew_sheet_read puts the values into the area from the mark on, as
+ * curlew_read does, and sets a slot for each entry; an entry that is not set clears its slot to CURLEW_UNSET, start
+ * 0, length 0. All slots that it sets have CURLEW_NO_POSITION. Slots beyond the entries stay as they were. Writing
+ * a table and reading it back shows the same values, and the slots of a sheet that was read are written as the same
+ * sheet, byte for byte.
  *
  * Version 2 is for larger tables: its lengths have four bytes in both places, so its header has five bytes. A table
  * is written as version 1 wherever all lengths of that version are at most 65,535, whatever room the run has, and as
@@ -209,20 +211,20 @@
  *
  * A SHEET THAT WAS DAMAGED
  *
- * curlew_sheet_rescue takes what is left of a sheet, and the number of legs that it should have had. From the front it
- * keeps each entry that is whole and right, as curlew_sheet_read would take it, until it has one for every leg or meets one
- * that is wrong: nothing behind a wrong entry can be trusted. The kept entries go into slots and area as that call puts
- * them, and the slots of the other legs are cleared to CURLEW_UNSET, start 0, length 0, without a position, so that a lost
- * leg reads "not set" and never as a mark. Slots past the legs, and bytes of the area that no kept value covers, stay as they were.
- * The length in the header is not looked at, and both versions are taken, whichever the kept entries would be written as.
- * The reply is CURLEW_RESCUE_REPLY (16) bytes, four numbers:
+ * curlew_sheet_rescue takes what is left of a sheet, and the number of legs that it should have had. From the front
+ * it keeps each entry that is whole and right, as curlew_sheet_read would take it, until it has one for every leg
+ * or meets one that is wrong: nothing behind a wrong entry can be trusted. The kept entries go into slots and area
+ * as that call puts them, and the slots of the other legs are cleared to CURLEW_UNSET, start 0, length 0, without a
+ * position, so that a lost leg reads "not set" and never as a mark. Slots past the legs, and bytes of the area that
+ * no kept value covers, stay as they were. The length in the header is not looked at, and both versions are taken,
+ * whichever the kept entries would be written as. The reply is CURLEW_RESCUE_REPLY (16) bytes, four numbers:
  *
  *   CURLEW_OK, entries kept, slots cleared, bytes dropped
  *
- * Kept and cleared add up to the legs. Dropped are the bytes that belong neither to the header nor to a kept entry; of a
- * sheet shorter than its header that is every byte. A sheet that curlew_sheet_read accepts, with an entry for every leg,
- * is rescued as it is read. A sheet that was cut keeps exactly the entries that end at or before the cut. Write the
- * rescued slots again, and a rescue of that sheet keeps every leg, clears none and drops nothing.
+ * Kept and cleared add up to the legs. Dropped are the bytes that belong neither to the header nor to a kept entry;
+ * of a sheet shorter than its header that is every byte. A sheet that curlew_sheet_read accepts, with an entry for
+ * every leg, is rescued as it is read. A sheet that was cut keeps exactly the entries that end at or before the
+ * cut. Write the rescued slots again, and a rescue of that sheet keeps every leg, clears none and drops nothing.
  *
  *
  * COMPARING TWO COPIES OF A RECORD
@@ -276,15 +278,16 @@
  *
  * ANSWERS
  *
- * Every call returns a number and writes three big-endian 32-bit numbers into the reply, the same one first:
+ * Every call returns a number and writes three big-endian 32-bit numbers into the reply, the same one first. Some calls
+ * write more behind them:
  *
  *   packed          CURLEW_OK, length of the result, 0
- *   read            CURLEW_OK, how many slots were set, place in the area after the last value (and the steps behind them)
+ *   read            CURLEW_OK, how many slots were set, place in the area after the last value; the steps
  *   sheet written   CURLEW_OK, length of the sheet, 0
  *   sheet read      CURLEW_OK, how many entries there were, place in the area after the last value
- *   sheet rescued   CURLEW_OK, entries kept, slots cleared (and the bytes dropped behind them)
+ *   sheet rescued   CURLEW_OK, entries kept, slots cleared; the bytes dropped
  *   compared        CURLEW_OK, how many findings there are, 0
- *   mean            CURLEW_OK, how many slots are not set, 0 (and the mean behind them)
+ *   mean            CURLEW_OK, how many slots are not set, 0; the mean
  *   from Perl       CURLEW_OK, length of the layout, 0
  *   layout          CURLEW_OK, slots that it takes, length of its shortest record
  *   refused         the number of the refusal, the place of the fault, 0
@@ -323,11 +326,11 @@
  *                            template ends inside a group                           length
  *   16   CURLEW_BAD_REAL     packing: a NaN among the reals that r R store          the slot
  *
- * The checks are made in this order. Packing and reading a record: 1; then 2, 3 and 4 for each field in turn;
- * then 5; then 6 to 10 and 16 for each slot in turn, the lower number first; then 11. Writing a sheet: 1; 7 for each
- * slot in turn; 11. Reading a sheet: 1; 13; 12; 5; 11. Rescuing one: 1; 13; 5; 11. Comparing: all of reading the first copy, then all of
- * reading the second, then 11 for the report. Mean: 1; then 7, 8, 9 and 14 for each slot in turn. From Perl: 1;
- * 15; 11. Layout: 1; then 2, 3 and 4 for each field in turn.
+ * The checks are made in this order. Packing and reading a record: 1; then 2, 3 and 4 for each field in turn; then
+ * 5; then 6 to 10 and 16 for each slot in turn, the lower number first; then 11. Writing a sheet: 1; 7 for each
+ * slot in turn; 11. Reading a sheet: 1; 13; 12; 5; 11. Rescuing one: 1; 13; 5; 11. Comparing: all of reading the
+ * first copy, then all of reading the second, then 11 for the report. Mean: 1; then 7, 8, 9 and 14 for each slot in
+ * turn. From Perl: 1; 15; 11. Layout: 1; then 2, 3 and 4 for each field in turn.
  *
  * No byte is written before the last of them: a refusal writes the reply and nothing else. A reply of a wrong size
  * makes the call return 1 and write nothing at all.
@@ -337,21 +340,21 @@
  *
  * SIZES
  *
- *   layout                  at most CURLEW_MAX_LAYOUT    256 bytes
- *   slots                   at most CURLEW_MAX_SLOTS      64 slots, CURLEW_SLOT_SIZE bytes each
- *   record, output run      at most CURLEW_MAX_RECORD    32,768 bytes
- *   area                    at most CURLEW_MAX_AREA     524,288 bytes
- *   sheet, run for one      at most CURLEW_MAX_SHEET  1,048,576 bytes
- *   count in a layout       at most CURLEW_MAX_COUNT     32,768 (from Perl: 4,096)
- *   template of Perl        at most CURLEW_MAX_TEMPLATE  256 bytes
- *   legs of a rescue        at most CURLEW_MAX_SLOTS      64
+ *   layout                  at most CURLEW_MAX_LAYOUT          256 bytes
+ *   slots                   at most CURLEW_MAX_SLOTS            64 slots, CURLEW_SLOT_SIZE bytes each
+ *   record, output run      at most CURLEW_MAX_RECORD       32,768 bytes
+ *   area                    at most CURLEW_MAX_AREA        524,288 bytes
+ *   sheet, run for one      at most CURLEW_MAX_SHEET     1,048,576 bytes
+ *   count in a layout       at most CURLEW_MAX_COUNT        32,768 (from Perl: 4,096)
+ *   template of Perl        at most CURLEW_MAX_TEMPLATE        256 bytes
+ *   legs of a rescue        at most CURLEW_MAX_SLOTS            64
  *   reply                   exactly CURLEW_PACK_REPLY, CURLEW_READ_REPLY, CURLEW_SHEET_REPLY, CURLEW_RESCUE_REPLY,
  *                           CURLEW_COMPARE_REPLY, CURLEW_MEAN_REPLY, CURLEW_PERL_REPLY or
  *                           CURLEW_LAYOUT_REPLY bytes
  *
  * Number 1 compares the lengths that you give to a call with these limits. The output run must be no larger than a
- * record may be, even where the result is short, and so must the run for a sheet. The report of curlew_compare and the
- * run for a layout from Perl may have any length. A run of length 0 may be a null pointer.
+ * record may be, even where the result is short, and so must the run for a sheet. The report of curlew_compare and
+ * the run for a layout from Perl may have any length. A run of length 0 may be a null pointer.
  *
  *
  * YOUR DUTY

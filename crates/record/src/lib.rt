@@ -68,7 +68,7 @@ pub struct Answer {
     pub second: u32,
 }
 
-// What a reading answers: the three numbers, and its steps, the fields that were carried out and the one that came up short.
+// What a reading answers: the three numbers, and its steps, the fields that it went through, up to one that had too few bytes and with it.
 pub struct ReadAnswer {
     pub answer: Answer,
     pub steps: u32,
