@@ -1,8 +1,8 @@
-# make                 proves the library and writes target/staticlib/libcurlew.a and the manual page target/curlew.3
-# make demo            the same, and runs the exam-server example
+# make                 proves the library and writes target/staticlib/libcurlew.a, the manual page target/curlew.3 and the command target/curlew
+# make demo            the same, and runs the exam-server example and the command
 # make test            proves everything from nothing and runs all tests; the last line is 'N passed, 0 failed'
 # make shared          writes target/shared/libcurlew.so, for Python and others that load a library
-# make install         header, archive, pkg-config file and manual page under prefix (or PREFIX), below DESTDIR
+# make install         header, archive, pkg-config file, command and manual pages under prefix (or PREFIX), below DESTDIR
 # make install-shared  the shared object
 # make uninstall       removes what both installed
 # make bench           compares the speed with Tcl, Perl, Python and an unproved twin; numbers and plots in target/bench
@@ -54,8 +54,9 @@ target/demo/exam_server: examples/exam_server.c include/curlew.h $(ARCHIVE)
 	@mkdir -p target/demo
 	$(CC) -std=c99 -O2 -Wall -Wextra -pedantic -Iinclude -o $@ examples/exam_server.c $(ARCHIVE)
 
-demo: target/demo/exam_server
+demo: target/demo/exam_server target/curlew
 	@target/demo/exam_server
+	@examples/office.sh target/curlew
 
 $(SHARED): $(ARCHIVE) tools/curlew.map
 	@mkdir -p target/shared
@@ -110,3 +111,5 @@ uninstall:
 
 clean:
 	rm -rf target
+
+include tools/command.mk

@@ -1,0 +1,173 @@
+/* The calls of the library, with the runs that they are lent. Every limit is the header's. */
+#include <stdlib.h>
+#include <string.h>
+
+#include "tool.h"
+
+void values_start(struct values *values)
+{
+    memset(values, 0, sizeof *values);
+    values->area = get_memory(CURLEW_MAX_AREA);
+}
+
+/* `count` slots, none of them set. */
+void values_clear(struct values *values, size_t count)
+{
+    memset(values->slots, 0, count * CURLEW_SLOT_SIZE);
+    values->count = count;
+    values->used = 0;
+}
+
+void values_free(struct values *values)
+{
+    free(values->area);
+}
+
+struct curlew_answer call_layout(const char *text, size_t length)
+{
+    uint8_t reply[CURLEW_LAYOUT_REPLY];
+
+    curlew_layout(text, length, reply, sizeof reply);
+    return curlew_get_answer(reply);
+}
+
+struct curlew_answer call_pack(const struct layout *layout, const struct values *values, uint8_t *record)
+{
+    uint8_t reply[CURLEW_PACK_REPLY];
+
+    curlew_pack(layout->text, layout->length, values->slots, values->count * CURLEW_SLOT_SIZE, values->area, values->used,
+                record, CURLEW_MAX_RECORD, reply, sizeof reply);
+    return curlew_get_answer(reply);
+}
+
+/* Reads into slots that are cleared first: what the record does not hold stays not set. */
+struct read_answer call_read(const struct layout *layout, const uint8_t *record, size_t length, struct values *values)
+{
+    uint8_t reply[CURLEW_READ_REPLY];
+    struct read_answer answer;
+
+    values_clear(values, layout->values);
+    curlew_read(layout->text, layout->length, record, length, values->slots, values->count * CURLEW_SLOT_SIZE,
+                values->area, CURLEW_MAX_AREA, 0, reply, sizeof reply);
+    answer.answer = curlew_get_answer(reply);
+    answer.carried_out = curlew_get_steps(reply);
+    values->used = answer.answer.second;
+    return answer;
+}
+
+struct curlew_answer call_sheet_write(const struct values *values, uint8_t *sheet)
+{
+    uint8_t reply[CURLEW_SHEET_REPLY];
+
+    curlew_sheet_write(values->slots, values->count * CURLEW_SLOT_SIZE, values->area, values->used, sheet, CURLEW_MAX_SHEET,
+                       reply, sizeof reply);
+    return curlew_get_answer(reply);
+}
+
+struct curlew_answer call_sheet_read(const uint8_t *sheet, size_t length, struct values *values)
+{
+    uint8_t reply[CURLEW_SHEET_REPLY];
+    struct curlew_answer answer;
+
+    values_clear(values, CURLEW_MAX_SLOTS);
+    curlew_sheet_read(sheet, length, values->slots, sizeof values->slots, values->area, CURLEW_MAX_AREA, 0, reply, sizeof reply);
+    answer = curlew_get_answer(reply);
+    if (answer.number == CURLEW_OK) {
+        values->count = answer.first;
+        values->used = answer.second;
+    }
+    return answer;
+}
+
+static size_t end_of_values(const struct values *values)
+{
+    size_t end = 0;
+    size_t i;
+
+    for (i = 0; i < values->count; i++) {
+        struct curlew_slot slot = curlew_get_slot(values->slots, i);
+
+        if (slot.kind != CURLEW_UNSET)
+            end = slot.start + value_bytes(slot);
+    }
+    return end;
+}
+
+struct rescue_answer call_sheet_rescue(const uint8_t *sheet, size_t length, size_t legs, struct values *values)
+{
+    uint8_t reply[CURLEW_RESCUE_REPLY];
+    struct rescue_answer answer;
+
+    values_clear(values, CURLEW_MAX_SLOTS);
+    curlew_sheet_rescue(sheet, length, legs, values->slots, sizeof values->slots, values->area, CURLEW_MAX_AREA, 0,
+                        reply, sizeof reply);
+    answer.answer = curlew_get_answer(reply);
+    answer.dropped = curlew_get_dropped(reply);
+    if (answer.answer.number == CURLEW_OK) {
+        values->count = legs;
+        values->used = end_of_values(values);
+    }
+    return answer;
+}
+
+struct curlew_answer call_compare(const struct layout *layout, const uint8_t *const records[2], const size_t lengths[2],
+                                  struct values values[2], uint8_t *report)
+{
+    uint8_t reply[CURLEW_COMPARE_REPLY];
+    size_t slots = layout->values * CURLEW_SLOT_SIZE;
+
+    values_clear(&values[0], layout->values);
+    values_clear(&values[1], layout->values);
+    curlew_compare(layout->text, layout->length, records[0], lengths[0], records[1], lengths[1],
+                   values[0].slots, slots, values[0].area, CURLEW_MAX_AREA, values[1].slots, slots, values[1].area, CURLEW_MAX_AREA,
+                   report, layout->values * CURLEW_FINDING_SIZE, reply, sizeof reply);
+    return curlew_get_answer(reply);
+}
+
+struct curlew_answer call_mean(const struct values *values, int *marked, double *mean)
+{
+    uint8_t reply[CURLEW_MEAN_REPLY];
+
+    curlew_mean(values->slots, values->count * CURLEW_SLOT_SIZE, values->area, values->used, reply, sizeof reply);
+    *marked = curlew_get_mean(reply, mean);
+    return curlew_get_answer(reply);
+}
+
+struct curlew_answer call_from_perl(const char *text, size_t length, char *layout)
+{
+    uint8_t reply[CURLEW_PERL_REPLY];
+
+    curlew_from_perl(text, length, layout, CURLEW_MAX_LAYOUT, reply, sizeof reply);
+    return curlew_get_answer(reply);
+}
+
+/* ---- layouts ---- */
+
+static int take_layout(struct layout *layout, struct curlew_answer answer)
+{
+    if (answer.number != CURLEW_OK) {
+        refuse_layout(layout->text, layout->length, answer);
+        return 0;
+    }
+    layout_split(layout);
+    return 1;
+}
+
+int layout_for_packing(struct layout *layout, const char *text)
+{
+    layout->text = text;
+    layout->length = strlen(text);
+    return take_layout(layout, call_layout(text, layout->length));
+}
+
+/* Reading takes layouts that packing refuses (`x*`): the library judges it by a record of no bytes. */
+int layout_for_reading(struct layout *layout, const char *text)
+{
+    struct values none = {{0}, 0, NULL, 0};
+    uint8_t reply[CURLEW_READ_REPLY];
+
+    layout->text = text;
+    layout->length = strlen(text);
+    curlew_read(text, layout->length, NULL, 0, none.slots, sizeof none.slots, NULL, 0, 0, reply, sizeof reply);
+    return take_layout(layout, curlew_get_answer(reply));
+}
