@@ -5,8 +5,8 @@
 # make install         header, archive, pkg-config file, command and manual pages under prefix (or PREFIX), below DESTDIR
 # make install-shared  the shared object
 # make uninstall       removes what both installed
-# make bench           compares the speed with Tcl, Perl, Python and an unproved twin; numbers and plots in target/bench
-# make bench-publish   puts the plots of the last comparison into docs
+# make bench           compares the speed with Tcl, Perl, Python, plain C and an unproved twin; numbers and plots in target/bench
+# make bench-publish   puts the figures and plots of the last comparison into docs
 # make clean           removes target
 
 PREFIX ?= /usr/local
@@ -85,7 +85,7 @@ target/bench/bench.svg: $(ARCHIVE)
 	@bench/run
 
 bench-publish: target/bench/bench.svg
-	cp target/bench/bench.svg target/bench/strips.svg docs
+	cp target/bench/bench.txt target/bench/bench.svg target/bench/strips.svg docs
 
 install: all
 	$(INSTALL) -d "$(DESTDIR)$(includedir)" "$(DESTDIR)$(libdir)" "$(DESTDIR)$(pkgconfigdir)" "$(DESTDIR)$(man3dir)"

@@ -1,6 +1,11 @@
-/* The calls of our library and of the twin, made once, timed and shown; and memcpy and memcmp beside them. */
+/*
+ * The calls of our library, of the twin, of plain C and of the layout written out by hand, made once, timed and shown;
+ * and memcpy and memcmp beside them.
+ */
 #include "peers.h"
 
+pack_call plain_pack, hand_pack;
+read_call plain_read, hand_read;
 #ifndef NO_TWIN
 pack_call twin_pack;
 read_call twin_read;
@@ -14,6 +19,8 @@ const struct library libraries[] = {
 #ifndef NO_TWIN
     {"twin", twin_pack, twin_read, twin_sheet_write, twin_sheet_read, twin_compare},
 #endif
+    {"plain", plain_pack, plain_read, NULL, NULL, NULL},
+    {"hand", hand_pack, hand_read, NULL, NULL, NULL},
     {NULL, NULL, NULL, NULL, NULL, NULL},
 };
 
@@ -78,6 +85,9 @@ static void show_value(struct curlew_slot slot)
         printf("not set,");
     else if (slot.kind == CURLEW_STRING)
         printf("%.*s,", (int)slot.length, (const char *)table.area + slot.start);
+    else if (slot.kind == CURLEW_REAL)
+        for (i = 0; i < slot.length; i++)
+            printf("%.17g,", curlew_get_double(table.area + slot.start + i * CURLEW_ITEM_SIZE));
     else
         for (i = 0; i < slot.length; i++)
             printf("%lld,", (long long)curlew_get_int(table.area + slot.start + i * CURLEW_ITEM_SIZE));

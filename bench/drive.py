@@ -11,42 +11,51 @@ import subprocess
 import sys
 from statistics import median
 
+import count
 from workloads import (BYTE_COUNTS, CALLS, DIGIT_COUNTS, FIELD_COUNTS, PAIR_CALLS, SHEET_CALLS, crowd_sum,
-                       main_workloads, pairs, step_bound, tables, workloads)
+                       long_workloads, main_workloads, pairs, step_bound, tables, workloads)
 
 ROUNDS = int(os.environ.get("BENCH_ROUNDS", "15"))
 SLICE = int(float(os.environ.get("BENCH_MILLISECONDS", "3")) * 1e6)
 CROWD = int(os.environ.get("BENCH_RECORDS", "1000000"))
 CROWD_ROUNDS = 3
-NAMES = {"ours": "ours", "twin": "Rust twin", "tcl": "Tcl", "perl": "Perl", "python": "Python"}
+NAMES = {"ours": "ours", "plain": "plain C", "twin": "Rust twin", "tcl": "Tcl", "perl": "Perl", "python": "Python"}
 TITLES = {"w1": "w1 small mark record", "w2": "w2 b4096; b*, 4096 bytes", "w3": "w3 s2000", "w4": "w4 a4096",
-          "w5": "w5 64 fields of c", "b4096": "b4096, 512 bytes",
-          "t8": "table of 8 slots", "t60000": "value of 60,000 bytes",
+          "w5": "w5 64 fields of c", "q500": "500 doubles", "r1000": "1,000 singles", "a32768": "a32768",
+          "b262144": "b32768; b*, 32,768 bytes", "s16000": "s16000", "b4096": "b4096, 512 bytes",
+          "t8": "table of 8 slots", "t60000": "value of 60,000 bytes", "t500000": "value of 500,000 bytes",
           "same-w1": "w1 twice", "other-a4096": "a4096, one byte differs", "same-a4096": "a4096 twice"}
 LIBRARIES = ("ours", "twin")
+IN_C = (*LIBRARIES, "plain")
+PLAIN_GOAL = 1.2
+HAND_GOAL = 5.0
 TWIN_GOAL = 1.5
 COPY_GOAL = 2.0
 MEMCMP_GOAL = 4.0
 
 
-STRIPS = ("w2", "b4096")
-STRIP_TWIN_GOAL = 1.2
+STRIPS = ("w2", "b4096", "b262144")
 STRIP_TCL_GOAL = 8.0
+READ_TCL_GOAL = 8.0
+TCL_GOAL = 2.0
+LONG_STRINGS = ("w4", "a32768")
+PLAIN_GOALS = {"q500": 1.3, "r1000": 3.0}
 
 
 def tcl_goal(name, call):
     if name in STRIPS:
         return STRIP_TCL_GOAL
-    return {("w1", "pack"): 2.0, ("w1", "read"): 4.0, ("w5", "pack"): 1.3}.get((name, call), 3.0)
+    return READ_TCL_GOAL if call == "read" and name not in LONG_STRINGS else TCL_GOAL
 
 
-def twin_goal(name):
-    return STRIP_TWIN_GOAL if name in STRIPS else TWIN_GOAL
+def plain_goal(name):
+    """How many times plain C's time ours may take."""
+    return PLAIN_GOALS.get(name, PLAIN_GOAL)
 
 
 def main_rows():
     """The calls in the main table. Of b4096, w2 has the packing already."""
-    for work in main_workloads():
+    for work in main_workloads() + long_workloads():
         for call in CALLS:
             yield work.name, call
         if work.name == "w2":
@@ -106,7 +115,7 @@ def cases(peers):
     for work in workloads():
         for call in CALLS:
             for peer in peers:
-                if peer in NAMES or (peer, work.name) == ("memcpy", "w4"):
+                if peer in NAMES or (peer, work.name) in (("memcpy", "w4"), ("hand", "w1")):
                     yield peer, work.name, call
     for work, calls, beside in library_cases():
         for call in calls:
@@ -121,8 +130,9 @@ def check_same(serving):
         for call in CALLS:
             expected = serving["ours"].ask(f"show ours {work.name} {call}")
             for peer, process in serving.items():
-                if peer in NAMES and process.ask(f"show {peer} {work.name} {call}") != expected:
-                    sys.exit(f"{NAMES[peer]} and ours differ on {work.name} {call}")
+                known = peer in NAMES or (peer, work.name) == ("hand", "w1")
+                if known and process.ask(f"show {peer} {work.name} {call}") != expected:
+                    sys.exit(f"{NAMES.get(peer, peer)} and ours differ on {work.name} {call}")
     for work, calls, beside in library_cases():
         for call in calls:
             for peer in (*LIBRARIES, beside):
@@ -160,14 +170,14 @@ def run_rounds(serving):
 
 def crowd_records(peer):
     """How many records a peer packs and reads: the slow ones fewer."""
-    return CROWD if peer in LIBRARIES else CROWD // 5 if peer == "tcl" else CROWD // 20
+    return CROWD if peer in IN_C else CROWD // 5 if peer == "tcl" else CROWD // 20
 
 
 def run_crowd(serving):
     """Records in a second, packed and read, for each peer and number of threads."""
     cores = len(os.sched_getaffinity(0))
     todo = [(peer, threads) for peer in serving if peer in NAMES
-            for threads in ((1, cores) if peer in (*LIBRARIES, "tcl") and cores > 1 else (1,))]
+            for threads in ((1, cores) if peer in (*IN_C, "tcl") and cores > 1 else (1,))]
     rates = {case: ([], []) for case in todo}
     for _ in range(CROWD_ROUNDS):
         for peer, threads in todo:
@@ -198,19 +208,37 @@ def goal_text(value, goal):
 
 def print_main(times):
     print("\nOne call. Each peer's time over ours: above 1, ours is quicker. Medians of the ratios of", ROUNDS, "rounds.")
-    print(f"{'workload':26} {'call':5} {'ours ns':>9} {'Tcl':>9} {'goal':>13} {'Rust twin':>10} {'goal':>14}"
+    print(f"{'workload':26} {'call':5} {'ours ns':>9} {'Tcl':>9} {'goal':>13} {'plain C':>8} {'goal':>13} {'Rust twin':>10}"
           f" {'Perl':>9} {'Python':>9}")
     for name, call in main_rows():
-        tcl, twin, perl, python = (ratio(times, peer, name, call) for peer in ("tcl", "twin", "perl", "python"))
+        tcl, plain, twin, perl, python = (ratio(times, peer, name, call)
+                                          for peer in ("tcl", "plain", "twin", "perl", "python"))
         print(f"{TITLES[name]:26} {call:5} {median(times['ours', name, call]):9.0f}"
               f" {text(tcl):>9} {goal_text(tcl, tcl_goal(name, call)):>13}"
-              f" {text(twin):>10} {goal_text(twin, 1 / twin_goal(name)):>14} {text(perl):>9} {text(python):>9}")
+              f" {text(plain):>8} {goal_text(plain, 1 / plain_goal(name)):>13}"
+              f" {text(twin):>10} {text(perl):>9} {text(python):>9}")
+    for call in CALLS:
+        hand = ratio(times, "hand", "w1", call)
+        print(f"w1 written out by hand beside {call}: {text(hand)} of our time, goal {goal_text(hand, 1 / HAND_GOAL)}")
     for call in CALLS:
         print(f"memcpy of the 4,096 bytes of w4 beside {call}: {text(ratio(times, 'memcpy', 'w4', call))} of our time")
-    print("Goals: Tcl's time at least 2 times ours for w1 pack, 4 times for w1 read, 1.3 times for w5 pack, 8 times for")
-    print("strips of digits, 3 times for the others; our time at most 1.5 times the twin's, 1.2 times for strips (the")
-    print("twin's at least 0.67 of ours, 0.83 for strips).")
+    print("Goals: Tcl's time at least 2 times ours, in reading and for strips of digits 8 times, but for one long string;")
+    print(f"our time at most {PLAIN_GOAL} times plain C's (its at least {1 / PLAIN_GOAL:.2f} of ours), 1.3 times for doubles and 3"
+          " times for singles, which")
+    print(f"the hardware converts for plain C; for w1 at most"
+          f" {HAND_GOAL:.0f} times that of the")
+    print("layout written out by hand.")
     print("Python's struct has no digit fields: w1, w2 and b4096 add the usual conversions by int, format and fromhex.")
+
+
+def print_counts(counts):
+    if counts is None:
+        print("\nskipped: instructions and taken jumps (valgrind not found)")
+        return
+    print("\nInstructions and taken jumps of one call of ours, counted by callgrind")
+    print(f"{'workload':26} {'call':5} {'instructions':>13} {'taken jumps':>12}")
+    for (name, call), (instructions, jumps) in counts.items():
+        print(f"{TITLES[name]:26} {call:5} {instructions:13,} {jumps:12,}")
 
 
 def print_beside(times, peer, name, call, goal=None):
@@ -225,9 +253,9 @@ def print_sheets(times):
     print(f"{'table':28} {'call':11} {'ours ns':>9} {'Rust twin':>10} {'goal':>14} {'memcpy':>10} {'goal':>14}")
     for table in tables():
         for call in SHEET_CALLS:
-            print_beside(times, "memcpy", table.name, call, 1 / COPY_GOAL if table.name == "t60000" else None)
+            print_beside(times, "memcpy", table.name, call, 1 / COPY_GOAL if table.name != "t8" else None)
     print(f"Goals: our time at most {TWIN_GOAL} times the twin's, and at most {COPY_GOAL:.0f} times memcpy's for the"
-          " long value.")
+          " long values.")
 
 
 def print_pairs(times):
@@ -258,11 +286,18 @@ def print_crowd(rates):
         print(f"{NAMES[peer]:12} {threads:7} {packing:14,.0f} {reading:14,.0f}")
 
 
+def run_counts(program):
+    """Instructions and taken jumps of each call on each main workload; None without valgrind."""
+    if not count.available():
+        return None
+    return {(work.name, call): count.count(program, work, call) for work in main_workloads() for call in CALLS}
+
+
 def results(times, rates, peers):
     """What the plot needs."""
     return {
         "peers": [[peer, NAMES[peer]] for peer in peers],
-        "ratios": [{"name": f"{name} {call}", "goals": {"tcl": tcl_goal(name, call), "twin": 1 / twin_goal(name)},
+        "ratios": [{"name": f"{name} {call}", "goals": {"tcl": tcl_goal(name, call), "plain": 1 / plain_goal(name)},
                     **{peer: ratio(times, peer, name, call) for peer in peers}}
                    for name, call in main_rows()],
         "growth": {letter: {f"{peer} {call}": [[size, median(times[peer, f"{letter}{size}", call])] for size in sizes]
@@ -281,13 +316,15 @@ def main():
     print("every peer gives the same bytes and values on every workload")
     times = run_rounds(serving)
     rates = run_crowd(serving)
+    counts = run_counts(program)
     for process in set(serving.values()):
         process.close()
     print_main(times)
+    print_counts(counts)
     print_sheets(times)
     print_pairs(times)
     print_growth(times, peers, "f", FIELD_COUNTS, "Growth by fields: 1 to 64 fields of c")
-    print_growth(times, peers, "s", BYTE_COUNTS, "Growth by bytes: one field of s, 16 to 4,096 bytes of record")
+    print_growth(times, peers, "s", BYTE_COUNTS, "Growth by bytes: one field of s, 16 to 32,768 bytes of record")
     print_growth(times, peers, "b", DIGIT_COUNTS, "Growth by digits: one field of b, 8 to 4,096 digits", step_bound)
     print_crowd(rates)
     with open(kept, "w", encoding="utf-8") as file:

@@ -48,7 +48,7 @@ while (my $line = <STDIN>) {
     elsif ($order eq 'perlpack') { $work->{pack} = $rest }
     elsif ($order eq 'perlread') { $work->{read} = $rest }
     elsif ($order eq 'text') { push @{ $work->{values} }, $rest }
-    elsif ($order eq 'list') { push @{ $work->{values} }, map { $_ + 0 } @rest }
+    elsif ($order eq 'list' || $order eq 'reals') { push @{ $work->{values} }, map { $_ + 0 } @rest }
     elsif ($order eq 'record') { $work->{record} = pack('H*', $rest) }
     elsif ($order eq 'time') {
         my $w = $works{ $rest[1] };

@@ -2,7 +2,7 @@
  * The C side of the benchmark: our library, the Rust twin, Tcl's commands, memcpy and memcmp. Takes orders line by
  * line on its input and answers each `time`, `show`, `crowd` and `peers` by one line:
  *
- *   work NAME, pack LAYOUT, read LAYOUT, text STRING, list NUMBERS, unset, record HEX, second HEX
+ *   work NAME, pack LAYOUT, read LAYOUT, text STRING, list NUMBERS, reals NUMBERS, unset, record HEX, second HEX
  *                                 describe a workload
  *   end                           it is one for Tcl too
  *   peers                         which peers this program has
@@ -104,6 +104,18 @@ static void add_list(struct work *w, char *numbers)
     }
     curlew_put_slot(w->slots, w->count++, CURLEW_SIGNED, (uint32_t)start,
                     (uint32_t)((w->used - start) / CURLEW_ITEM_SIZE));
+}
+
+static void add_reals(struct work *w, char *numbers)
+{
+    size_t start = w->used;
+    char *number;
+
+    for (number = strtok(numbers, " "); number != NULL; number = strtok(NULL, " ")) {
+        curlew_put_double(w->area + w->used, strtod(number, NULL));
+        w->used += CURLEW_ITEM_SIZE;
+    }
+    curlew_put_slot(w->slots, w->count++, CURLEW_REAL, (uint32_t)start, (uint32_t)((w->used - start) / CURLEW_ITEM_SIZE));
 }
 
 static void add_unset(struct work *w)
@@ -231,6 +243,8 @@ static void obey(const char *order, char *rest)
         add_text(last_work(), rest);
     else if (strcmp(order, "list") == 0)
         add_list(last_work(), rest);
+    else if (strcmp(order, "reals") == 0)
+        add_reals(last_work(), rest);
     else if (strcmp(order, "unset") == 0)
         add_unset(last_work());
     else if (strcmp(order, "record") == 0)

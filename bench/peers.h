@@ -21,7 +21,7 @@ typedef uint32_t compare_call(const void *, size_t, const uint8_t *, size_t, con
                               uint8_t *, size_t, uint8_t *, size_t, uint8_t *, size_t, uint8_t *, size_t,
                               uint8_t *, size_t, uint8_t *, size_t);
 
-/* Calls with the same interface: ours, or the twin's. */
+/* Calls with the same interface: ours, the twin's, plain C's, those by hand. A library may lack the last three. */
 struct library {
     const char *name;
     pack_call *pack;

@@ -12,7 +12,7 @@ WORKS = ("w1: a mark record of 46 bytes, a8 A20 Su Iu c6 b12 H8.  w2: 4,096 bina
          " 4,096 bytes read by b*.",
          "w3: 2,000 integers of 2 bytes, s2000.  w4: a string of 4,096 bytes, a4096.  w5: 64 fields of c, a byte each."
          "  b4096: 512 bytes read.")
-COLOURS = {"ours": "#009e73", "twin": "#e69f00", "tcl": "#0072b2", "perl": "#cc79a7", "python": "#8c8c8c", "steps": INK}
+COLOURS = {"ours": "#009e73", "plain": "#56b4e9", "twin": "#e69f00", "tcl": "#0072b2", "perl": "#cc79a7", "python": "#8c8c8c", "steps": INK}
 DASHES = {"pack": "", "read": "6 4", "bound": "2 3"}
 
 

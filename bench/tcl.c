@@ -56,17 +56,22 @@ static Tcl_Obj *name_of(size_t i)
     return Tcl_NewStringObj(name, -1);
 }
 
-/* A single integer stays an integer; several become a list. */
-static Tcl_Obj *list_of(const uint8_t *items, size_t count)
+static Tcl_Obj *number_of(const uint8_t *item, uint32_t kind)
+{
+    return kind == CURLEW_REAL ? Tcl_NewDoubleObj(curlew_get_double(item)) : Tcl_NewWideIntObj(curlew_get_int(item));
+}
+
+/* A single number stays a number; several become a list. */
+static Tcl_Obj *list_of(const uint8_t *items, uint32_t kind, size_t count)
 {
     Tcl_Obj *list;
     size_t i;
 
     if (count == 1)
-        return Tcl_NewWideIntObj(curlew_get_int(items));
+        return number_of(items, kind);
     list = Tcl_NewListObj(0, NULL);
     for (i = 0; i < count; i++)
-        Tcl_ListObjAppendElement(NULL, list, Tcl_NewWideIntObj(curlew_get_int(items + i * CURLEW_ITEM_SIZE)));
+        Tcl_ListObjAppendElement(NULL, list, number_of(items + i * CURLEW_ITEM_SIZE, kind));
     return list;
 }
 
@@ -77,7 +82,7 @@ static Tcl_Obj *argument(const struct work *w, size_t i, int digits)
     const uint8_t *at = w->area + slot.start;
 
     if (slot.kind != CURLEW_STRING)
-        return list_of(at, slot.length);
+        return list_of(at, slot.kind, slot.length);
     if (digits)
         return Tcl_NewStringObj((const char *)at, (int)slot.length);
     return Tcl_NewByteArrayObj(at, (int)slot.length);
@@ -89,7 +94,7 @@ static void find_digits(const char *layout, int *digits)
     size_t field = 0;
 
     for (; *layout != '\0'; layout++) {
-        if (strchr("aAbBhHcsSiIwW", *layout) != NULL)
+        if (strchr("aAbBhHcsSiIwWqQrR", *layout) != NULL)
             digits[field++] = strchr("bBhH", *layout) != NULL;
     }
 }

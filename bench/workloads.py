@@ -4,7 +4,7 @@ import random
 import struct
 
 FIELD_COUNTS = (1, 2, 4, 8, 16, 32, 64)
-BYTE_COUNTS = (16, 64, 256, 1024, 4096)
+BYTE_COUNTS = (16, 64, 256, 1024, 4096, 16384, 32768)
 DIGIT_COUNTS = tuple(2 ** k for k in range(3, 13))
 CALLS = ("pack", "read")
 SHEET_CALLS = ("sheet-write", "sheet-read")
@@ -12,10 +12,12 @@ PAIR_CALLS = ("compare",)
 
 
 def value_line(value):
-    """A value as an order to a peer: text, integers, or None where it is not set."""
+    """A value as an order to a peer: text, integers, reals, or None where it is not set."""
     if value is None:
         return "unset"
-    return f"text {value}" if isinstance(value, str) else "list " + " ".join(map(str, value))
+    if isinstance(value, str):
+        return f"text {value}"
+    return ("reals " if isinstance(value[0], float) else "list ") + " ".join(map(str, value))
 
 
 class Work:
@@ -63,6 +65,11 @@ def step_bound(digits):
     return digits // 8 + 7
 
 
+def eighths(dice, count):
+    """Reals that are no whole numbers, that a single holds, and that every peer writes alike."""
+    return [(2 * dice.randint(-400000, 400000) + 1) / 8 for _ in range(count)]
+
+
 def main_workloads():
     dice = random.Random(417)
     strip = "".join(dice.choice("01") for _ in range(4096))
@@ -75,6 +82,20 @@ def main_workloads():
         Work("w3", "s2000", [[dice.randint(-32768, 32767) for _ in range(2000)]], "s<2000", "<2000h"),
         Work("w4", "a4096", [letters], "a4096", "4096s"),
         Work("w5", "c" * 64, [[dice.randint(-128, 127)] for _ in range(64)], "c" * 64, "b" * 64),
+        Work("q500", "q500", [eighths(dice, 500)], "d<500", "<500d"),
+        Work("r1000", "r1000", [eighths(dice, 1000)], "f<1000", "<1000f"),
+    ]
+
+
+def long_workloads():
+    """The longest records."""
+    dice = random.Random(420)
+    letters = "".join(dice.choice("abcdefghijklmnopqrstuvwxyz") for _ in range(32768))
+    strip = "".join(dice.choice("01") for _ in range(32768))
+    return [
+        Work("a32768", "a32768", [letters], "a32768", "32768s"),
+        Work("b262144", "b32768", [strip], "b32768", read="b*", perl_read="b*", record=dice.randbytes(32768)),
+        Work("s16000", "s16000", [[dice.randint(-32768, 32767) for _ in range(16000)]], "s<16000", "<16000h"),
     ]
 
 
@@ -92,17 +113,28 @@ def growth_workloads():
 
 
 def workloads():
-    return main_workloads() + list(growth_workloads())
+    return main_workloads() + long_workloads() + list(growth_workloads())
 
 
-def sheet_entry(value):
+def sheet_entry(value, length):
     if value is None:
         rest = bytes([0])
     elif isinstance(value, str):
         rest = bytes([1]) + value.encode()
     else:
         rest = bytes([2]) + struct.pack(f">{len(value)}q", *value)
-    return struct.pack(">H", len(rest)) + rest
+    return struct.pack(length, len(rest)) + rest
+
+
+def sheet_of(values):
+    """Version 1 where its lengths of two bytes are enough, else version 2 with lengths of four."""
+    for version, length in ((1, ">H"), (2, ">I")):
+        try:
+            entries = b"".join(sheet_entry(value, length) for value in values)
+            return bytes([version]) + struct.pack(length, len(entries)) + entries
+        except struct.error:
+            continue
+    raise ValueError("no sheet holds these values")
 
 
 class Table:
@@ -110,8 +142,7 @@ class Table:
 
     def __init__(self, name, values):
         self.name, self.values = name, values
-        entries = b"".join(map(sheet_entry, values))
-        self.sheet = struct.pack(">BH", 1, len(entries)) + entries
+        self.sheet = sheet_of(values)
 
     def lines(self):
         yield f"work {self.name}"
@@ -128,11 +159,12 @@ class Table:
 
 def tables():
     dice = random.Random(419)
-    letters = "".join(dice.choice("abcdefghijklmnopqrstuvwxyz") for _ in range(60000))
+    letters = "".join(dice.choice("abcdefghijklmnopqrstuvwxyz") for _ in range(500000))
     return [
         Table("t8", ["00417042", "Ada Lind", [417], None, [1234567], [61, 0, 88, -7, 100, 3], "110110101100",
                      "0badcafe"]),
-        Table("t60000", [letters]),
+        Table("t60000", [letters[:60000]]),
+        Table("t500000", [letters]),
     ]
 
 
