@@ -104,7 +104,7 @@ static MAYBE void add_reals(struct values *v, int count, ...)
     add_slot(v, CURLEW_REAL, v->used, (size_t)count);
     va_start(list, count);
     for (i = 0; i < count; i++) {
-        curlew_put_real(v->area + v->used, va_arg(list, double));
+        curlew_put_double(v->area + v->used, va_arg(list, double));
         v->used += CURLEW_ITEM_SIZE;
     }
     va_end(list);

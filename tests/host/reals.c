@@ -40,17 +40,17 @@ static void test_helpers(void)
     unsigned i;
 
     memset(bytes, 0x5a, sizeof bytes);
-    curlew_put_real(bytes + 1, -42.0);
-    check(memcmp(bytes + 1, minus_42, 8) == 0 && bytes[0] == 0x5a && bytes[9] == 0x5a, "curlew_put_real", "-42");
-    check(curlew_get_real(bytes + 1) == -42.0, "curlew_get_real", "-42");
-    curlew_put_real(bytes + 1, -0.0);
-    check(bytes[1] == 0x80 && bits_of(curlew_get_real(bytes + 1)) == minus, "reals", "the sign of 0");
+    curlew_put_double(bytes + 1, -42.0);
+    check(memcmp(bytes + 1, minus_42, 8) == 0 && bytes[0] == 0x5a && bytes[9] == 0x5a, "curlew_put_double", "-42");
+    check(curlew_get_double(bytes + 1) == -42.0, "curlew_get_double", "-42");
+    curlew_put_double(bytes + 1, -0.0);
+    check(bytes[1] == 0x80 && bits_of(curlew_get_double(bytes + 1)) == minus, "reals", "the sign of 0");
     for (i = 0; i < 64; i++) {
         bits = (uint64_t)1 << i | (infinite - 1);
-        curlew_put_real(bytes + 1, of_bits(bits));
-        check(curlew_get_uint(bytes + 1) == bits && bits_of(curlew_get_real(bytes + 1)) == bits, "reals", "every bit");
+        curlew_put_double(bytes + 1, of_bits(bits));
+        check(curlew_get_uint(bytes + 1) == bits && bits_of(curlew_get_double(bytes + 1)) == bits, "reals", "every bit");
     }
-    check(CURLEW_REAL == 4 && CURLEW_NOT_A_NUMBER == 16, "constants", "kind and number");
+    check(CURLEW_REAL == 4 && CURLEW_BAD_REAL == 16, "constants", "kind and number");
 }
 
 static void test_packing(void)
@@ -114,16 +114,16 @@ static void test_no_numbers(void)
     add_bits(&given, infinite + 1);
     packs("Q", "\x7f\xf0\0\0\0\0\0\1", 8);
     packs("q*", "\1\0\0\0\0\0\xf0\x7f", 8);
-    pack_refused("R", CURLEW_NOT_A_NUMBER, 0);
-    pack_refused("x9 ru*", CURLEW_NOT_A_NUMBER, 0);
+    pack_refused("R", CURLEW_BAD_REAL, 0);
+    pack_refused("x9 ru*", CURLEW_BAD_REAL, 0);
     packs("r0", "", 0);
     begin(&given, 0);
     add_text(&given, "2");
     add_bits(&given, ~(uint64_t)0);
-    pack_refused("a R", CURLEW_NOT_A_NUMBER, 1);
+    pack_refused("a R", CURLEW_BAD_REAL, 1);
     pack_refused("b R", CURLEW_BAD_DIGIT, 0);
     curlew_put_slot(given.slots, given.count++, CURLEW_UNSET, 0, 0);
-    pack_refused("a R a", CURLEW_NOT_A_NUMBER, 1);
+    pack_refused("a R a", CURLEW_BAD_REAL, 1);
     pack_refused("a Q a", CURLEW_NOT_SET, 2);
 }
 

@@ -208,7 +208,7 @@ static void test_positions_and_steps(void)
         check(curlew_read(name, strlen(name), (const uint8_t *)"abcdefgh", 8, slots, sizeof slots, area, sizeof area, 9,
                           reply, sizeof reply) == CURLEW_OK,
               name, "number returned");
-        check(curlew_get_number(reply + 12) == table[i].steps, name, "steps");
+        check(curlew_get_steps(reply) == table[i].steps, name, "steps");
         for (field = 0; field < table[i].count; field++) {
             check(w.positions[field] == table[i].positions[field], name, "position by the layout");
             check(curlew_get_slot(slots, field).position == table[i].positions[field], name, "position in the slot");

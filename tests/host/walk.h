@@ -60,10 +60,10 @@ struct walk {
 
 static MAYBE struct walk walk(const uint8_t *layout, size_t len, size_t end)
 {
-    static const struct walk none;
-    struct walk w = none;
+    struct walk w;
     size_t i = 0, at = 0;
 
+    memset(&w, 0, sizeof w);
     while (i < len) {
         struct field field;
         size_t bits, bytes;
