@@ -84,6 +84,17 @@ fn accepts(t: &mut dyn Judge, call: Call, bytes: impl AsRef<[u8]>) {
     t.expect("packing", &call, &after);
 }
 
+/// With a reply of another size a call returns 1 and writes nothing.
+pub fn refuses_replies(t: &mut dyn Judge, mut call: Call, lengths: &[usize]) {
+    for &length in lengths {
+        call.reply = vec![OLD_REPLY; length];
+        for null in [false, true] {
+            call.null = null;
+            t.expect("reply of another size", &call, &call.untouched(1));
+        }
+    }
+}
+
 pub fn refuses(t: &mut dyn Judge, call: Call, number: u32, place: u32) {
     let after = call.answered([number, place, 0]);
     t.expect("refusal", &call, &after);
@@ -689,37 +700,19 @@ fn marks(t: &mut dyn Judge) {
 }
 
 fn replies(t: &mut dyn Judge) {
-    for length in [
-        0,
-        1,
-        4,
-        REPLY_BYTES - 1,
-        REPLY_BYTES + 1,
-        READ_REPLY_BYTES,
-        2 * REPLY_BYTES,
-    ] {
-        let mut call = packing("a", &[text("q")]);
-        call.reply = vec![OLD_REPLY; length];
-        t.expect("reply of another size", &call, &call.untouched(1));
-        call.layout = b"t".to_vec();
-        t.expect("reply of another size", &call, &call.untouched(1));
-        call.slots.pop();
-        t.expect("reply of another size", &call, &call.untouched(1));
-    }
-    for length in [
-        0,
-        4,
-        REPLY_BYTES,
-        READ_REPLY_BYTES - 1,
-        READ_REPLY_BYTES + 1,
-        2 * REPLY_BYTES,
-    ] {
-        let mut call = reading("a", "q", 1);
-        call.reply = vec![OLD_REPLY; length];
-        t.expect("reply of another size", &call, &call.untouched(1));
-        call.mark = 201;
-        t.expect("reply of another size", &call, &call.untouched(1));
-    }
+    let (size, long) = (REPLY_BYTES, READ_REPLY_BYTES);
+    let lengths = [0, 1, 4, size - 1, size + 1, long, 2 * size];
+    let mut call = packing("a", &[text("q")]);
+    refuses_replies(t, call.clone(), &lengths);
+    call.layout = b"t".to_vec();
+    refuses_replies(t, call.clone(), &lengths);
+    call.slots.pop();
+    refuses_replies(t, call, &lengths);
+    let lengths = [0, 4, size, long - 1, long + 1, 2 * size];
+    let mut call = reading("a", "q", 1);
+    refuses_replies(t, call.clone(), &lengths);
+    call.mark = 201;
+    refuses_replies(t, call, &lengths);
 }
 
 fn null_runs(t: &mut dyn Judge) {

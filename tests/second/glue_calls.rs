@@ -48,7 +48,7 @@ fn result(judge: &mut dyn Judge, part: &Part, area: &[u8]) -> Option<Vec<u8>> {
     (after.returned == 0).then(|| after.record[..length].to_vec())
 }
 
-/// Whether the parts may be glued: each is accepted, and the whole meets the sizes.
+/// Whether what is glued stays within the sizes of a layout, a table and a record.
 fn meets_sizes(whole: &Part, bytes: usize) -> bool {
     whole.text.len() <= LAYOUT_MAX
         && whole.slots.len() <= SLOTS_MAX * SLOT_BYTES

@@ -3,7 +3,7 @@
 use crate::call::{numbers, Call, Judge, Runs, Which};
 use crate::calls::{damage_reply, damage_text, random_pack, Scratch};
 use crate::dice::Dice;
-use crate::fixed::refuses;
+use crate::fixed::{refuses, refuses_replies};
 use crate::layouts::{random_specs, spelled};
 use crate::library::by_library;
 use crate::limits::{COUNT_MAX, LAYOUT_MAX, READ_REPLY_BYTES, REPLY_BYTES, SLOTS_MAX, SLOT_BYTES};
@@ -80,14 +80,8 @@ fn refusals(t: &mut dyn Judge) {
     refused(t, "xu*t", 4, 0);
     refused(t, format!("tx*a{over}"), 2, 0);
     refused(t, format!("x*ta{over}"), 4, 0);
-    for length in [0, 4, REPLY_BYTES - 1, REPLY_BYTES + 1, READ_REPLY_BYTES] {
-        for null in [false, true] {
-            let mut call = looking("a5");
-            call.reply = vec![OLD; length];
-            call.null = null;
-            t.expect("reply of another size", &call, &call.untouched(1));
-        }
-    }
+    let lengths = [0, 4, REPLY_BYTES - 1, REPLY_BYTES + 1, READ_REPLY_BYTES];
+    refuses_replies(t, looking("a5"), &lengths);
 }
 
 pub fn run(t: &mut dyn Judge) {

@@ -3,7 +3,7 @@
 use crate::call::{numbers, words, Call, Judge, Runs, Which};
 use crate::calls::{damage_reply, damage_slot, damage_slot_run, scattered};
 use crate::dice::Dice;
-use crate::fixed::with_slot;
+use crate::fixed::{refuses_replies, with_slot};
 use crate::limits::{AREA_MAX, KIND_MAX, MARK_MAX, MEAN_REPLY_BYTES, SLOTS_MAX, SLOT_BYTES};
 use crate::values::{ints, reals, shown, slot, table, text, uints, Value};
 
@@ -112,14 +112,8 @@ fn sizes(t: &mut dyn Judge) {
     call.area.push(0);
     refuses(t, &call, 1, 0);
     let size = MEAN_REPLY_BYTES;
-    for length in [0, 4, 12, 16, size - 1, size + 1, 2 * size] {
-        for null in [false, true] {
-            let mut call = mean(&[ints(&[1])]);
-            call.reply = vec![OLD; length];
-            call.null = null;
-            t.expect("reply of another size", &call, &call.untouched(1));
-        }
-    }
+    let lengths = [0, 4, 12, 16, size - 1, size + 1, 2 * size];
+    refuses_replies(t, mean(&[ints(&[1])]), &lengths);
 }
 
 pub fn run(t: &mut dyn Judge) {

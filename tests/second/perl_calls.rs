@@ -3,7 +3,7 @@
 use crate::call::{by_twin, numbers, Call, Judge, Runs, Which};
 use crate::calls::damage_reply;
 use crate::dice::Dice;
-use crate::fixed::{reading, refuses};
+use crate::fixed::{reading, refuses, refuses_replies};
 use crate::limits::{
     LAYOUT_MAX, REPLY_BYTES, SLOTS_MAX, TEMPLATE_COUNT_MAX, TEMPLATE_DEPTH_MAX, TEMPLATE_MAX,
     TEMPLATE_REPEAT_MAX,
@@ -180,14 +180,9 @@ fn sizes(t: &mut dyn Judge) {
     fault(t, &long, place as u32);
     becomes(t, "(C)64(C)64", &"cu".repeat(128));
     refuses(t, translation("C".repeat(129), LAYOUT_MAX), 11, 0);
-    for length in [0, 4, REPLY_BYTES - 1, REPLY_BYTES + 1] {
-        for template in ["a3", "q"] {
-            let mut call = translation(template, 9);
-            call.reply = vec![OLD; length];
-            t.expect("reply of another size", &call, &call.untouched(1));
-            call.null = true;
-            t.expect("reply of another size", &call, &call.untouched(1));
-        }
+    for template in ["a3", "q"] {
+        let lengths = [0, 4, REPLY_BYTES - 1, REPLY_BYTES + 1];
+        refuses_replies(t, translation(template, 9), &lengths);
     }
 }
 

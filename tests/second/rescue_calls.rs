@@ -3,6 +3,7 @@
 use crate::call::{numbers, After, Call, Judge, Runs, Which};
 use crate::calls::{damage_reply, damage_slot_run, random_slots};
 use crate::dice::Dice;
+use crate::fixed::refuses_replies;
 use crate::library::by_library;
 use crate::limits::{
     AREA_MAX, LEGS_MAX, REPLY_BYTES, RESCUE_REPLY_BYTES, SHEET_MAX, SLOTS_MAX, SLOT_BYTES,
@@ -187,20 +188,9 @@ fn order(t: &mut dyn Judge) {
 }
 
 fn replies(t: &mut dyn Judge) {
-    for length in [
-        0,
-        4,
-        REPLY_BYTES,
-        RESCUE_REPLY_BYTES - 1,
-        RESCUE_REPLY_BYTES + 1,
-    ] {
-        for null in [false, true] {
-            let mut call = rescue(THREE, 3, 3, 10);
-            call.reply = vec![OLD; length];
-            call.null = null;
-            t.expect("reply of another size", &call, &call.untouched(1));
-        }
-    }
+    let size = RESCUE_REPLY_BYTES;
+    let lengths = [0, 4, REPLY_BYTES, size - 1, size + 1];
+    refuses_replies(t, rescue(THREE, 3, 3, 10), &lengths);
 }
 
 /// The largest sheet, and one of more entries than there can be legs.

@@ -3,7 +3,7 @@
 use crate::call::{numbers, Call, Judge, Runs, Which};
 use crate::calls::{damage_reply, damage_slot, damage_slot_run, random_slots, scattered};
 use crate::dice::Dice;
-use crate::fixed::{refuses, was_set, with_slot};
+use crate::fixed::{refuses, refuses_replies, was_set, with_slot};
 use crate::layouts::random_value;
 use crate::limits::{
     AREA_MAX, KIND_MAX, REPLY_BYTES, SHEET_MAX, SHORT_LENGTH_MAX, SLOTS_MAX, SLOT_BYTES,
@@ -271,13 +271,8 @@ fn longest_of_second_version(t: &mut dyn Judge) {
 }
 
 fn replies(t: &mut dyn Judge) {
-    for length in [0, 4, REPLY_BYTES - 1, REPLY_BYTES + 1] {
-        for mut call in [writing(&[text("OK")], 9), reading(&[1, 0, 0], 1, 1)] {
-            call.reply = vec![OLD; length];
-            t.expect("reply of another size", &call, &call.untouched(1));
-            call.null = true;
-            t.expect("reply of another size", &call, &call.untouched(1));
-        }
+    for call in [writing(&[text("OK")], 9), reading(&[1, 0, 0], 1, 1)] {
+        refuses_replies(t, call, &[0, 4, REPLY_BYTES - 1, REPLY_BYTES + 1]);
     }
 }
 
