@@ -22,7 +22,7 @@ use Rattle.record.specs.Packing.{accepted, refusal}
 use Rattle.record.specs.Reading.{Read, valuesFrom, positionsFrom, reads, putInto, read}
 use Rattle.record.proofs.Tables.{length-slots}
 use Rattle.reader.specs.Checks.{checked}
-use Rattle.reader.specs.Tables.{TableRoom}
+use Rattle.reading.specs.Tables.{TableRoom}
 use Rattle.reader.proofs.Calls.{Fit, fit}
 use Rattle.record.proofs.Readings.{values-few}
 use Rattle.difference.specs.Rows.{reportWidth}

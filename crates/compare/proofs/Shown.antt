@@ -20,7 +20,7 @@ use Rattle.record.proofs.Readings.{length-slot-numbers}
 use Rattle.record.proofs.SlotLaws.{next-slot}
 use Rattle.record.proofs.Stores.{length-storeAt, runs, runs-first, Wrote, wrote-more}
 use Rattle.record.proofs.Tables.{length-slots}
-use Rattle.reader.specs.Tables.{TableRoom}
+use Rattle.reading.specs.Tables.{TableRoom}
 use Rattle.difference.specs.Rows.{reportWidth, same, firstDifference, differingBits, onlyFirst, onlySecond, inNeither, bothSame, bothDiffer, plainRow, bothRow}
 use Rattle.compare.specs.Comparing.{row, rows}
 use Rattle.difference.specs.Rows.{numbers}

@@ -1,5 +1,4 @@
--- Laws of the writing pass and of the whole call; StoreLaws and RunLaws are for the crates above too.
-pub mod StoreLaws
+-- Laws of the writing pass and of the whole call; RunLaws is for the crates above too.
 pub mod RunLaws
 mod WriteLaws
 mod WholeLaws

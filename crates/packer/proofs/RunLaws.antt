@@ -29,7 +29,7 @@ use Rattle.record.specs.Cursor.{past, moved}
 use Rattle.arguments.specs.Measure.{advance, stepped, checked, HasRoom}
 use Rattle.packer.specs.Writing.{putMove, put, written}
 use Rattle.arguments.proofs.ArgumentLaws.{Checked, checked-argument}
-use Rattle.packer.proofs.StoreLaws.{length-shown, served}
+use Rattle.stores.proofs.StoreLaws.{length-shown, served}
 use Rattle.arguments.proofs.MeasureLaws.{stepped-advance}
 
 -- ---- one field

@@ -25,11 +25,12 @@ use Rattle.record.specs.Packing.{stored, argumentFits, nextSlot}
 use Rattle.record.specs.Slots.{slotAt}
 use Rattle.record.specs.Cursor.{origin, past}
 use Rattle.arguments.specs.Measure.{advance, stepped, checked, HasRoom}
-use Rattle.packer.specs.Writing.{put, written, Storable, Movable, Puttable, Writable}
+use Rattle.stores.specs.Stored.{Storable}
+use Rattle.packer.specs.Writing.{put, written, Movable, Puttable, Writable}
 use Rattle.record.proofs.SlotLaws.{next-slot}
 use Rattle.arguments.proofs.Bounds.{advance-within}
 use Rattle.arguments.proofs.ArgumentLaws.{checked-argument}
-use Rattle.packer.proofs.StoreLaws.{amounts-enough}
+use Rattle.stores.proofs.StoreLaws.{amounts-enough}
 use Rattle.arguments.proofs.MeasureLaws.{stepped-advance, Standing, standing-none, field-here, standing-next, standing-slot, slot-here}
 use Rattle.packer.proofs.RunLaws.{room-ok, room-step, room-end}
 

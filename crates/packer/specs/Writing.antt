@@ -1,24 +1,21 @@
 -- The writing pass: the fields put into the lent buffer one after the other.
-use Prim.Native.Nat.{ℕ, _+_, _-_, _≤_}
+use Prim.Native.Nat.{ℕ, _-_, _≤_}
 use mathlib.Core.Path.{_≡_}
-use mathlib.Core.Bool.{true}
 use mathlib.Core.List.{List, [], _∷_}
 use lib.ListN.{drop, replicate}
 use Rattle.layout.specs.declared.Code.{Code}
 use Rattle.layout.specs.declared.Code.the-variants.{Data, Move}
 use Rattle.layout.specs.declared.Motion.{Motion}
 use Rattle.layout.specs.declared.Motion.the-variants.{Skip, Back, Goto}
-use Rattle.layout.specs.declared.Shape.{Shape}
-use Rattle.layout.specs.declared.Shape.the-variants.{Text, Digits, Integers, Reals}
 use Rattle.layout.specs.declared.Count.{Count}
 use Rattle.layout.specs.declared.Field.{Field}
-use Rattle.layout.specs.Words.{slotsTaken, decoded, fieldOf, FitCode}
+use Rattle.layout.specs.Words.{slotsTaken, decoded, fieldOf}
 use Rattle.record.specs.declared.Cursor.{Cursor}
 use Rattle.record.specs.Bytes.{storeAt}
 use Rattle.record.specs.declared.slots.Slot.{Slot}
 use Rattle.record.specs.Table.{slotsOf, shown, maxRecord}
-use Rattle.record.specs.Geometry.{amount, bytesFor, gotoIn}
-use Rattle.record.specs.Packing.{stored, nextSlot, kindFits, digitsFit, insideArea, finished, Packed, packEffect}
+use Rattle.record.specs.Geometry.{amount, gotoIn}
+use Rattle.record.specs.Packing.{stored, nextSlot, finished, Packed, packEffect}
 use Rattle.record.specs.Slots.{slotAt}
 use Rattle.record.specs.Cursor.{origin, moved}
 use Rattle.arguments.specs.Measure.{advance, stepped, checked, HasRoom, Ready, Prepared}
@@ -28,10 +25,6 @@ abbrev pub putMove : List ℕ → Cursor → Motion → Count → List ℕ
 putMove out c Skip n = storeAt out (c .at) (replicate (amount n 0) 0)
 putMove out c Back n = out
 putMove out c Goto n = storeAt out (c .end) (replicate (gotoIn (c .end) n - c .end) 0)
-
--- n items of the value in slot a are stored from the place `at` on, and r is the number of their bytes
-abbrev pub StoredAs : List ℕ → Shape → ℕ → Slot → ℕ → List ℕ → ℕ → List ℕ → Type 0
-StoredAs area s n a at before r after = (r ≡ bytesFor s n) × (after ≡ storeAt before at (stored s n (shown area a .items)))
 
 -- one field, whose argument is the slot t
 unfoldable pub put : List ℕ → Slot → List ℕ → Cursor → Code → Count → List ℕ
@@ -54,22 +47,6 @@ abbrev pub finishes : List ℕ → ℕ → List ℕ → List ℕ → List ℕ �
 finishes words n slots area output = packEffect output (finished area (slotsOf slots) (decoded n words) output)
 
 -- ---- what the code relies on
-
-abbrev pub Enough : Shape → ℕ → ℕ → Type 0
-Enough (Text pad) n have = Unit {0}
-Enough (Digits hex high) n have = Unit {0}
-Enough (Integers w big) n have = n ≤ have
-Enough (Reals single big) n have = n ≤ have
-
--- n items of the value in a slot can be stored from the place `at` on, in a buffer of so many bytes
-pub record Storable (area : List ℕ) (s : Shape) (n : ℕ) (a : Slot) (at size : ℕ) : Type 0 where
-  pub inside : insideArea area a ≡ true
-  pub kind : kindFits s (a .kind) ≡ true
-  pub amounts : Enough s n (a .len)
-  pub digits : digitsFit s n (shown area a .items) ≡ true
-  pub code : FitCode (Data s)
-  pub room : at + bytesFor s n ≤ size
-  pub limit : size ≤ maxRecord
 
 -- a move has room in a buffer of so many bytes
 pub record Movable (c : Cursor) (m : Motion) (n : Count) (size : ℕ) : Type 0 where

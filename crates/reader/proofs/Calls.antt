@@ -21,7 +21,7 @@ use Rattle.record.specs.Table.{slotWidth, maxSlots, maxRecord, maxArea, slotsOf
 use Rattle.record.specs.Packing.{accepted, refusal}
 use Rattle.record.specs.Reading.{valuesFrom, positionsFrom, stepsFrom, reads, putInto, read, readSteps, ReadAll, withSteps, readAll}
 use Rattle.reader.specs.Sizes.{lentFits}
-use Rattle.reader.specs.Tables.{TableRoom}
+use Rattle.reading.specs.Tables.{TableRoom}
 use Rattle.record.specs.Geometry.{lengthsFit}
 use Rattle.record.proofs.Sizes.{Sized, sized}
 use Rattle.record.proofs.Readings.{values-few}

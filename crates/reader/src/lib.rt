@@ -8,17 +8,12 @@ ghost use Rattle.layout.specs.Lent.{before, after};
 ghost use Rattle.record.specs.Table.{slotWidth, maxSlots, maxRecord, valueBytes};
 ghost use Rattle.record.specs.Reading.{readAll};
 ghost use Rattle.reader.specs.Sizes.{lentFits};
-ghost use Rattle.reader.specs.Tables.{valuesOf};
+ghost use Rattle.reading.specs.Tables.{valuesOf};
 ghost use Rattle.reader.specs.Checks.{checked, fitting};
 use layout::Parsed;
 use layout::Refusal;
 use record::Answer;
 use record::ReadAnswer;
-
-mod measure;
-mod run;
-mod table;
-mod value;
 
 // What is lent keeps to its size, the slots are whole, and the mark lies in the area; else number 1 (the table of numbers is in include/curlew.h).
 fn sizes_fit(layout: usize, slots: usize, bytes: usize, area: usize, mark: usize) -> bool
@@ -45,7 +40,7 @@ fn fits(
     if slots / record::SLOT_WIDTH < taken {
         return Answer::refused(Refusal::WrongSlots, 0);
     }
-    let size = measure::measure(words, n, bytes);
+    let size = reading::measure::measure(words, n, bytes);
     if room < size {
         return Answer::refused(Refusal::NoRoom, 0);
     }
@@ -101,7 +96,7 @@ pub fn read(
                     steps: 0,
                 };
             }
-            table::fill(&words, n, bytes, slots, area, mark)
+            reading::table::fill(&words, n, bytes, slots, area, mark)
         }
     }
 }

@@ -7,7 +7,8 @@ use Rattle.layout.specs.declared.Code.the-variants.{Data, Move}
 use Rattle.layout.specs.Words.{shapeNumbered, countFrom, flagUnit, countUnit}
 use Rattle.layout.proofs.Decoded.{word-shape, word-count}
 use Rattle.record.specs.Geometry.{amount}
-use Rattle.packer.specs.Writing.{put, Puttable, Storable}
+use Rattle.stores.specs.Stored.{Storable}
+use Rattle.packer.specs.Writing.{put, Puttable}
 use Rattle.packer.proofs.WriteLaws.{puttable-data, storable, put-data, movable, no-value}
 use borrow.Author.Needs.{needs}
 use Rattle.packer.proofs.write.put.Statement.{statement}

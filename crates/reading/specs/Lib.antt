@@ -1,0 +1,2 @@
+-- What the passes promise of the values, the table and the area.
+pub mod Tables

@@ -1,0 +1,85 @@
+// The second pass over the fields: the values go into the area, and what the slots say of them into the table.
+ghost use mathlib.Core.Path.{_≡_};
+ghost use Prim.Native.Nat.{_+_, _≤_, _<_};
+ghost use lib.ListN.{length};
+ghost use Rattle.layout.specs.Layout.{maxLayout};
+ghost use Rattle.layout.specs.Words.{lastData, shapeNumbered};
+ghost use Rattle.layout.specs.Lent.{before, after};
+ghost use Rattle.record.specs.Table.{maxSlots, maxRecord, maxArea};
+ghost use Rattle.record.specs.Packing.{accepted};
+ghost use Rattle.record.specs.Reading.{valueAt};
+ghost use Rattle.values.specs.Values.{Inside};
+ghost use Rattle.reading.specs.Tables.{valuesOf, putAll, PutRoom, PutAs, TableRoom};
+use record::Answer;
+use record::ReadAnswer;
+use values::run;
+use values::value;
+
+// A value of type d that was found goes into slot k and into the area from the place `to` on; hands back the place after it.
+fn put(
+    slots: &mut [u32],
+    k: usize,
+    area: &mut [u8],
+    to: usize,
+    bytes: &[u8],
+    at: usize,
+    d: u32,
+    u: bool,
+    n: usize,
+) -> usize
+    requires { ⌜ (d ≤ lastData) × Inside (now bytes) at (shapeNumbered d) n ⌝ }
+    requires { ⌜ PutRoom (valueAt (now bytes) at (shapeNumbered d) u n) (now slots) k (now area) to ⌝ }
+    ensures { λ r. ⌜ PutAs (valueAt (before bytes) at (shapeNumbered d) u n) at (before slots) k (before area) to r (after slots) (after area) ⌝ }
+{
+    let v = value::load(area, to, bytes, at, d, u, n);
+    record::slots::set_slot(slots, k, v.kind, to, v.items, at);
+    to + v.size
+}
+
+fn answer(set: usize, place: usize, steps: usize) -> ReadAnswer
+    requires { ⌜ (set ≤ maxSlots) × (place ≤ maxArea) × (steps ≤ maxLayout) ⌝ }
+    ensures { λ r. ⌜ r ≡ record { answer = accepted set place; steps = steps } ⌝ }
+{
+    ReadAnswer {
+        answer: Answer::accepted(set as u32, place as u32),
+        steps: steps as u32,
+    }
+}
+
+pub fn fill(
+    words: &[u32; layout::MAX_LAYOUT],
+    n: usize,
+    bytes: &[u8],
+    slots: &mut [u32],
+    area: &mut [u8],
+    mark: usize,
+) -> ReadAnswer
+    requires { ⌜ (n ≤ length (now words)) × (length (now words) ≡ maxLayout) × (length (now bytes) ≤ maxRecord) ⌝ }
+    requires { ⌜ TableRoom (valuesOf n (now words) (now bytes)) (now slots) (now area) mark ⌝ }
+    ensures { λ r. ⌜ record { answer = r; slots = after slots; area = after area } ≡ putAll n (before words) (before bytes) (before slots) (before area) mark ⌝ }
+{
+    let mut at: usize = 0;
+    let mut set: usize = 0;
+    let mut place = mark;
+    let mut i: usize = 0;
+    while i < n {
+        let word = words[i];
+        let d = word % layout::FLAG_UNIT;
+        i += 1;
+        if layout::LAST_DATA < d {
+            at = run::position(word, at, bytes.len());
+        } else {
+            let left = bytes.len() - at;
+            let items = run::items(d, word / layout::COUNT_UNIT, left);
+            let need = record::bytes_numbered(d, items);
+            if left < need {
+                return answer(set, place, i);
+            }
+            let u = word / layout::FLAG_UNIT % 2 == 1;
+            place = put(slots, set, area, place, bytes, at, d, u, items);
+            set += 1;
+            at += need;
+        }
+    }
+    answer(set, place, i)
+}

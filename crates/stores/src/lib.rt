@@ -1,0 +1,116 @@
+// The value of a field, stored in the output by the number of its type.
+ghost use mathlib.Core.Path.{_≡_};
+ghost use mathlib.Core.Bool.{false};
+ghost use Prim.Native.Nat.{_+_, _≤_};
+ghost use lib.ListN.{length};
+ghost use Rattle.layout.specs.declared.Shape.the-variants.{Text, Digits, Integers, Reals};
+ghost use Rattle.layout.specs.Words.{lastData, shapeNumbered};
+ghost use Rattle.record.specs.Bytes.{storeAt};
+ghost use Rattle.record.specs.Table.{shown};
+ghost use Rattle.record.specs.Packing.{stored};
+ghost use Rattle.digits.specs.Steps.{binarySteps, binaryBudget};
+ghost use Rattle.stores.specs.Stored.{StoredAs, Storable};
+use layout::Shape;
+use record::slots::Slot;
+
+// n items of a string; tells how many bytes they fill.
+fn store_text(n: usize, a: Slot, area: &[u8], out: &mut [u8], at: usize, pad: u8) -> usize
+    requires { ⌜ Storable (now area) (Text pad) n a at (length (now out)) ⌝ }
+    ensures { λ r. ⌜ StoredAs (now (area .entry)) (Text pad) n a at (now (out .entry)) r (now (out .exit)) ⌝ }
+{
+    text::store(out, at, area, a.start, a.len, n, pad);
+    n
+}
+
+// n binary digits, within their budget of steps; tells what is left of it.
+fn store_binary(n: usize, a: Slot, area: &[u8], out: &mut [u8], at: usize, high: bool) -> usize
+    requires { ⌜ Storable (now area) (Digits false high) n a at (length (now out)) ⌝ }
+    ensures steps { λ left. ⌜ binarySteps n + left ≡ binaryBudget n ⌝ }
+    ensures { λ _. ⌜ now (out .exit) ≡ storeAt (now (out .entry)) at (stored (Digits false high) n (shown (now (area .entry)) a .items)) ⌝ }
+{
+    digits_store::store_binary(out, at, area, a.start, a.len, n, high)
+}
+
+// n digits.
+fn store_digits(
+    n: usize,
+    a: Slot,
+    area: &[u8],
+    out: &mut [u8],
+    at: usize,
+    hex: bool,
+    high: bool,
+) -> usize
+    requires { ⌜ Storable (now area) (Digits hex high) n a at (length (now out)) ⌝ }
+    ensures { λ r. ⌜ StoredAs (now (area .entry)) (Digits hex high) n a at (now (out .entry)) r (now (out .exit)) ⌝ }
+{
+    if hex {
+        digits_store::store_hex(out, at, area, a.start, a.len, n, high);
+        return record::bytes_for(Shape::Digits(true, high), n);
+    }
+    store_binary(n, a, area, out, at, high);
+    record::bytes_for(Shape::Digits(false, high), n)
+}
+
+// n integers.
+fn store_integers(
+    n: usize,
+    a: Slot,
+    area: &[u8],
+    out: &mut [u8],
+    at: usize,
+    w: usize,
+    big: bool,
+) -> usize
+    requires { ⌜ Storable (now area) (Integers w big) n a at (length (now out)) ⌝ }
+    ensures { λ r. ⌜ StoredAs (now (area .entry)) (Integers w big) n a at (now (out .entry)) r (now (out .exit)) ⌝ }
+{
+    integers::store(out, at, area, a.start, n, w, big);
+    n * w
+}
+
+// n reals.
+fn store_reals(
+    n: usize,
+    a: Slot,
+    area: &[u8],
+    out: &mut [u8],
+    at: usize,
+    single: bool,
+    big: bool,
+) -> usize
+    requires { ⌜ Storable (now area) (Reals single big) n a at (length (now out)) ⌝ }
+    ensures { λ r. ⌜ StoredAs (now (area .entry)) (Reals single big) n a at (now (out .entry)) r (now (out .exit)) ⌝ }
+{
+    let bytes = n * record::real_size(single);
+    reals::store(out, at, area, a.start, n, single, big);
+    bytes
+}
+
+// n items of a value of the type number d; tells how many bytes they fill. A call with constants for each type, so that the compiler makes
+// code of its own for each, and tests the type once.
+pub fn store_value(d: u32, n: usize, a: Slot, area: &[u8], out: &mut [u8], at: usize) -> usize
+    requires { ⌜ (d ≤ lastData) × Storable (now area) (shapeNumbered d) n a at (length (now out)) ⌝ }
+    ensures { λ r. ⌜ StoredAs (now (area .entry)) (shapeNumbered d) n a at (now (out .entry)) r (now (out .exit)) ⌝ }
+{
+    match d {
+        0 => store_text(n, a, area, out, at, 0),
+        1 => store_text(n, a, area, out, at, 32),
+        2 => store_digits(n, a, area, out, at, false, false),
+        3 => store_digits(n, a, area, out, at, false, true),
+        4 => store_digits(n, a, area, out, at, true, false),
+        5 => store_digits(n, a, area, out, at, true, true),
+        6 => store_integers(n, a, area, out, at, 1, false),
+        7 => store_integers(n, a, area, out, at, 1, true),
+        8 => store_integers(n, a, area, out, at, 2, false),
+        9 => store_integers(n, a, area, out, at, 2, true),
+        10 => store_integers(n, a, area, out, at, 4, false),
+        11 => store_integers(n, a, area, out, at, 4, true),
+        12 => store_integers(n, a, area, out, at, 8, false),
+        13 => store_integers(n, a, area, out, at, 8, true),
+        14 => store_reals(n, a, area, out, at, true, false),
+        15 => store_reals(n, a, area, out, at, true, true),
+        16 => store_reals(n, a, area, out, at, false, false),
+        _ => store_reals(n, a, area, out, at, false, true),
+    }
+}

@@ -1,0 +1,3 @@
+-- What the code's steps promise of one field.
+pub mod Turns
+pub mod Values
