@@ -6,13 +6,17 @@ import json
 import sys
 from math import ceil, floor, log10
 
-WIDTH, HEIGHT, STRIPS_HEIGHT = 1120, 1010, 500
+PANEL = 420
+WIDTH, HEIGHT, STRIPS_HEIGHT = 1120, 1040 + PANEL, 500
 INK, FAINT = "#222222", "#dddddd"
 WORKS = ("w1: a mark record of 46 bytes, a8 A20 Su Iu c6 b12 H8.  w2: 4,096 binary digits packed by b4096;"
          " 4,096 bytes read by b*.",
          "w3: 2,000 integers of 2 bytes, s2000.  w4: a string of 4,096 bytes, a4096.  w5: 64 fields of c, a byte each."
-         "  b4096: 512 bytes read.")
-COLOURS = {"ours": "#009e73", "plain": "#56b4e9", "twin": "#e69f00", "tcl": "#0072b2", "perl": "#cc79a7", "python": "#8c8c8c", "steps": INK}
+         "  b4096: 512 bytes read.",
+         "q500: doubles; r1000: singles, which the hardware converts for plain C.  a32768, s16000: the longest records;"
+         "  b262144: 32,768 digits packed, 32,768 bytes read by b*.")
+COLOURS = {"ours": "#009e73", "plain": "#56b4e9", "twin": "#e69f00", "tcl": "#0072b2", "perl": "#cc79a7",
+           "python": "#8c8c8c", "steps": INK}
 DASHES = {"pack": "", "read": "6 4", "bound": "2 3"}
 
 
@@ -152,12 +156,14 @@ def draw_crowd(canvas, names, crowd, left, top, width, height):
 def draw_main(results, about):
     canvas = Canvas(WIDTH, HEIGHT)
     draw_legend(canvas, results["peers"], 28)
-    draw_ratios(canvas, results["peers"], results["ratios"], 70, 100, 1020, 330)
-    canvas.lines(70, 478, WORKS)
-    draw_growth(canvas, "Growth by fields of c", results["growth"]["f"], 70, 580, 270, 300)
-    draw_growth(canvas, "Growth by bytes of an s field", results["growth"]["s"], 430, 580, 270, 300)
-    draw_crowd(canvas, dict(results["peers"]), results["crowd"], 850, 580, 250, 300)
-    canvas.lines(70, 950, about)
+    half = (len(results["ratios"]) + 1) // 2
+    for k, rows in enumerate((results["ratios"][:half], results["ratios"][half:])):
+        draw_ratios(canvas, results["peers"], rows, 70, 100 + k * PANEL, 1020, 330)
+    canvas.lines(70, 478 + PANEL, WORKS)
+    draw_growth(canvas, "Growth by fields of c", results["growth"]["f"], 70, 610 + PANEL, 270, 300)
+    draw_growth(canvas, "Growth by bytes of an s field", results["growth"]["s"], 430, 610 + PANEL, 270, 300)
+    draw_crowd(canvas, dict(results["peers"]), results["crowd"], 850, 610 + PANEL, 250, 300)
+    canvas.lines(70, 980 + PANEL, about)
     return canvas
 
 

@@ -4,7 +4,7 @@ import random
 import struct
 
 FIELD_COUNTS = (1, 2, 4, 8, 16, 32, 64)
-BYTE_COUNTS = (16, 64, 256, 1024, 4096, 16384, 32768)
+BYTE_COUNTS = (16, 64, 256, 1024, 4096, 32768)
 DIGIT_COUNTS = tuple(2 ** k for k in range(3, 13))
 CALLS = ("pack", "read")
 SHEET_CALLS = ("sheet-write", "sheet-read")
