@@ -1,5 +1,5 @@
 -- The fields of the words: what a loop over the words goes by, and what a caller of `parse` learns.
-use Prim.Native.Nat.{ℕ, suc, _+_, _*_, _/_, _%_, _≤_, _<_, min}
+use Prim.Native.Nat.{ℕ, suc, _+_, _*_, _/_, _%_, _^_, _≤_, _<_, min}
 use native.Mathlib.Numerals.{add-one}
 use native.Mathlib.Omega.{arith}
 use mathlib.Core.Path.{_≡_, refl, sym, ap, _∙_}
@@ -14,9 +14,9 @@ use Rattle.layout.specs.declared.Parsed.{Parsed}
 use Rattle.layout.specs.declared.Parsed.the-variants.{Fields, Refused}
 use Rattle.layout.specs.Refusals.{if_then_else_, Result, ok, refused}
 use Rattle.layout.specs.Layout.{maxLayout, takesSlot, toNat, slotCount}
-use Rattle.layout.specs.Words.{lastData, shapeNumbered, countFrom, fieldOf, decoded, Parses, slotsTaken, flagUnit, countUnit}
-use Rattle.layout.proofs.Steps.{bit-le}
-use Rattle.layout.proofs.Numbered.{data-code, move-code}
+use Rattle.layout.specs.Words.{lastData, shapeNumbered, countFrom, FieldOf, fieldOf, decoded, Parses, slotsTaken, slotsNumbered, flagUnit, countUnit}
+use Rattle.layout.proofs.Steps.{bit-le, field-fits}
+use Rattle.layout.proofs.Numbered.{data-code, move-code, slot-numbered}
 
 pub decoded-length : (n : ℕ) (ws : List ℕ) → n ≤ length ws → length (decoded n ws) ≡ n
 unfolding decoded
@@ -60,12 +60,21 @@ module _ (w : ℕ) where
   unfolding fieldOf
   word-shape h = data-code (w % flagUnit) h
 
-  pub word-slot : w % flagUnit ≤ lastData → slotsTaken (fieldOf w) ≡ 1
-  word-slot h = rw (word-shape h)
-
   pub word-slotless : lastData < w % flagUnit → slotsTaken (fieldOf w) ≡ 0
   unfolding fieldOf
   word-slotless h = rw (move-code (w % flagUnit) h)
+
+  pub word-slots : slotsNumbered (w % flagUnit) ≡ slotsTaken (fieldOf w)
+  unfolding fieldOf
+  word-slots = ap toNat (slot-numbered (w % flagUnit))
+
+-- what a word of 32 bits tells before it is decoded: its field keeps to the limits, and takes so many slots
+pub record SlotsIn (w r : ℕ) : Type 0 where
+  pub field : FieldOf w (fieldOf w)
+  pub taken : r ≡ slotsTaken (fieldOf w)
+
+pub word-told : (w r : ℕ) → w < 2 ^ 32 → r ≡ slotsNumbered (w % flagUnit) → SlotsIn w r
+word-told w r h e = record { field = field-fits w (fieldOf w) h refl; taken = e ∙ word-slots w }
 
 -- the fields from the i-th on
 module _ (n : ℕ) (ws : List ℕ) (h : n ≤ length ws) where
@@ -85,7 +94,7 @@ pub record Learnt (o : Result (List Field)) (n slots : ℕ) (ws : List ℕ) : Ty
   pub fields : o ≡ ok (decoded n ws)
   pub taken : slots ≡ slotCount (decoded n ws)
   pub few : n ≤ length ws
-  pub room : length ws ≡ maxLayout
+  pub room : length ws ≤ maxLayout
 
 pub parsed-fields : (o : Result (List Field)) (r : Parsed) (n slots : ℕ) (ws : List ℕ) → Parses o r ws → r ≡ Fields n slots → Learnt o n slots ws
 unfolding decoded

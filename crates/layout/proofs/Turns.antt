@@ -29,36 +29,36 @@ after-one : (fs : List Field) (f : Field) (r : Result (List Field)) → after fs
 after-one fs f (ok gs) = ap ok (sym (append-assoc fs (f ∷ []) gs))
 after-one fs f (refused n p) = refl
 
--- ---- the loop: n words are read from the text before `at`, and so many of them take a slot
+-- ---- the loop: of the words, which are `size`, n are read from the text before `at`, and `slots` of these take a slot
 
-pub record Reading (packing : Bool) (text : List ℕ) (at n slots : ℕ) (ws : List ℕ) : Type 0 where
+pub record Reading (packing : Bool) (text : List ℕ) (size at n slots : ℕ) (ws : List ℕ) : Type 0 where
   pub few : n ≤ at
-  pub room : length ws ≡ maxLayout
+  pub long : length ws ≡ size
   pub within : at ≤ length text
   pub less : slots ≤ n
   pub so-far : rest packing text 0 ≡ after (decoded n ws) (rest packing text at)
   pub taken : slots ≡ slotCount (decoded n ws)
 
-module _ (packing : Bool) (text : List ℕ) where
-  pub reading-none : (ws : List ℕ) → length ws ≡ maxLayout → Reading packing text 0 0 0 ws
+module _ (packing : Bool) (text : List ℕ) (size : ℕ) where
+  pub reading-none : (ws : List ℕ) → length ws ≡ size → Reading packing text size 0 0 0 ws
   unfolding decoded slotCount
   reading-none ws h =
-      record { few = omega arith; room = h; within = omega arith; less = omega arith; so-far = after-none (rest packing text 0); taken = refl }
+      record { few = omega arith; long = h; within = omega arith; less = omega arith; so-far = after-none (rest packing text 0); taken = refl }
 
-  module _ (at n slots : ℕ) (ws : List ℕ) (r : Reading packing text at n slots ws) (fits : length text ≤ maxLayout) where
-    pub reading-spaces : (p : ℕ) → at ≤ p → p ≤ length text → rest packing text at ≡ rest packing text p → Reading packing text p n slots ws
+  module _ (at n slots : ℕ) (ws : List ℕ) (r : Reading packing text size at n slots ws) (fits : (length text ≤ size) × (size ≤ maxLayout)) where
+    pub reading-spaces : (p : ℕ) → at ≤ p → p ≤ length text → rest packing text at ≡ rest packing text p → Reading packing text size p n slots ws
     reading-spaces p h k e =
-        record { few = omega (arith, r .few); room = r .room; within = k; less = r .less; so-far = r .so-far ∙ ap (after (decoded n ws)) e; taken = r .taken }
+        record { few = omega (arith, r .few); long = r .long; within = k; less = r .less; so-far = r .so-far ∙ ap (after (decoded n ws)) e; taken = r .taken }
 
-    pub reading-more : (w m k : ℕ) → at < length text → FoundAs packing text at (Item w m k) → Reading packing text (at + 1 + m) (n + 1) (slots + k) (set ws n w)
+    pub reading-more : (w m k : ℕ) → at < length text → FoundAs packing text at (Item w m k) → Reading packing text size (at + 1 + m) (n + 1) (slots + k) (set ws n w)
     reading-more w m k h a =
         let step = a .step in
         let e : rest packing text at ≡ before (stepFound (Item w m k)) (rest packing text (suc at + m)) = rw step at (at-byte packing text at h) in
-        let d : decoded (n + 1) (set ws n w) ≡ decoded n ws ++ (fieldOf w ∷ []) = decoded-more n w ws (omega (arith, r .few, r .room)) in
+        let d : decoded (n + 1) (set ws n w) ≡ decoded n ws ++ (fieldOf w ∷ []) = decoded-more n w ws (omega (arith, fits, r .few, r .long)) in
         let next : at + 1 + m ≡ suc at + m = omega arith in
         record {
           few = omega (arith, r .few);
-          room = length-set ws n w ∙ r .room;
+          long = length-set ws n w ∙ r .long;
           within = omega (arith, a .told .1);
           less = omega (arith, r .less, a .told .0, slots-le (fieldOf w));
           so-far = r .so-far ∙ ap (after (decoded n ws)) e ∙ after-one (decoded n ws) (fieldOf w) (rest packing text (suc at + m)) ∙ (rw (d, next));
@@ -71,12 +71,12 @@ module _ (packing : Bool) (text : List ℕ) where
         let step = a .step in
         let e : rest packing text at ≡ refused why place = rw step at (at-byte packing text at h) in
         let o : fieldsOf packing text ≡ refused why place = r .so-far ∙ ap (after (decoded n ws)) e in
-        rw o (record { answer = refl; words = tt; room = r .room })
+        rw o (record { answer = refl; words = tt; room = omega (arith, fits, r .long) })
 
     pub reading-done : length text ≤ at → Parses (fieldsOf packing text) (Fields n slots) ws
     unfolding fieldsOf rest
     reading-done h =
         let e : rest packing text at ≡ ok [] = at-end packing text at h in
         let o : fieldsOf packing text ≡ ok (decoded n ws) = r .so-far ∙ ap (after (decoded n ws)) e ∙ ap ok (append-nil (decoded n ws)) in
-        let l : length (decoded n ws) ≡ n = decoded-length n ws (omega (arith, r .few, r .room)) in
-        rw o (record { answer = rw (l, ← r .taken) refl; words = ap (λ (i : ℕ). decoded i ws) l; room = r .room })
+        let l : length (decoded n ws) ≡ n = decoded-length n ws (omega (arith, fits, r .few, r .within, r .long)) in
+        rw o (record { answer = rw (l, ← r .taken) refl; words = ap (λ (i : ℕ). decoded i ws) l; room = omega (arith, fits, r .long) })

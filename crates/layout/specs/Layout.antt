@@ -24,6 +24,10 @@ use Rattle.layout.specs.Refusals.{if_then_else_, Result, ok, refused, _>
 abbrev pub maxLayout : ℕ
 maxLayout = 256
 
+-- the bytes of a layout that is read into a small array; both ways of reading it answer the same
+abbrev pub shortLayout : ℕ
+shortLayout = 32
+
 -- a count
 abbrev pub maxCount : ℕ
 maxCount = 32768

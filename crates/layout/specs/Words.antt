@@ -149,10 +149,9 @@ decoded n ws = map fieldOf (take n ws)
 abbrev pub slotsTaken : Field → ℕ
 slotsTaken f = toNat (takesSlot (f .code))
 
--- what a word tells before it is decoded: how many slots its field takes
-pub record SlotsIn (w r : ℕ) : Type 0 where
-  pub field : FieldOf w (fieldOf w)
-  pub taken : r ≡ slotsTaken (fieldOf w)
+-- and those that a type takes, by its number
+abbrev pub slotsNumbered : ℕ → ℕ
+slotsNumbered d = toNat (leb d lastData)
 
 abbrev pub parsedAs : Result (List Field) → Parsed
 parsedAs (ok fs) = Fields (length fs) (slotCount fs)
@@ -166,7 +165,7 @@ Decodes (refused n p) ws = Unit {0}
 pub record Parses (o : Result (List Field)) (r : Parsed) (ws : List ℕ) : Type 0 where
   pub answer : r ≡ parsedAs o
   pub words : Decodes o ws
-  pub room : length ws ≡ maxLayout
+  pub room : length ws ≤ maxLayout
 
 -- ---- inside `parse`
 

@@ -4,10 +4,13 @@ ghost use mathlib.Core.Path.{_≡_};
 ghost use Prim.Native.Nat.{_+_, _-_, _*_, _^_, _≤_, _<_, min};
 ghost use lib.ListN.{length, getD};
 ghost use Rattle.layout.specs.Layout.{maxLayout, typeOf, hasMeaning, toNat, fieldsOf};
-ghost use Rattle.layout.specs.Words.{lastDigits, lastData, overCount, HasType, typeNumbered, widthNumbered, sizeNumbered, countFrom, known, FieldOf, SlotsIn, SpacesEnd, NumberAt, CountAt, TailAt, FoundAs, Parses};
+ghost use Rattle.layout.specs.Words.{lastDigits, lastData, overCount, HasType, typeNumbered, widthNumbered, sizeNumbered, countFrom, known, FieldOf, slotsNumbered, SpacesEnd, NumberAt, CountAt, TailAt, FoundAs, Parses};
 
 // The limits of a layout and of a count (01, Slot tables, sizes). A field has a byte at least, so that so many words hold the fields of a layout.
 pub const MAX_LAYOUT: usize = 256;
+
+// A layout of so many bytes is read into a small array: to clear the large one costs more than a small record.
+pub const SHORT_LAYOUT: usize = 32;
 
 const MAX_COUNT: u32 = 32768;
 
@@ -379,9 +382,9 @@ fn read_field(text: &[u8], packing: bool, p: usize) -> Found
     Found::Item(word, more, bit(d <= LAST_DATA))
 }
 
-// Reads a layout that keeps to its size: the first words become its fields.
-pub fn parse(text: &[u8], packing: bool, words: &mut [u32; MAX_LAYOUT]) -> Parsed
-    requires { ⌜ (length (now text) ≤ maxLayout) × (length (now words) ≡ maxLayout) ⌝ }
+// Reads a layout that is no longer than the words: the first of them become its fields.
+pub fn parse(text: &[u8], packing: bool, words: &mut [u32]) -> Parsed
+    requires { ⌜ (length (now text) ≤ length (now words)) × (length (now words) ≤ maxLayout) ⌝ }
     ensures { λ r. ⌜ Parses (fieldsOf packing (now (text .entry))) r (now (words .exit)) ⌝ }
 {
     let mut at: usize = 0;
@@ -443,9 +446,9 @@ pub fn field_of(word: u32) -> Field
     }
 }
 
-// How many slots the field of a word takes.
-pub fn slots_in(word: u32) -> usize
-    ensures { λ r. ⌜ SlotsIn word r ⌝ }
+// How many slots a field of type d takes.
+pub fn slots_in(d: u32) -> usize
+    ensures { λ r. ⌜ r ≡ slotsNumbered d ⌝ }
 {
-    if word % FLAG_UNIT <= LAST_DATA { 1 } else { 0 }
+    if d <= LAST_DATA { 1 } else { 0 }
 }
