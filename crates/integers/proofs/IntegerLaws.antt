@@ -1,22 +1,22 @@
 -- Laws of integers in fields: the bytes of one, stored and read, and those of many, one after the other.
 use Prim.Native.Nat.{ℕ, zero, suc, _+_, _-_, _*_, _/_, _%_, _≤_, _<_}
-use native.Mathlib.Nat.{suc-mul, zero-mul, add-sub-cancel, not-suc-le-zero}
+use native.Mathlib.Nat.{add-zero, suc-mul, zero-mul, add-sub-cancel, not-suc-le-zero}
 use native.Mathlib.Omega.{arith}
 use mathlib.Core.Path.{_≡_, refl, sym, ap, _∙_}
 use mathlib.Core.Bool.{Bool, true, false, not}
-use mathlib.Core.List.{List, [], _∷_, _++_, map, reverse, reverse-cons, reverse-append, reverse-reverse}
-use lib.ListN.{length, take, drop, getD, replicate, length-drop, length-reverse, length-map, length-replicate, take-append-drop}
+use mathlib.Core.List.{List, [], _∷_, _++_, map, map-id, map-map, append-assoc, append-nil, reverse, reverse-cons, reverse-append, reverse-reverse}
+use lib.ListN.{length, take, drop, getD, set, replicate, length-drop, length-reverse, length-map, length-replicate, take-append-drop}
 use lib.Seq.{take-at, take-all, take-take, drop-drop}
 use Rattle.layout.specs.declared.Shape.the-variants.{Integers}
-use Rattle.record.specs.Bytes.{part, storeAt, pieces, join, digits, number, ordered, numberBytes, bigEndian, bigEndianIn}
+use Rattle.record.specs.Bytes.{part, storeAt, pieces, join, digits, number, ordered, numberBytes, numberAt, bigEndian, bigEndianIn}
 use Rattle.record.specs.Table.{integerBytes, integersIn}
 use Rattle.record.specs.Packing.{stored, lowBytes}
 use Rattle.record.specs.Reading.{loaded, widened}
-use Rattle.record.proofs.Bytes.{All, all-take, all-drop, all-ordered, all-below, length-pieces, length-digits, length-ordered, part-at, drop-take}
+use Rattle.record.proofs.Bytes.{All, all-take, all-drop, all-ordered, all-below, length-pieces, length-digits, length-ordered, digits-number, join-pieces, part-at, drop-take}
 use Rattle.record.proofs.Fields.{item}
-use Rattle.record.proofs.Stores.{runs, runs-first, length-part, getD-reverse}
+use Rattle.record.proofs.Stores.{runs, runs-first, length-runs, length-part, getD-reverse, Put, put-none, put-more, put-done, Wrote, wrote-next, store-next, length-storeAt}
 use Rattle.record.proofs.Widening.{low-digits, filler, widened-digits, sign-test}
-use Rattle.integers.specs.Items.{itemBytes, fillerOf}
+use Rattle.integers.specs.Items.{itemBytes, fillerOf, eights}
 use Rattle.text.proofs.ByteLaws.{store-both}
 
 -- ---- order and parts
@@ -108,22 +108,31 @@ length-itemBytes w big unsigned bs = simp (length-reverse, length-digits)
 
 -- ---- n integers
 
-runs-same : (n : ℕ) (f g : ℕ → List ℕ) → ((i : ℕ) → f i ≡ g i) → runs n f ≡ runs n g
+runs-same : (n : ℕ) (f g : ℕ → List ℕ) → ((i : ℕ) → i < n → f i ≡ g i) → runs n f ≡ runs n g
 unfolding runs
 runs-same zero f g h = refl
-runs-same (suc n) f g h = rw (runs-same n f g h, h n)
+runs-same (suc n) f g h = rw (runs-same n f g (λ i l. h i (omega arith)), h n (omega arith))
+
+runs-add : (n m : ℕ) (f : ℕ → List ℕ) → runs (n + m) f ≡ runs n f ++ runs m (λ i. f (n + i))
+unfolding runs
+runs-add n zero f = rw add-zero (sym (append-nil (runs n f)))
+runs-add n (suc m) f = let on : n + suc m ≡ suc (n + m) = omega arith in rw (on, runs-add n m f) (append-assoc (runs n f) (runs m (λ i. f (n + i))) (f (n + m)))
 
 -- what is made of the pieces of a run, one after the other
-module _ (g : ℕ → List ℕ) (h : List ℕ → ℕ) (k : ℕ) (xs : List ℕ) where
-  pub joined : (n start : ℕ) → join (map g (map h (pieces k n (drop start xs)))) ≡ runs n (λ i. g (h (part xs (start + i * k) k)))
+module _ (f : List ℕ → List ℕ) (k : ℕ) (xs : List ℕ) where
+  pub pieces-runs : (n start : ℕ) → join (map f (pieces k n (drop start xs))) ≡ runs n (λ i. f (part xs (start + i * k) k))
   unfolding join pieces runs
-  joined zero start = refl
-  joined (suc n) start =
+  pieces-runs zero start = refl
+  pieces-runs (suc n) start =
       let here : start + 0 * k ≡ start = rw zero-mul (omega arith) in
-      let next : (i : ℕ) → g (h (part xs (start + k + i * k) k)) ≡ g (h (part xs (start + suc i * k) k)) =
+      let next : (i : ℕ) → f (part xs (start + k + i * k) k) ≡ f (part xs (start + suc i * k) k) =
       λ i. let e : start + k + i * k ≡ start + suc i * k = rw suc-mul (omega arith) in rw e in
-      rw (drop-drop k start xs, joined n (start + k), runs-same n _ _ next)
-      (sym (runs-first n (λ i. g (h (part xs (start + i * k) k))) ∙ rw here))
+      rw (drop-drop k start xs, pieces-runs n (start + k), runs-same n _ _ (λ i _. next i))
+      (sym (runs-first n (λ i. f (part xs (start + i * k) k)) ∙ rw here))
+
+pub joined : (g : ℕ → List ℕ) (h : List ℕ → ℕ) (k : ℕ) (xs : List ℕ) (n start : ℕ)
+    → join (map g (map h (pieces k n (drop start xs)))) ≡ runs n (λ i. g (h (part xs (start + i * k) k)))
+joined g h k xs n start = ap join (map-map g h (pieces k n (drop start xs))) ∙ pieces-runs (λ p. g (h p)) k xs n start
 
 pub pieces-take : (k n : ℕ) (xs : List ℕ) → pieces k n (take (n * k) xs) ≡ pieces k n xs
 unfolding pieces
@@ -177,3 +186,87 @@ pub pair-item : (input : List ℕ) (at v x y : ℕ) (big unsigned : Bool) → di
     → numberBytes 8 y ≡ itemBytes 2 big unsigned (part input at 2)
 unfolding itemBytes numberBytes
 pair-item input at v x y big unsigned two is wide = rw (wide, is, two)
+
+-- ---- runs of eight bytes
+
+-- eight bytes, put one by one
+module _ (d : List ℕ) (at x : ℕ) (room : at + 8 ≤ length d) where
+  next : (d′ : List ℕ) (j v : ℕ) → Put d at (digits 256 8 x) d′ j → j < 8 → v ≡ getD (digits 256 8 x) j 0 → Put d at (digits 256 8 x) (set d′ (at + j) v) (j + 1)
+  next d′ j v p h e = let long : length (digits 256 8 x) ≡ 8 = length-digits 256 8 x in put-more p (omega arith) (omega arith) e
+
+  pub eight-low : set (set (set (set (set (set (set (set d at (x % 256)) (at + 1) (x / 256 % 256)) (at + 2) (x / 256 / 256 % 256)) (at + 3) (x / 256 / 256 / 256 % 256))
+      (at + 4) (x / 256 / 256 / 256 / 256 % 256)) (at + 5) (x / 256 / 256 / 256 / 256 / 256 % 256)) (at + 6) (x / 256 / 256 / 256 / 256 / 256 / 256 % 256))
+      (at + 7) (x / 256 / 256 / 256 / 256 / 256 / 256 / 256 % 256)
+      ≡ storeAt d at (digits 256 8 x)
+  unfolding digits
+  eight-low =
+      let p1 = rw add-zero at (next d 0 (x % 256) put-none (omega arith) refl) in
+      let p2 = next _ 1 (x / 256 % 256) p1 (omega arith) refl in
+      let p3 = next _ 2 (x / 256 / 256 % 256) p2 (omega arith) refl in
+      let p4 = next _ 3 (x / 256 / 256 / 256 % 256) p3 (omega arith) refl in
+      let p5 = next _ 4 (x / 256 / 256 / 256 / 256 % 256) p4 (omega arith) refl in
+      let p6 = next _ 5 (x / 256 / 256 / 256 / 256 / 256 % 256) p5 (omega arith) refl in
+      let p7 = next _ 6 (x / 256 / 256 / 256 / 256 / 256 / 256 % 256) p6 (omega arith) refl in
+      put-done (next _ 7 (x / 256 / 256 / 256 / 256 / 256 / 256 / 256 % 256) p7 (omega arith) refl) (length-digits 256 8 x)
+
+-- the number of eight bytes has them as its digits, turned round
+pub number-turned : (bs : List ℕ) (at : ℕ) {x : ℕ} → ((i : ℕ) → getD bs i 0 < 256) → at + 8 ≤ length bs → x ≡ numberAt 8 bs at → digits 256 8 x ≡ ordered true (part bs at 8)
+unfolding numberAt
+number-turned bs at small inside is =
+    let p : List ℕ = part bs at 8 in
+    let long : length (reverse p) ≡ 8 = length-reverse p ∙ length-part 8 at bs inside in
+    ap (digits 256 8) is ∙ ap (λ (k : ℕ). digits 256 k (number 256 (reverse p))) (sym long) ∙ digits-number 256 (reverse p) (all-ordered (λ d. d < 256) true p (part-bytes bs at 8 small))
+
+-- run i
+abbrev pub eightAt : Bool → List ℕ → ℕ → ℕ → List ℕ
+eightAt turn xs start i = ordered turn (part xs (start + i * 8) 8)
+
+length-eightAt : (turn : Bool) (xs : List ℕ) (start n i : ℕ) → start + n * 8 ≤ length xs → i < n → length (eightAt turn xs start i) ≡ 8
+length-eightAt turn xs start n i inside h = length-ordered turn (part xs (start + i * 8) 8) ∙ length-part 8 (start + i * 8) xs (omega arith)
+
+length-eights : (turn : Bool) (xs : List ℕ) (start n i : ℕ) → start + n * 8 ≤ length xs → i ≤ n → length (runs i (eightAt turn xs start)) ≡ i * 8
+length-eights turn xs start n i inside h = length-runs 8 i (eightAt turn xs start) (λ k l. length-eightAt turn xs start n k inside (omega arith))
+
+pub eights-runs : (turn : Bool) (xs : List ℕ) (start n : ℕ) → eights turn n (drop start xs) ≡ runs n (eightAt turn xs start)
+unfolding eights
+eights-runs turn xs start n = pieces-runs (ordered turn) 8 xs n start
+
+pub eights-kept : (xs : List ℕ) (start n : ℕ) → start + n * 8 ≤ length xs → part xs start (n * 8) ≡ eights false n (drop start xs)
+unfolding eights
+eights-kept xs start n inside =
+    let kept : map (ordered false) (pieces 8 n (drop start xs)) ≡ pieces 8 n (drop start xs) = map-id (pieces 8 n (drop start xs)) in
+    sym (rw (kept, ← pieces-take 8 n (drop start xs)) (join-pieces 8 n (part xs start (n * 8)) (length-part (n * 8) start xs inside)))
+
+-- one more run stored behind those before it; and m more
+pub eight-more : {d₀ d d′ : List ℕ} {at i n : ℕ} (xs : List ℕ) (start : ℕ) → Wrote d₀ at (eightAt true xs start) d i → i < n → at + n * 8 ≤ length d₀ → start + n * 8 ≤ length xs
+    → d′ ≡ storeAt d (at + i * 8) (eightAt true xs start i) → Wrote d₀ at (eightAt true xs start) d′ (i + 1)
+eight-more {d₀} {d} {d′} {at} {i} {n} xs start w h room inside e =
+    let front : length (runs i (eightAt true xs start)) ≡ i * 8 = length-eights true xs start n i inside (omega arith) in
+    wrote-next {to = at + i * 8} w (omega arith) (omega (arith, length-eightAt true xs start n i inside h)) e
+
+pub eights-more : {d₀ d d′ : List ℕ} {at i n : ℕ} (xs : List ℕ) (start m : ℕ) → Wrote d₀ at (eightAt true xs start) d i → i + m ≤ n → at + n * 8 ≤ length d₀ → start + n * 8 ≤ length xs
+    → d′ ≡ storeAt d (at + i * 8) (eights true m (drop (start + i * 8) xs)) → Wrote d₀ at (eightAt true xs start) d′ (i + m)
+eights-more {d₀} {d} {d′} {at} {i} {n} xs start m w h room inside e =
+    let f : ℕ → List ℕ = eightAt true xs start in
+    let here : (k : ℕ) → k < m → eightAt true xs (start + i * 8) k ≡ f (i + k) = λ k _. let p : start + i * 8 + k * 8 ≡ start + (i + k) * 8 = omega arith in rw p in
+    let some : eights true m (drop (start + i * 8) xs) ≡ runs m (λ k. f (i + k)) = eights-runs true xs (start + i * 8) m ∙ runs-same m _ _ here in
+    let front : length (runs i f) ≡ i * 8 = length-eights true xs start n i inside (omega arith) in
+    let all : length (runs (i + m) f) ≡ (i + m) * 8 = length-eights true xs start n (i + m) inside h in
+    let is : d′ ≡ storeAt d₀ at (runs (i + m) f) =
+    store-next {to = at + i * 8} d₀ at (runs i f) (runs m (λ k. f (i + k))) (w .is) (omega arith) (e ∙ ap (storeAt d (at + i * 8)) some) (runs-add i m f) (omega arith) in
+    record { long = ap length is ∙ length-storeAt d₀ at (runs (i + m) f) (omega arith); is = is }
+
+-- as integers of the area, stored; and read
+pub eights-stored : (area : List ℕ) (start : ℕ) (big : Bool) (n : ℕ) → ((i : ℕ) → getD area i 0 < 256) → start + n * 8 ≤ length area
+    → eights (not big) n (drop start area) ≡ stored (Integers 8 big) n (integersIn n (drop start area))
+eights-stored area start big n small inside =
+    let one : (i : ℕ) → i < n → eightAt (not big) area start i ≡ storedAt area start 8 big i =
+    λ i h. rw add-zero at (stored-item area (start + i * 8) 8 big small (omega arith) (omega arith)) in
+    eights-runs (not big) area start n ∙ runs-same n _ _ one ∙ stored-runs area start 8 big n
+
+pub eights-loaded : (input : List ℕ) (at : ℕ) (big unsigned : Bool) (n : ℕ) → ((i : ℕ) → getD input i 0 < 256) → at + n * 8 ≤ length input
+    → eights (not big) n (drop at input) ≡ integerBytes (loaded (Integers 8 big) unsigned n (part input at (n * 8)) .items)
+eights-loaded input at big unsigned n small inside =
+    let one : (i : ℕ) → i < n → eightAt (not big) input at i ≡ loadedAt input at 8 big unsigned i =
+    λ i h. loaded-item 8 big unsigned (part input (at + i * 8) 8) (length-part 8 (at + i * 8) input (omega arith)) (omega arith) (omega arith) (part-bytes input (at + i * 8) 8 small) in
+    eights-runs (not big) input at n ∙ runs-same n _ _ one ∙ loaded-runs input at 8 big unsigned n

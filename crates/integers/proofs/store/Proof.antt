@@ -1,8 +1,8 @@
--- One integer is stored by itself, as the law of one alone says; more are stored by a loop, that of pairs where they fill two bytes.
+-- One integer is stored by itself, as the law of one alone says; more are stored by a loop, that of pairs where they fill two bytes, and whole where they fill eight.
 use native.Mathlib.Omega.{arith}
 use mathlib.Core.Path.{ap, _∙_}
 use Rattle.record.specs.Bytes.{storeAt}
-use Rattle.integers.proofs.IntegerLaws.{stored-one}
+use Rattle.integers.proofs.IntegerLaws.{stored-one, eights-stored}
 use borrow.Author.Needs.{needs}
 use Rattle.integers.proofs.store.Statement.{statement}
 use Rattle.integers.proofs.store.Tie as tie
@@ -43,14 +43,33 @@ same-length-2 c = search needs
 returns-2 : tie.Need-returns-2
 returns-2 c = rw (c .before .before .before .before .if2 .taken) (c .before .before .store-pairs .ensures)
 
-store-each-requires : tie.Need-store-each-requires
-store-each-requires c κs = search needs
+copy-eights-requires : tie.Need-copy-eights-requires
+copy-eights-requires c κs =
+    let pre = rw (c .before .if3 .taken) at (c .before .before .before .before .before .before .pre) in
+    (omega arith, omega arith)
 
 same-length-3 : tie.Need-same-length-3
 same-length-3 c = search needs
 
 returns-3 : tie.Need-returns-3
-returns-3 c = search needs
+returns-3 c =
+    let known = c .before .before .before .before .before .before .before in
+    let start = known .before .before in
+    let a = start .args in
+    let eight = c .before .before .before .before .if3 .taken in
+    let pre = rw eight at (start .pre) in
+    rw eight
+    (c .before .before .copy-eights .ensures
+    ∙ ap (storeAt (a .out .now) (a .at)) (eights-stored (a .area .now) (a .start) (a .big) (a .n) (λ i. known .shared-slice-known .given i .fits) (pre .2)))
+
+store-each-requires : tie.Need-store-each-requires
+store-each-requires c κs = search needs
+
+same-length-4 : tie.Need-same-length-4
+same-length-4 c = search needs
+
+returns-4 : tie.Need-returns-4
+returns-4 c = search needs
 
 pub store-spec : {M : Type 1} → statement M
 store-spec =
@@ -64,6 +83,9 @@ store-spec =
     store-pairs-requires
     same-length-2
     returns-2
-    store-each-requires
+    copy-eights-requires
     same-length-3
-    returns-3)
+    returns-3
+    store-each-requires
+    same-length-4
+    returns-4)
