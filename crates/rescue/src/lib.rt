@@ -4,6 +4,7 @@ ghost use mathlib.Core.Path.{_≡_};
 ghost use Prim.Native.Nat.{_+_, _*_, _≤_, _<_};
 ghost use lib.ListN.{length};
 ghost use lib.Dec.{leb};
+ghost use Rattle.layout.specs.Lent.{before, after};
 ghost use Rattle.record.specs.Bytes.{storeAt};
 ghost use Rattle.record.specs.Table.{slotWidth, maxSlots, integerSize};
 ghost use Rattle.sheet.specs.Sheet.{widthIn, headerSize, maxSheet};
@@ -61,7 +62,7 @@ fn sizes_fit(slots: usize, area: usize, sheet: usize, mark: usize, legs: usize) 
 // Blanks n slots from number k on.
 fn blank(slots: &mut [u32], k: usize, n: usize)
     requires { ⌜ Blankable (now slots) k n ⌝ }
-    ensures { λ _. ⌜ now (slots .exit) ≡ storeAt (now (slots .entry)) (slotWidth * k) (blanks n) ⌝ }
+    ensures { λ _. ⌜ after slots ≡ storeAt (before slots) (slotWidth * k) (blanks n) ⌝ }
 {
     let mut i: usize = 0;
     while i < n {
@@ -73,7 +74,7 @@ fn blank(slots: &mut [u32], k: usize, n: usize)
 // A sheet begins with a whole header, whose lengths have w bytes.
 fn has_header(sheet: &[u8], w: usize) -> bool
     requires { ⌜ w ≤ integerSize ⌝ }
-    ensures { λ r. ⌜ r ≡ leb (w + 1) (length (now (sheet .entry))) ⌝ }
+    ensures { λ r. ⌜ r ≡ leb (w + 1) (length (before sheet)) ⌝ }
 {
     w + 1 <= sheet.len()
 }
@@ -87,7 +88,7 @@ fn rescue_nothing(
     mark: usize,
 ) -> Rescued
     requires { ⌜ Ready (now sheet) legs (now slots) (now area) mark × (length (now sheet) < headerSize (widthIn (now sheet))) ⌝ }
-    ensures { λ r. ⌜ record { answer = r; slots = now (slots .exit); area = now (area .exit) } ≡ rescue (now (sheet .entry)) legs (now (slots .entry)) (now (area .entry)) mark ⌝ }
+    ensures { λ r. ⌜ record { answer = r; slots = after slots; area = after area } ≡ rescue (before sheet) legs (before slots) (before area) mark ⌝ }
 {
     blank(slots, 0, legs);
     Rescued::saved(0, legs, sheet.len())
@@ -103,7 +104,7 @@ fn rescue_entries(
     mark: usize,
 ) -> Rescued
     requires { ⌜ Ready (now sheet) legs (now slots) (now area) mark × (w ≡ widthIn (now sheet)) × (w ≤ integerSize) × (headerSize w ≤ length (now sheet)) ⌝ }
-    ensures { λ r. ⌜ record { answer = r; slots = now (slots .exit); area = now (area .exit) } ≡ rescue (now (sheet .entry)) legs (now (slots .entry)) (now (area .entry)) mark ⌝ }
+    ensures { λ r. ⌜ record { answer = r; slots = after slots; area = after area } ≡ rescue (before sheet) legs (before slots) (before area) mark ⌝ }
 {
     let x = load::measure(sheet, w, legs);
     if area.len() - mark < x.values {
@@ -117,7 +118,7 @@ fn rescue_entries(
 // Keeps the whole entries at the front of a sheet, at most as many as there are legs: sets their slots, puts their values into the area from
 // the mark on, and blanks the other slots up to the number of legs. A refusal changes nothing.
 pub fn rescue(sheet: &[u8], legs: usize, slots: &mut [u32], area: &mut [u8], mark: usize) -> Rescued
-    ensures { λ r. ⌜ record { answer = r; slots = now (slots .exit); area = now (area .exit) } ≡ rescue (now (sheet .entry)) legs (now (slots .entry)) (now (area .entry)) mark ⌝ }
+    ensures { λ r. ⌜ record { answer = r; slots = after slots; area = after area } ≡ rescue (before sheet) legs (before slots) (before area) mark ⌝ }
 {
     if !sizes_fit(slots.len(), area.len(), sheet.len(), mark, legs) {
         return Rescued::refused(Refusal::BadSize);

@@ -1,6 +1,8 @@
 // A table written as a sheet and read back (document 02, M-100): both calls one after the other, and what they keep.
 ghost use mathlib.Core.Path.{_≡_};
-ghost use Rattle.sheet.specs.Claims.{Stored, KeepsValues, kept};
+ghost use Rattle.layout.specs.Lent.{before};
+ghost use Rattle.sheet.specs.Claims.{Stored, KeepsValues, readPart, kept};
+ghost use Rattle.sheet_keep.specs.Keeping.{left};
 use record::Answer;
 
 // Writes a table as a sheet, and reads the sheet into another table. Answers what the reading does, or the writing where that refuses.
@@ -12,9 +14,9 @@ pub fn keep(
     values: &mut [u8],
     mark: usize,
 ) -> Answer
-    ensures effect { λ r. ⌜ record { answer = r; buffer = now (sheet .exit); slots = now (table .exit); area = now (values .exit) } ≡ kept (now (slots .entry)) (now (area .entry)) (now (sheet .entry)) (now (table .entry)) (now (values .entry)) mark ⌝ }
-    ensures values_kept { λ r. ⌜ (Stored (now (slots .entry)) (now (area .entry)) (now (sheet .entry)) (now (table .entry)) (now (values .entry)) mark
-        → KeepsValues (now (slots .entry)) (now (area .entry)) (now (table .entry)) (now (values .entry)) mark (record { answer = r; slots = now (table .exit); area = now (values .exit) })) ⌝ }
+    ensures effect { λ r. ⌜ left sheet table values r ≡ kept (before slots) (before area) (before sheet) (before table) (before values) mark ⌝ }
+    ensures values_kept { λ r. ⌜ (Stored (before slots) (before area) (before sheet) (before table) (before values) mark
+        → KeepsValues (before slots) (before area) (before table) (before values) mark (readPart (left sheet table values r))) ⌝ }
 {
     let a = sheet_write::write(slots, area, sheet);
     let number = a.number;

@@ -7,8 +7,9 @@ use lib.ListN.{length, take, drop}
 use lib.Dec.{eqb, ltb}
 use Rattle.record.specs.Bytes.{storeAt}
 use Rattle.record.specs.Table.{slotWidth, maxSlots, maxArea, integerSize}
+use Rattle.record.specs.Reading.{Read}
 use Rattle.sheet.specs.Entries.{Entry, valueBytes, beginsEntry}
-use Rattle.sheet.specs.Sheet.{version1, widthOf, headerSize, versionOf, widthIn, entriesAt, entriesEnd, entryNumbers}
+use Rattle.sheet.specs.Sheet.{version1, widthOf, headerSize, versionOf, widthIn, entriesAt, entriesEnd, entryNumbers, putInto}
 use Rattle.sheet.specs.Steps.{Opened}
 use Rattle.sheet_read.specs.declared.load.Extent.{Extent}
 
@@ -26,6 +27,10 @@ neededBy v entries values = eqb v version1 || not (ltb (entries * headerSize (wi
 -- the first of the whole entries after a sheet's header, at most so many
 abbrev pub frontOf : ℕ → ℕ → List ℕ → List Entry
 frontOf w most sheet = take most (entriesAt w sheet)
+
+-- a table and an area with these put in
+abbrev pub putFront : ℕ → ℕ → List ℕ → List ℕ → List ℕ → ℕ → Read
+putFront w most sheet slots area mark = putInto slots area mark (frontOf w most sheet)
 
 -- one more is due after so many, and stands whole at the place `at`
 abbrev pub entryDue : ℕ → List ℕ → ℕ → ℕ → ℕ → Bool

@@ -1,6 +1,7 @@
 // A sheet read into a table of slots (document 02, M-100 and M-111). The first pass over the entries checks and measures, the second writes. So a refusal
 // writes nothing.
 ghost use mathlib.Core.Path.{_≡_};
+ghost use Rattle.layout.specs.Lent.{before, after};
 ghost use Rattle.sheet.specs.Sheet.{read};
 ghost use Rattle.sheet_read.specs.Steps.{OpenedAs};
 use layout::Refusal;
@@ -19,7 +20,7 @@ fn read_entries(
     mark: usize,
 ) -> Answer
     requires { ⌜ OpenedAs v w (now sheet) (now slots) (now area) mark ⌝ }
-    ensures { λ r. ⌜ record { answer = r; slots = now (slots .exit); area = now (area .exit) } ≡ read (now (sheet .entry)) (now (slots .entry)) (now (area .entry)) mark ⌝ }
+    ensures { λ r. ⌜ record { answer = r; slots = after slots; area = after area } ≡ read (before sheet) (before slots) (before area) mark ⌝ }
 {
     let x = load::measure(sheet, w, sheet.len());
     if x.end != sheet.len() {
@@ -39,7 +40,7 @@ fn read_entries(
 
 // Reads a sheet: sets slots from the first on, and puts their values into the area from the mark on. A refusal changes nothing.
 pub fn read(sheet: &[u8], slots: &mut [u32], area: &mut [u8], mark: usize) -> Answer
-    ensures { λ r. ⌜ record { answer = r; slots = now (slots .exit); area = now (area .exit) } ≡ read (now (sheet .entry)) (now (slots .entry)) (now (area .entry)) mark ⌝ }
+    ensures { λ r. ⌜ record { answer = r; slots = after slots; area = after area } ≡ read (before sheet) (before slots) (before area) mark ⌝ }
 {
     if !sheet::lent_fits(slots.len(), area.len(), sheet.len(), mark) {
         return Answer::refused(Refusal::BadSize, 0);

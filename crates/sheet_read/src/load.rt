@@ -6,17 +6,18 @@ ghost use Prim.Native.Nat.{_+_, _/_, _≤_};
 ghost use lib.ListN.{length, drop};
 ghost use lib.Dec.{eqb};
 ghost use Rattle.layout.specs.Refusals.{if_then_else_};
+ghost use Rattle.layout.specs.Lent.{before, after};
 ghost use Rattle.record.specs.Table.{maxSlots, maxArea, integerSize, itemSize};
 ghost use Rattle.record.specs.Packing.{accepted};
 ghost use Rattle.sheet.specs.Entries.{wholeItems, beginsEntry, entryIn};
-ghost use Rattle.sheet.specs.Sheet.{headerSize, maxSheet, versionOf, versionKnown, headerFits, putInto};
-ghost use Rattle.sheet_read.specs.Steps.{neededBy, frontOf, entryDue, ExtentOf, Room, PutRoom, PutAs};
+ghost use Rattle.sheet.specs.Sheet.{headerSize, maxSheet, versionOf, versionKnown, headerFits};
+ghost use Rattle.sheet_read.specs.Steps.{neededBy, frontOf, putFront, entryDue, ExtentOf, Room, PutRoom, PutAs};
 use record::Answer;
 use sheet::lengths;
 
 // The version of a sheet.
 pub fn version_of(sheet: &[u8]) -> u8
-    ensures { λ r. ⌜ r ≡ versionOf (now (sheet .entry)) ⌝ }
+    ensures { λ r. ⌜ r ≡ versionOf (before sheet) ⌝ }
 {
     if sheet.len() == 0 {
         return lengths::VERSION_1;
@@ -48,7 +49,7 @@ pub fn version_needed(v: u8, entries: usize, values: usize) -> bool
 // The header is whole and has the length of what follows.
 pub fn header_fits(sheet: &[u8], w: usize) -> bool
     requires { ⌜ w ≤ integerSize ⌝ }
-    ensures { λ r. ⌜ r ≡ headerFits w (now (sheet .entry)) ⌝ }
+    ensures { λ r. ⌜ r ≡ headerFits w (before sheet) ⌝ }
 {
     let size = sheet.len();
     if size < w + 1 {
@@ -70,7 +71,7 @@ fn whole_items(kind: u8, n: usize) -> bool
 // A whole entry stands at a place.
 fn is_entry(sheet: &[u8], at: usize, w: usize) -> bool
     requires { ⌜ (w ≤ integerSize) × (at ≤ length (now sheet)) ⌝ }
-    ensures { λ r. ⌜ r ≡ beginsEntry w (drop at (now (sheet .entry))) ⌝ }
+    ensures { λ r. ⌜ r ≡ beginsEntry w (drop at (before sheet)) ⌝ }
 {
     let left = sheet.len() - at;
     if left < w {
@@ -100,7 +101,7 @@ pub struct Extent {
 // One more entry is due after so many, and stands whole at a place.
 fn entry_due(sheet: &[u8], at: usize, w: usize, done: usize, most: usize) -> bool
     requires { ⌜ (w ≤ integerSize) × (at ≤ length (now sheet)) ⌝ }
-    ensures { λ r. ⌜ r ≡ entryDue w (now (sheet .entry)) at done most ⌝ }
+    ensures { λ r. ⌜ r ≡ entryDue w (before sheet) at done most ⌝ }
 {
     if most <= done {
         return false;
@@ -111,7 +112,7 @@ fn entry_due(sheet: &[u8], at: usize, w: usize, done: usize, most: usize) -> boo
 // The first pass over the entries, at most so many. Nothing is written.
 pub fn measure(sheet: &[u8], w: usize, most: usize) -> Extent
     requires { ⌜ (w ≤ integerSize) × (headerSize w ≤ length (now sheet)) × (length (now sheet) ≤ maxSheet) ⌝ }
-    ensures { λ r. ⌜ ExtentOf w (frontOf w most (now (sheet .entry))) (now (sheet .entry)) r ⌝ }
+    ensures { λ r. ⌜ ExtentOf w (frontOf w most (before sheet)) (before sheet) r ⌝ }
 {
     let mut at = w + 1;
     let mut entries: usize = 0;
@@ -155,7 +156,7 @@ fn put(
 ) -> usize
     requires { ⌜ (w ≤ integerSize) × (beginsEntry w (drop at (now sheet)) ≡ true) × (at ≤ length (now sheet)) ⌝ }
     requires { ⌜ PutRoom (entryIn w (drop at (now sheet))) (now slots) k (now area) to ⌝ }
-    ensures { λ r. ⌜ PutAs (entryIn w (drop at (now (sheet .entry)))) (now (slots .entry)) k (now (area .entry)) to r (now (slots .exit)) (now (area .exit)) ⌝ }
+    ensures { λ r. ⌜ PutAs (entryIn w (drop at (before sheet))) (before slots) k (before area) to r (after slots) (after area) ⌝ }
 {
     let size = lengths::length_at(sheet, at, w) - 1;
     let kind = sheet[at + w];
@@ -188,7 +189,7 @@ pub fn fill(
     mark: usize,
 ) -> Answer
     requires { ⌜ (w ≤ integerSize) × (headerSize w ≤ length (now sheet)) × Room (frontOf w most (now sheet)) (now slots) (now area) mark ⌝ }
-    ensures { λ r. ⌜ record { answer = r; slots = now (slots .exit); area = now (area .exit) } ≡ putInto (now (slots .entry)) (now (area .entry)) mark (frontOf w most (now (sheet .entry))) ⌝ }
+    ensures { λ r. ⌜ record { answer = r; slots = after slots; area = after area } ≡ putFront w most (before sheet) (before slots) (before area) mark ⌝ }
 {
     let mut at = w + 1;
     let mut set: usize = 0;

@@ -9,6 +9,7 @@ use Rattle.layout.specs.declared.Refusal.the-variants.{BadSlot}
 use Rattle.layout.specs.Refusals.{if_then_else_, ok, refused}
 use Rattle.record.specs.declared.slots.Slot.{Slot}
 use Rattle.record.specs.Table.{slotsOf, maxSlots, numberLimit}
+use Rattle.sheet.specs.Entries.{entryBytes}
 use Rattle.sheet.specs.Sheet.{version1, version2, widthOf, headerSize, maxSheet, lengthsFit, entryOf, slotFits, slotsFit}
 use Rattle.sheet.specs.Steps.{bodyFor}
 use Rattle.sheet_write.specs.declared.store.Measured.{Measured}
@@ -30,6 +31,10 @@ versionBy n = if ltb n (256 ^ widthOf version1 + headerSize (widthOf version1)) 
 
 abbrev pub lengthIn : ℕ → ℕ → ℕ → ℕ
 lengthIn v n entries = if eqb v version2 then n + 2 * (entries + 1) else n
+
+-- the bytes of a slot's entry
+abbrev pub entryFor : ℕ → List ℕ → Slot → List ℕ
+entryFor w area s = entryBytes w (entryOf area s)
 
 -- a slot fits, and its entry has room in a sheet of so many bytes from the place `at` on
 pub record EntryRoom (w : ℕ) (area : List ℕ) (s : Slot) (at size : ℕ) : Type 0 where

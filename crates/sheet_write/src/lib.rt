@@ -2,6 +2,7 @@
 // writes nothing.
 ghost use mathlib.Core.Path.{_≡_};
 ghost use Prim.Native.Nat.{_≤_, _<_};
+ghost use Rattle.layout.specs.Lent.{before, after};
 ghost use Rattle.record.specs.Table.{maxSlots, numberLimit};
 ghost use Rattle.sheet.specs.Sheet.{write};
 ghost use Rattle.sheet_write.specs.Steps.{versionBy, lengthIn, Checked};
@@ -40,7 +41,7 @@ fn length_in(v: u8, n: usize, entries: usize) -> usize
 // What is left once the slots are sound.
 fn write_sheet(slots: &[u32], area: &[u8], sheet: &mut [u8], n: usize) -> Answer
     requires { ⌜ Checked (now slots) (now area) (now sheet) n ⌝ }
-    ensures { λ r. ⌜ record { answer = r; output = now (sheet .exit) } ≡ write (now (slots .entry)) (now (area .entry)) (now (sheet .entry)) ⌝ }
+    ensures { λ r. ⌜ record { answer = r; output = after sheet } ≡ write (before slots) (before area) (before sheet) ⌝ }
 {
     let v = version_for(n);
     let w = lengths::width_of(v);
@@ -54,7 +55,7 @@ fn write_sheet(slots: &[u32], area: &[u8], sheet: &mut [u8], n: usize) -> Answer
 
 // Stores a table as a sheet at the front of the buffer. A refusal changes nothing.
 pub fn write(slots: &[u32], area: &[u8], sheet: &mut [u8]) -> Answer
-    ensures { λ r. ⌜ record { answer = r; output = now (sheet .exit) } ≡ write (now (slots .entry)) (now (area .entry)) (now (sheet .entry)) ⌝ }
+    ensures { λ r. ⌜ record { answer = r; output = after sheet } ≡ write (before slots) (before area) (before sheet) ⌝ }
 {
     if !sheet::lengths_fit(slots.len(), area.len(), sheet.len()) {
         return Answer::refused(Refusal::BadSize, 0);

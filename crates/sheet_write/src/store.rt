@@ -3,12 +3,12 @@ ghost use mathlib.Core.Path.{_≡_};
 ghost use mathlib.Core.Bool.{true};
 ghost use Prim.Native.Nat.{_+_, _*_, _≤_, _<_};
 ghost use lib.ListN.{length};
+ghost use Rattle.layout.specs.Lent.{before, after};
 ghost use Rattle.record.specs.Bytes.{storeAt};
 ghost use Rattle.record.specs.Table.{slotWidth, maxSlots, maxArea, numberLimit};
-ghost use Rattle.sheet.specs.Entries.{entryBytes};
 ghost use Rattle.sheet.specs.Sheet.{version1, widthOf, headerSize, valueSize, entryOf, slotFits};
 ghost use Rattle.sheet.specs.Steps.{sheetFor, bodyFor};
-ghost use Rattle.sheet_write.specs.Steps.{MeasuredAs, EntryRoom, BodyRoom};
+ghost use Rattle.sheet_write.specs.Steps.{MeasuredAs, entryFor, EntryRoom, BodyRoom};
 use record::slots;
 use record::slots::Slot;
 use sheet::lengths;
@@ -46,7 +46,7 @@ fn value_size(a: Slot) -> usize
 // The first pass over the slots. Nothing is written.
 pub fn measure(slots: &[u32], area: &[u8]) -> Measured
     requires { ⌜ (length (now slots) ≤ slotWidth * maxSlots) × (length (now area) ≤ maxArea) ⌝ }
-    ensures { λ r. ⌜ MeasuredAs (widthOf version1) (now (slots .entry)) (now (area .entry)) r ⌝ }
+    ensures { λ r. ⌜ MeasuredAs (widthOf version1) (before slots) (before area) r ⌝ }
 {
     let count = slots.len() / record::SLOT_WIDTH;
     let mut size = lengths::HEADER_1;
@@ -65,7 +65,7 @@ pub fn measure(slots: &[u32], area: &[u8]) -> Measured
 // Copies the value of a slot that was checked.
 fn put_value(out: &mut [u8], at: usize, a: Slot, area: &[u8], size: usize)
     requires { ⌜ (slotFits (length (now area)) a ≡ true) × (size ≡ valueSize a) × (at + size ≤ length (now out)) ⌝ }
-    ensures { λ _. ⌜ now (out .exit) ≡ storeAt (now (out .entry)) at (entryOf (now (area .entry)) a .value) ⌝ }
+    ensures { λ _. ⌜ after out ≡ storeAt (before out) at (entryOf (before area) a .value) ⌝ }
 {
     if a.kind == 0 {
         return;
@@ -76,7 +76,7 @@ fn put_value(out: &mut [u8], at: usize, a: Slot, area: &[u8], size: usize)
 // Stores the entry of a slot that was checked: length, kind and value; hands back the place after it.
 fn put_entry(out: &mut [u8], at: usize, a: Slot, area: &[u8], w: usize) -> usize
     requires { ⌜ EntryRoom w (now area) a at (length (now out)) × (a .len < numberLimit) ⌝ }
-    ensures { λ r. ⌜ (now (out .exit) ≡ storeAt (now (out .entry)) at (entryBytes w (entryOf (now (area .entry)) a))) × (r ≡ at + length (entryBytes w (entryOf (now (area .entry)) a))) ⌝ }
+    ensures { λ r. ⌜ (after out ≡ storeAt (before out) at (entryFor w (before area) a)) × (r ≡ at + length (entryFor w (before area) a)) ⌝ }
 {
     let size = value_size(a);
     record::numbers::put_number(out, at, w, (size + 1) as u64);
@@ -88,7 +88,7 @@ fn put_entry(out: &mut [u8], at: usize, a: Slot, area: &[u8], w: usize) -> usize
 // Stores all entries after the header.
 fn put_body(slots: &[u32], area: &[u8], out: &mut [u8], w: usize)
     requires { ⌜ BodyRoom w (now slots) (now area) (length (now out)) ⌝ }
-    ensures { λ _. ⌜ now (out .exit) ≡ storeAt (now (out .entry)) (headerSize w) (bodyFor w (now (slots .entry)) (now (area .entry))) ⌝ }
+    ensures { λ _. ⌜ after out ≡ storeAt (before out) (headerSize w) (bodyFor w (before slots) (before area)) ⌝ }
 {
     let count = slots.len() / record::SLOT_WIDTH;
     let mut at = w + 1;
@@ -103,7 +103,7 @@ fn put_body(slots: &[u32], area: &[u8], out: &mut [u8], w: usize)
 // The second pass: a sheet of n bytes, of version v.
 pub fn fill(slots: &[u32], area: &[u8], out: &mut [u8], v: u8, w: usize, n: usize)
     requires { ⌜ BodyRoom w (now slots) (now area) (length (now out)) × (n ≡ headerSize w + length (bodyFor w (now slots) (now area))) ⌝ }
-    ensures { λ _. ⌜ now (out .exit) ≡ storeAt (now (out .entry)) 0 (sheetFor v w (now (slots .entry)) (now (area .entry))) ⌝ }
+    ensures { λ _. ⌜ after out ≡ storeAt (before out) 0 (sheetFor v w (before slots) (before area)) ⌝ }
 {
     out[0] = v;
     let body = n - (w + 1);

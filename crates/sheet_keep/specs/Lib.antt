@@ -1,0 +1,2 @@
+-- What the contract of both calls cites.
+pub mod Keeping
