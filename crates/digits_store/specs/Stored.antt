@@ -1,7 +1,7 @@
 -- The byte that digits make, and what digits are asked for that are stored.
 use Prim.Native.Nat.{ℕ}
 use mathlib.Core.Path.{_≡_}
-use mathlib.Core.Bool.{Bool, true}
+use mathlib.Core.Bool.{Bool, true, false}
 use mathlib.Core.List.{List}
 use lib.ListN.{take}
 use Rattle.record.specs.Bytes.{part, fit, ceilDiv, number, ordered}
@@ -20,3 +20,6 @@ bytesOf hex n = ceilDiv n (perByte hex)
 -- the first n of the `len` characters from `start` on are digits
 abbrev pub FirstDigits : Bool → ℕ → List ℕ → ℕ → ℕ → Type 0
 FirstDigits hex n area start len = allDigits hex (take n (part area start len)) ≡ true
+
+abbrev pub FirstBits : ℕ → List ℕ → ℕ → ℕ → Type 0
+FirstBits n area start len = FirstDigits false n area start len

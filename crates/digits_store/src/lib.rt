@@ -12,7 +12,7 @@ ghost use Rattle.record.specs.Geometry.{base, perByte};
 ghost use Rattle.record.specs.Packing.{digitValue, stored};
 ghost use Rattle.digits.specs.Steps.{binarySteps, binaryBudget};
 ghost use Rattle.digits.specs.Numerals.{placeOf, DigitsAt, valuesAt};
-ghost use Rattle.digits_store.specs.Stored.{byteOf, bytesOf, FirstDigits};
+ghost use Rattle.digits_store.specs.Stored.{byteOf, bytesOf, FirstDigits, FirstBits};
 
 // The value of a digit: its low bits, and 9 more for a letter.
 fn value(c: u8, hex: bool) -> usize
@@ -194,7 +194,7 @@ fn store_whole(
     high: bool,
     budget: usize,
 ) -> usize
-    requires { ⌜ (8 * m ≤ maxArea) × (start + len ≤ length (now area)) × (at + m ≤ length (now out)) × FirstDigits false (8 * m) (now area) start len ⌝ }
+    requires { ⌜ (8 * m ≤ maxArea) × (start + len ≤ length (now area)) × (at + m ≤ length (now out)) × FirstBits (8 * m) (now area) start len ⌝ }
     requires { ⌜ m ≤ budget ⌝ }
     ensures steps { λ left. ⌜ m + left ≡ budget ⌝ }
     ensures { λ _. ⌜ after out ≡ storeAt (before out) at (stored (Digits false high) (8 * m) (part (before area) start len)) ⌝ }
@@ -235,7 +235,7 @@ fn store_last(
     high: bool,
     budget: usize,
 ) -> usize
-    requires { ⌜ (n < 8) × (start + len ≤ length (now area)) × (at + ceilDiv n 8 ≤ length (now out)) × FirstDigits false n (now area) start len × (n ≤ budget) ⌝ }
+    requires { ⌜ (n < 8) × (start + len ≤ length (now area)) × (at + ceilDiv n 8 ≤ length (now out)) × FirstBits n (now area) start len × (n ≤ budget) ⌝ }
     ensures steps { λ left. ⌜ n + left ≡ budget ⌝ }
     ensures { λ _. ⌜ after out ≡ storeAt (before out) at (stored (Digits false high) n (part (before area) start len)) ⌝ }
 {
@@ -262,7 +262,7 @@ pub fn store_binary(
     n: usize,
     high: bool,
 ) -> usize
-    requires { ⌜ (n ≤ maxArea) × (start + len ≤ length (now area)) × (at + ceilDiv n 8 ≤ length (now out)) × FirstDigits false n (now area) start len ⌝ }
+    requires { ⌜ (n ≤ maxArea) × (start + len ≤ length (now area)) × (at + ceilDiv n 8 ≤ length (now out)) × FirstBits n (now area) start len ⌝ }
     ensures steps { λ left. ⌜ binarySteps n + left ≡ binaryBudget n ⌝ }
     ensures { λ _. ⌜ after out ≡ storeAt (before out) at (stored (Digits false high) n (part (before area) start len)) ⌝ }
 {

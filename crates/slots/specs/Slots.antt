@@ -1,12 +1,12 @@
 -- Packing and reading over a slice of slot records (01, Slot tables): THE EFFECT OF A CALL is `pack` of the slots' numbers, and `readSlots`.
-use Prim.Native.Nat.{ℕ, suc, _+_, _*_}
+use Prim.Native.Nat.{ℕ, suc, _+_, _*_, min}
 use mathlib.Core.Path.{_≡_}
 use mathlib.Core.List.{List, [], _∷_, _++_}
 use lib.ListN.{getD, set, take, drop}
 use lib.Dec.{leb}
 use Rattle.layout.specs.declared.Refusal.the-variants.{BadSize}
 use Rattle.layout.specs.Refusals.{if_then_else_, refused}
-use Rattle.layout.specs.Lent.{Lent, before, after}
+use Rattle.layout.specs.Lent.{LentOf, Lent, before, after}
 use Rattle.record.specs.declared.ReadAnswer.{ReadAnswer}
 use Rattle.record.specs.Table.{maxSlots, slotWidth}
 use Rattle.record.specs.Packing.{Packed, pack, packEffect}
@@ -61,6 +61,10 @@ readPart layout bs slots n area mark = withRest (drop n slots) (readSlots layout
 abbrev pub rows : ℕ
 rows = suc maxSlots
 
+-- the first so many of them, or all
+abbrev pub firstRows : ℕ → List Slot → List Slot
+firstRows n slots = take (min n rows) slots
+
 -- ---- the steps of a call
 
 -- the slot at a place in the numbers
@@ -90,6 +94,11 @@ readFirst layout bs ns n area mark =
 abbrev pub ReadsFirst : Lent → Lent → Lent → ℕ → Lent → ℕ → ReadAnswer → Type 0
 ReadsFirst layout bytes numbers n area mark r =
     record { answer = r; slots = take (n * slotWidth) (after numbers); area = after area } ≡ readFirst (before layout) (before bytes) (before numbers) n (before area) mark
+
+-- the answer r, the slots and the area are what `readSlots` leaves
+abbrev pub ReadsSlots : Lent → Lent → LentOf (List Slot) → Lent → ℕ → ReadAnswer → Type 0
+ReadsSlots layout bytes slots area mark r =
+    record { answer = r; slots = after slots; area = after area } ≡ readSlots (before layout) (before bytes) (before slots) (before area) mark
 
 -- what `readPart` leaves, as an outcome and the area
 abbrev pub ReadsRows : Lent → Lent → List Slot → ℕ → Lent → ℕ → Outcome → Type 0

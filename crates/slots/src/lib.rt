@@ -7,7 +7,7 @@ ghost use lib.ListN.{length, take, drop};
 ghost use Rattle.layout.specs.Lent.{before, after};
 ghost use Rattle.record.specs.Table.{slotWidth};
 ghost use Rattle.record.specs.Packing.{pack};
-ghost use Rattle.slots.specs.Slots.{maxNumbers, numbersOf, slotsFrom, slotFrom, putAt, taken, packFirst, ReadsFirst, readSlots, rows, ReadsRows};
+ghost use Rattle.slots.specs.Slots.{maxNumbers, numbersOf, slotsFrom, slotFrom, putAt, taken, packFirst, ReadsFirst, ReadsSlots, rows, firstRows, ReadsRows};
 use layout::Refusal;
 use record::Answer;
 use record::ReadAnswer;
@@ -139,7 +139,7 @@ pub fn read_slots(
     area: &mut [u8],
     mark: usize,
 ) -> ReadAnswer
-    ensures { λ r. ⌜ record { answer = r; slots = after slots; area = after area } ≡ readSlots (before layout) (before bytes) (before slots) (before area) mark ⌝ }
+    ensures { λ r. ⌜ ReadsSlots layout bytes slots area mark r ⌝ }
 {
     let mut numbers = [0; record::MAX_NUMBERS];
     let count = load(slots, &mut numbers);
@@ -205,7 +205,7 @@ pub fn pack_some(
     area: &[u8],
     output: &mut [u8],
 ) -> Answer
-    ensures { λ r. ⌜ record { answer = r; output = after output } ≡ pack (before layout) (numbersOf (take (min count rows) slots)) (before area) (before output) ⌝ }
+    ensures { λ r. ⌜ record { answer = r; output = after output } ≡ pack (before layout) (numbersOf (firstRows count slots)) (before area) (before output) ⌝ }
 {
     pack_rows(layout, slots, record::least(count, ROWS), area, output)
 }
