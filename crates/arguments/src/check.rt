@@ -144,7 +144,7 @@ fn reals_serve(d: u32, n: Count, a: Slot, area: &[u8]) -> bool
     if a.kind != record::slots::REAL {
         return false;
     }
-    if area.len() < a.start + a.len * record::numbers::INTEGER_SIZE {
+    if area.len() < a.start + a.len * record::INTEGER_SIZE {
         return false;
     }
     if !is_enough(n, a.len) {

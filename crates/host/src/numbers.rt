@@ -13,14 +13,14 @@ fn number_at(bytes: &[u8], at: usize) -> u32
     requires { ⌜ at + numberSize ≤ length (now bytes) ⌝ }
     ensures { λ r. ⌜ r ≡ numberAt numberSize (now (bytes .entry)) at ⌝ }
 {
-    record::numbers::number_at(bytes, at, NUMBER_SIZE) as u32
+    big_endian::number_at(bytes, at, NUMBER_SIZE) as u32
 }
 
 fn put_number(out: &mut [u8], at: usize, x: u32)
     requires { ⌜ at + numberSize ≤ length (now out) ⌝ }
     ensures { λ _. ⌜ now (out .exit) ≡ storeAt (now (out .entry)) at (numberBytes numberSize x) ⌝ }
 {
-    record::numbers::put_number(out, at, NUMBER_SIZE, x as u64)
+    big_endian::put_number(out, at, NUMBER_SIZE, x as u64)
 }
 
 // The n numbers from number `from` on, out of the bytes where they stand.

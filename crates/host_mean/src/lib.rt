@@ -11,12 +11,11 @@ use layout::Refusal;
 use mean::LegMean;
 use mean::Marks;
 use record::Answer;
-use record::numbers;
 
 // Where the pattern stands in the reply, and the reply's bytes.
 const PATTERN_AT: usize = host::numbers::NUMBER_SIZE * 4;
 
-const REPLY_SIZE: usize = PATTERN_AT + numbers::INTEGER_SIZE;
+const REPLY_SIZE: usize = PATTERN_AT + record::INTEGER_SIZE;
 
 // Whether a reply of so many bytes is one of the mean.
 fn reply_fits(size: usize) -> bool
@@ -55,7 +54,7 @@ fn reply_with(reply: &mut [u8], r: Marks) -> u32
     let m = r.mean;
     let four: [u32; 4] = [a.number, a.first, a.second, follows(m)];
     host::numbers::encode_run(reply, &four, 0, 4);
-    numbers::put_number(reply, PATTERN_AT, numbers::INTEGER_SIZE, pattern(m));
+    big_endian::put_number(reply, PATTERN_AT, record::INTEGER_SIZE, pattern(m));
     a.number
 }
 

@@ -12,7 +12,6 @@ ghost use Rattle.record.specs.Table.{integerBytes, integersIn};
 ghost use Rattle.record.specs.Packing.{stored};
 ghost use Rattle.record.specs.Reading.{loaded, widened};
 ghost use Rattle.integers.specs.Items.{itemBytes, fillerOf, eights};
-use record::numbers;
 
 // Where byte j of a run of n stands before the run is turned round, or not.
 fn place(turn: bool, n: usize, j: usize) -> usize
@@ -99,7 +98,7 @@ fn turn_eight(out: &mut [u8], at: usize, from: &[u8], start: usize)
     put_low_first(
         out,
         at,
-        numbers::number_at(from, start, numbers::INTEGER_SIZE),
+        big_endian::number_at(from, start, record::INTEGER_SIZE),
     );
 }
 
@@ -228,7 +227,7 @@ fn load_pair(area: &mut [u8], to: usize, input: &[u8], at: usize, big: bool, uns
     ensures { λ _. ⌜ after area ≡ storeAt (before area) to (itemBytes 2 big unsigned (part (before input) at 2)) ⌝ }
 {
     let x = pair_number(pair_at(input, at), big);
-    numbers::put_number(area, to, numbers::INTEGER_SIZE, widen_pair(x, unsigned));
+    big_endian::put_number(area, to, record::INTEGER_SIZE, widen_pair(x, unsigned));
 }
 
 // Reads n integers of two bytes each.

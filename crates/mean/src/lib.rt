@@ -9,7 +9,6 @@ ghost use Rattle.mean.specs.Mean.{legOf, mean};
 ghost use Rattle.mean.specs.Walk.{turnOf, meanOfTally, Near};
 use layout::Refusal;
 use record::Answer;
-use record::numbers;
 use record::slots;
 
 const MAX_MARK: u64 = 1000000;
@@ -70,7 +69,7 @@ fn step(slots: &[u32], area: &[u8], k: usize, t: Tally) -> Turn
     if s.len != 1 {
         return Turn::Stop(Refusal::WrongAmount);
     }
-    let mark = numbers::number_at(area, s.start, numbers::INTEGER_SIZE);
+    let mark = big_endian::number_at(area, s.start, record::INTEGER_SIZE);
     if MAX_MARK < mark {
         return Turn::Stop(Refusal::BadMark);
     }

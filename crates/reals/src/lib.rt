@@ -12,7 +12,6 @@ ghost use Rattle.record.specs.Table.{integerBytes, integersIn};
 ghost use Rattle.record.specs.Packing.{stored, noNaN};
 ghost use Rattle.record.specs.Reading.{loaded};
 ghost use Rattle.reals.specs.Items.{singleBytes, doubleBytes};
-use record::numbers;
 
 // The bytes of a single and of a double.
 const SINGLE: usize = 4;
@@ -26,7 +25,7 @@ pub fn no_nan(area: &[u8], start: usize, n: usize) -> bool
 {
     let mut i = 0;
     while i < n {
-        let d = numbers::number_at(area, start + i * DOUBLE, DOUBLE);
+        let d = big_endian::number_at(area, start + i * DOUBLE, DOUBLE);
         if real::is_nan(d) {
             return false;
         }
@@ -57,9 +56,9 @@ fn store_single(out: &mut [u8], at: usize, area: &[u8], from: usize, big: bool)
     requires { ⌜ (at + 4 ≤ length (now out)) × (from + 8 ≤ length (now area)) ⌝ }
     ensures { λ _. ⌜ now (out .exit) ≡ storeAt (now (out .entry)) at (singleBytes big (numberAt 8 (now (area .entry)) from)) ⌝ }
 {
-    let d = numbers::number_at(area, from, DOUBLE);
+    let d = big_endian::number_at(area, from, DOUBLE);
     let s = in_order(big, real::narrow(d));
-    numbers::put_number(out, at, SINGLE, s as u64);
+    big_endian::put_number(out, at, SINGLE, s as u64);
 }
 
 // Stores n doubles of the area as singles.
@@ -98,9 +97,9 @@ fn load_single(area: &mut [u8], to: usize, input: &[u8], at: usize, big: bool)
     requires { ⌜ (to + 8 ≤ length (now area)) × (at + 4 ≤ length (now input)) ⌝ }
     ensures { λ _. ⌜ now (area .exit) ≡ storeAt (now (area .entry)) to (doubleBytes big (part (now (input .entry)) at 4)) ⌝ }
 {
-    let s = numbers::number_at(input, at, SINGLE) as u32;
+    let s = big_endian::number_at(input, at, SINGLE) as u32;
     let d = real::widen(in_order(big, s));
-    numbers::put_number(area, to, DOUBLE, d);
+    big_endian::put_number(area, to, DOUBLE, d);
 }
 
 // Reads the doubles of n singles.

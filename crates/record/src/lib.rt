@@ -13,7 +13,6 @@ use layout::Count;
 use layout::Refusal;
 use layout::Shape;
 
-pub mod numbers;
 pub mod slots;
 
 // The limits of document 01, and how many numbers make a slot.
@@ -24,6 +23,9 @@ pub const MAX_RECORD: usize = 32768;
 pub const MAX_AREA: usize = 524288;
 
 pub const SLOT_WIDTH: usize = 4;
+
+// The bytes of an integer or a double in the area.
+pub const INTEGER_SIZE: usize = 8;
 
 // The numbers of the slots that a call may be lent.
 pub const MAX_NUMBERS: usize = SLOT_WIDTH * MAX_SLOTS;

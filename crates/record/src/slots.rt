@@ -4,8 +4,8 @@ ghost use Prim.Native.Nat.{_+_, _*_, _≤_, _<_};
 ghost use lib.ListN.{length};
 ghost use Rattle.record.specs.Table.{slotWidth, numberLimit, isIntegers, itemSize};
 ghost use Rattle.record.specs.Slots.{SlotAt, slotSet, isInside};
+use super::INTEGER_SIZE;
 use super::SLOT_WIDTH;
-use super::numbers::INTEGER_SIZE;
 
 // What a slot says of its value, and the position in the record at which its field began.
 pub struct Slot {

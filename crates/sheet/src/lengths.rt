@@ -35,6 +35,6 @@ pub fn length_at(bytes: &[u8], at: usize, w: usize) -> usize
     requires { ⌜ (w ≤ integerSize) × (at + w ≤ length (now bytes)) ⌝ }
     ensures { λ r. ⌜ r ≡ numberAt w (drop at (now (bytes .entry))) 0 ⌝ }
 {
-    let n = record::numbers::number_at(bytes, at, w);
+    let n = big_endian::number_at(bytes, at, w);
     n as usize
 }

@@ -79,7 +79,7 @@ fn put_entry(out: &mut [u8], at: usize, a: Slot, area: &[u8], w: usize) -> usize
     ensures { λ r. ⌜ (after out ≡ storeAt (before out) at (entryFor w (before area) a)) × (r ≡ at + length (entryFor w (before area) a)) ⌝ }
 {
     let size = value_size(a);
-    record::numbers::put_number(out, at, w, (size + 1) as u64);
+    big_endian::put_number(out, at, w, (size + 1) as u64);
     out[at + w] = a.kind as u8;
     put_value(out, at + (w + 1), a, area, size);
     at + (w + 1 + size)
@@ -107,6 +107,6 @@ pub fn fill(slots: &[u32], area: &[u8], out: &mut [u8], v: u8, w: usize, n: usiz
 {
     out[0] = v;
     let body = n - (w + 1);
-    record::numbers::put_number(out, 1, w, body as u64);
+    big_endian::put_number(out, 1, w, body as u64);
     put_body(slots, area, out, w)
 }

@@ -1,8 +1,8 @@
 // The values that slots show: strings in quotes, integers in braces, reals by their patterns in angle brackets, `not set` for a slot that is not set.
 use super::print;
 use super::print::Style;
+use record::INTEGER_SIZE;
 use record::SLOT_WIDTH;
-use record::numbers::INTEGER_SIZE;
 
 // Of a table longer than this, only a few slots at either end are shown.
 const LONG: usize = 8 * SLOT_WIDTH;
@@ -52,7 +52,7 @@ fn integers(run: &[u8], kind: u32) {
     while i < n {
         between(i, false);
         integer(
-            record::numbers::number_at(run, i * INTEGER_SIZE, INTEGER_SIZE),
+            big_endian::number_at(run, i * INTEGER_SIZE, INTEGER_SIZE),
             kind,
         );
         i += 1;

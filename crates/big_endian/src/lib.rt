@@ -2,11 +2,8 @@
 ghost use mathlib.Core.Path.{_≡_};
 ghost use Prim.Native.Nat.{_+_, _^_, _≤_, _<_};
 ghost use lib.ListN.{length};
 ghost use Rattle.record.specs.Bytes.{storeAt, numberBytes, numberAt};
 ghost use Rattle.record.specs.Table.{integerSize};
-
-// The bytes of an integer or a double in the area, and the most that a number here has.
-pub const INTEGER_SIZE: usize = 8;
 
 // The number that the w bytes from a place on make.
 pub fn number_at(bytes: &[u8], at: usize, w: usize) -> u64
@@ -49,7 +46,7 @@ pub fn put_number(out: &mut [u8], at: usize, w: usize, x: u64)
     requires { ⌜ at + w ≤ length (now out) ⌝ }
     ensures { λ _. ⌜ now (out .exit) ≡ storeAt (now (out .entry)) at (numberBytes w x) ⌝ }
 {
-    if w == INTEGER_SIZE {
+    if w == record::INTEGER_SIZE {
         return put_eight(out, at, x);
     }
     let mut rest = x;

@@ -3,9 +3,9 @@ use Prim.Native.Nat.{_+_, _-_, _≤_, _<_}
 use native.Mathlib.Omega.{arith}
 use mathlib.Core.Path.{_≡_}
 use lib.ListN.{getD}
 use Rattle.record.proofs.NumberLaws.{Taken, taken-none, taken-next, taken-below}
-use Rattle.record.proofs.numbers.number_at.Statement.{statement}
-use Rattle.record.proofs.numbers.number_at.Tie as tie
+use Rattle.big_endian.proofs.number_at.Statement.{statement}
+use Rattle.big_endian.proofs.number_at.Tie as tie
 
 abbrev Inv-loop : tie.InvT-loop
 Inv-loop bytes at w x₀ j₀ x j = (j ≤ w) × Taken bytes at j x

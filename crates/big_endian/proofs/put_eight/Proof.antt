@@ -1,10 +1,10 @@
 -- Eight turns of `Putting`: each store puts the lowest byte that is left in front of those behind it.
 use native.Mathlib.Omega.{arith}
 use lib.ListN.{length-set}
 use Rattle.record.proofs.NumberLaws.{eight-put}
 use borrow.Author.Needs.{needs}
-use Rattle.record.proofs.numbers.put_eight.Statement.{statement}
-use Rattle.record.proofs.numbers.put_eight.Tie as tie
+use Rattle.big_endian.proofs.put_eight.Statement.{statement}
+use Rattle.big_endian.proofs.put_eight.Tie as tie
 
 cast-out : tie.Need-cast-out
 cast-out c = search needs

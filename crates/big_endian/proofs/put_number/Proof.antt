@@ -1,9 +1,9 @@
 -- A turn puts the lowest byte that is left in front of those behind it: the loop keeps `Putting`. All eight are put at once.
 use native.Mathlib.Omega.{arith}
 use borrow.Author.Needs.{needs}
 use Rattle.record.proofs.NumberLaws.{Putting, putting-none, putting-next, putting-done}
-use Rattle.record.proofs.numbers.put_number.Statement.{statement}
-use Rattle.record.proofs.numbers.put_number.Tie as tie
+use Rattle.big_endian.proofs.put_number.Statement.{statement}
+use Rattle.big_endian.proofs.put_number.Tie as tie
 
 abbrev Inv-loop : tie.InvT-loop
 Inv-loop out₀ at w x rest₀ left₀ out rest left = Putting out₀ at w x out left rest
