@@ -51,7 +51,7 @@ pub fn describe(layout: &[u8]) -> Answer
         return Answer::refused(Refusal::BadSize, 0);
     }
     let mut words: [u32; layout::MAX_LAYOUT] = [0; layout::MAX_LAYOUT];
-    let p = layout::parse(layout, true, &mut words);
+    let p = parser::parse(layout, true, &mut words);
     match p {
         Parsed::Refused(why, place) => Answer::refused(why, place as u32),
         Parsed::Fields(n, needed) => {

@@ -1,7 +1,7 @@
 -- Laws of layout text. Laws, Numbered, Decoded, Places, Joining and the last laws of Steps are for the crates above; Letters, Steps and Turns serve `parse`.
-mod Letters
+pub mod Letters
 pub mod Steps
-mod Turns
+pub mod Turns
 pub mod Laws
 pub mod Numbered
 pub mod Decoded

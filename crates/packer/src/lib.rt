@@ -47,7 +47,7 @@ pub fn pack(layout: &[u8], slots: &[u32], area: &[u8], output: &mut [u8]) -> Ans
         return Answer::refused(Refusal::BadSize, 0);
     }
     let mut words: [u32; layout::MAX_LAYOUT] = [0; layout::MAX_LAYOUT];
-    let p = layout::parse(layout, true, &mut words);
+    let p = parser::parse(layout, true, &mut words);
     match p {
         Parsed::Refused(why, place) => Answer::refused(why, place as u32),
         Parsed::Fields(n, needed) => {

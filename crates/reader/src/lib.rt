@@ -55,7 +55,7 @@ pub fn check(layout: &[u8], bytes: &[u8], slots: &[u32], area: &[u8], mark: usiz
         return Answer::refused(Refusal::BadSize, 0);
     }
     let mut words: [u32; layout::MAX_LAYOUT] = [0; layout::MAX_LAYOUT];
-    let p = layout::parse(layout, false, &mut words);
+    let p = parser::parse(layout, false, &mut words);
     match p {
         Parsed::Refused(why, place) => Answer::refused(why, place as u32),
         Parsed::Fields(n, taken) => {
@@ -82,7 +82,7 @@ pub fn read(
         };
     }
     let mut words: [u32; layout::MAX_LAYOUT] = [0; layout::MAX_LAYOUT];
-    let p = layout::parse(layout, false, &mut words);
+    let p = parser::parse(layout, false, &mut words);
     match p {
         Parsed::Refused(why, place) => ReadAnswer {
             answer: Answer::refused(why, place as u32),

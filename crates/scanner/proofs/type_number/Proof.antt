@@ -2,11 +2,11 @@
 use Prim.Native.Nat.{_+_, _%_}
 use native.Mathlib.Omega.{arith}
 use mathlib.Core.Path.{_≡_, sym, _∙_}
 use Rattle.layout.proofs.Letters.{no-letter}
 use Rattle.layout.proofs.Numbered.{number-unknown}
 use borrow.Author.Needs.{needs}
-use Rattle.layout.proofs.type_number.Statement.{statement}
-use Rattle.layout.proofs.type_number.Tie as tie
+use Rattle.scanner.proofs.type_number.Statement.{statement}
+use Rattle.scanner.proofs.type_number.Tie as tie
 
 letter-requires : tie.Need-letter-requires
 letter-requires c κs = search needs

@@ -6,11 +6,11 @@ use mathlib.Core.Bool.{false}
 use mathlib.Core.Logic.{⊎-elim}
 use borrow.Author.Tests.{ne-eqb}
 use lib.Dec.{eqb}
 use Rattle.layout.specs.declared.Typed.the-variants.{Unknown}
 use Rattle.layout.specs.Layout.{typeOf}
 use Rattle.layout.specs.Words.{typeNumbered}
-use Rattle.layout.proofs.letter.Statement.{statement}
-use Rattle.layout.proofs.letter.Tie as tie
+use Rattle.scanner.proofs.letter.Statement.{statement}
+use Rattle.scanner.proofs.letter.Tie as tie
 
 returns : tie.Need-returns
 unfolding typeOf typeNumbered

@@ -9,10 +9,10 @@ use mathlib.Core.List.{List}
 use lib.ListN.{length}
 use borrow.Author.Needs.{needs}
 use denote.Ref.{now}
 use Rattle.layout.specs.Words.{rest}
 use Rattle.layout.proofs.Laws.{over-space}
-use Rattle.layout.proofs.spaces_end.Statement.{statement}
-use Rattle.layout.proofs.spaces_end.Tie as tie
+use Rattle.scanner.proofs.spaces_end.Statement.{statement}
+use Rattle.scanner.proofs.spaces_end.Tie as tie
 
 abbrev Inv-loop : tie.InvT-loop
 Inv-loop text at i₀ i = (at ≤ i) × (i ≤ length text) × ((packing : Bool) → rest packing text at ≡ rest packing text i)

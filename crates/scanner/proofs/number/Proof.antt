@@ -8,12 +8,12 @@ use native.Mathlib.Omega.{arith}
 use lib.ListN.{length, drop, getD}
 use borrow.Author.Needs.{needs}
 use denote.Ref.{now}
 use Rattle.layout.specs.Layout.{isDecimal, digitRun, decimal}
 use Rattle.layout.specs.Words.{overCount, NumberAt}
 use Rattle.layout.proofs.Laws.{run-on, run-stop, run-end}
 use Rattle.layout.proofs.Steps.{decimal-stop, decimal-end, held-on, is-decimal, below-decimal, above-decimal}
-use Rattle.layout.proofs.number.Statement.{statement}
-use Rattle.layout.proofs.number.Tie as tie
+use Rattle.scanner.proofs.number.Statement.{statement}
+use Rattle.scanner.proofs.number.Tie as tie
 
 abbrev Inv-loop : tie.InvT-loop
 Inv-loop text at v₀ i₀ v i =

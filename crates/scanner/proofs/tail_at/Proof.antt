@@ -1,11 +1,11 @@
 -- A flag is taken where the byte is `u`, and the count stands after it.
 use native.Mathlib.Omega.{arith}
 use mathlib.Core.Path.{ap}
 use Rattle.layout.specs.Layout.{toNat}
 use Rattle.layout.proofs.Steps.{flag-end, flag-other, flag-here, count-end, count-none, above-decimal, tail-plain}
 use borrow.Author.Needs.{needs}
-use Rattle.layout.proofs.tail_at.Statement.{statement}
-use Rattle.layout.proofs.tail_at.Tie as tie
+use Rattle.scanner.proofs.tail_at.Statement.{statement}
+use Rattle.scanner.proofs.tail_at.Tie as tie
 
 returns : tie.Need-returns
 returns c = tail-plain _ _ _ _ (flag-end _ _ (c .if1 .taken)) (count-end _ _ (c .if1 .taken))
