@@ -26,7 +26,7 @@ fn kind_fits(s: Shape, kind: usize) -> bool
     match s {
         Shape::Text(_) => kind == 1,
         Shape::Digits(_, _) => kind == 1,
-        Shape::Integers(_, _) => record::slots::is_integers(kind),
+        Shape::Integers(_, _) => slot_table::is_integers(kind),
         Shape::Reals(_, _) => kind == record::slots::REAL,
     }
 }
@@ -98,7 +98,7 @@ pub fn check(s: Shape, n: Count, a: Slot, k: usize, area: &[u8]) -> Verdict
     if a.kind == 0 {
         return Verdict::Refused(Refusal::NotSet, k);
     }
-    if !record::slots::is_inside(a, area.len()) {
+    if !slot_table::is_inside(a, area.len()) {
         return Verdict::Refused(Refusal::BadSlot, k);
     }
     if !kind_fits(s, a.kind) {

@@ -47,7 +47,7 @@ fn step_exactly(code: Code, n: Count, slots: &[u32], area: &[u8], k: usize, c: C
 {
     match code {
         Code::Data(s) => {
-            let a = record::slots::slot_at(slots, k);
+            let a = slot_table::slot_at(slots, k);
             let v = check::check(s, n, a, k, area);
             match v {
                 Verdict::Refused(why, place) => Stepped::Stop(why, place),
@@ -68,7 +68,7 @@ fn step(word: u32, slots: &[u32], area: &[u8], k: usize, c: Cursor) -> Stepped
 {
     let d = word % layout::FLAG_UNIT;
     if d <= layout::LAST_DATA {
-        let a = record::slots::slot_at(slots, k);
+        let a = slot_table::slot_at(slots, k);
         let n = layout::count_from(word / layout::COUNT_UNIT);
         if check::serves(d, n, a, area) {
             let bytes = record::bytes_numbered(d, record::amount(n, a.len));

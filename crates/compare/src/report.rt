@@ -23,10 +23,10 @@ fn value_span(slots: &[u32], i: usize) -> Span
     requires { ⌜ slotWidth * i + slotWidth ≤ length (now slots) ⌝ }
     ensures { λ r. ⌜ r ≡ spanAt (now (slots .entry)) i ⌝ }
 {
-    let s = record::slots::slot_at(slots, i);
+    let s = slot_table::slot_at(slots, i);
     Span {
         start: s.start,
-        size: s.len * record::slots::item_size(s.kind),
+        size: s.len * slot_table::item_size(s.kind),
     }
 }
 

@@ -9,7 +9,6 @@ ghost use Rattle.mean.specs.Mean.{legOf, mean};
 ghost use Rattle.mean.specs.Walk.{turnOf, meanOfTally, Near};
 use layout::Refusal;
 use record::Answer;
-use record::slots;
 
 const MAX_MARK: u64 = 1000000;
 
@@ -52,7 +51,7 @@ fn step(slots: &[u32], area: &[u8], k: usize, t: Tally) -> Turn
     requires { ⌜ (slotWidth * k + slotWidth ≤ length (now slots)) × Near k t ⌝ }
     ensures { λ r. ⌜ r ≡ turnOf t (legOf (now (area .entry)) k (slotAt (now (slots .entry)) k)) ⌝ }
 {
-    let s = slots::slot_at(slots, k);
+    let s = slot_table::slot_at(slots, k);
     if s.kind == 0 {
         return Turn::Next(Tally {
             sum: t.sum,
@@ -60,10 +59,10 @@ fn step(slots: &[u32], area: &[u8], k: usize, t: Tally) -> Turn
             unset: t.unset + 1,
         });
     }
-    if !slots::is_inside(s, area.len()) {
+    if !slot_table::is_inside(s, area.len()) {
         return Turn::Stop(Refusal::BadSlot);
     }
-    if !slots::is_integers(s.kind) {
+    if !slot_table::is_integers(s.kind) {
         return Turn::Stop(Refusal::WrongKind);
     }
     if s.len != 1 {

@@ -39,7 +39,7 @@ fn put(word: u32, slots: &[u32], area: &[u8], k: usize, c: Cursor, out: &mut [u8
 {
     let d = word % layout::FLAG_UNIT;
     if d <= layout::LAST_DATA {
-        let a = record::slots::slot_at(slots, k);
+        let a = slot_table::slot_at(slots, k);
         let n = layout::count_from(word / layout::COUNT_UNIT);
         let bytes = stores::store_value(d, record::amount(n, a.len), a, area, out, c.at);
         return c.store(bytes);

@@ -32,7 +32,7 @@ fn put(
     ensures { λ r. ⌜ PutAs (valueAt (before bytes) at (shapeNumbered d) u n) at (before slots) k (before area) to r (after slots) (after area) ⌝ }
 {
     let v = value::load(area, to, bytes, at, d, u, n);
-    record::slots::set_slot(slots, k, v.kind, to, v.items, at);
+    slot_table::set_slot(slots, k, v.kind, to, v.items, at);
     to + v.size
 }
 

@@ -66,7 +66,7 @@ fn blank(slots: &mut [u32], k: usize, n: usize)
 {
     let mut i: usize = 0;
     while i < n {
-        record::slots::set_slot(slots, k + i, 0, 0, 0, record::slots::NO_POSITION);
+        slot_table::set_slot(slots, k + i, 0, 0, 0, record::slots::NO_POSITION);
         i += 1;
     }
 }

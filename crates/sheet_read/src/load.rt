@@ -65,7 +65,7 @@ fn whole_items(kind: u8, n: usize) -> bool
     if kind == 0 {
         return n == 0;
     }
-    n % record::slots::item_size(kind as usize) == 0
+    n % slot_table::item_size(kind as usize) == 0
 }
 
 // A whole entry stands at a place.
@@ -141,7 +141,7 @@ fn start_of(kind: u8, place: usize) -> usize
 fn items_of(kind: u8, size: usize) -> usize
     ensures { λ r. ⌜ r ≡ size / itemSize kind ⌝ }
 {
-    size / record::slots::item_size(kind as usize)
+    size / slot_table::item_size(kind as usize)
 }
 
 // The entry at a place goes into slot k and into the area from the place `to` on; hands back the bytes of its value.
@@ -160,7 +160,7 @@ fn put(
 {
     let size = lengths::length_at(sheet, at, w) - 1;
     let kind = sheet[at + w];
-    record::slots::set_slot(
+    slot_table::set_slot(
         slots,
         k,
         kind as u32,

@@ -9,7 +9,6 @@ ghost use Rattle.record.specs.Table.{slotWidth, maxSlots, maxArea, numberLimit}
 ghost use Rattle.sheet.specs.Sheet.{version1, widthOf, headerSize, valueSize, entryOf, slotFits};
 ghost use Rattle.sheet.specs.Steps.{sheetFor, bodyFor};
 ghost use Rattle.sheet_write.specs.Steps.{MeasuredAs, entryFor, EntryRoom, BodyRoom};
-use record::slots;
 use record::slots::Slot;
 use sheet::lengths;
 
@@ -28,7 +27,7 @@ fn slot_fits(a: Slot, area: usize) -> bool
     if kind == 0 {
         return true;
     }
-    slots::is_inside(a, area)
+    slot_table::is_inside(a, area)
 }
 
 // The bytes of a slot's value.
@@ -40,7 +39,7 @@ fn value_size(a: Slot) -> usize
     if kind == 0 {
         return 0;
     }
-    a.len * slots::item_size(kind)
+    a.len * slot_table::item_size(kind)
 }
 
 // The first pass over the slots. Nothing is written.
@@ -52,7 +51,7 @@ pub fn measure(slots: &[u32], area: &[u8]) -> Measured
     let mut size = lengths::HEADER_1;
     let mut k: usize = 0;
     while k < count {
-        let a = slots::slot_at(slots, k);
+        let a = slot_table::slot_at(slots, k);
         if !slot_fits(a, area.len()) {
             return Measured::Bad(k);
         }
@@ -94,7 +93,7 @@ fn put_body(slots: &[u32], area: &[u8], out: &mut [u8], w: usize)
     let mut at = w + 1;
     let mut k: usize = 0;
     while k < count {
-        let a = slots::slot_at(slots, k);
+        let a = slot_table::slot_at(slots, k);
         at = put_entry(out, at, a, area, w);
         k += 1;
     }

@@ -2,11 +2,11 @@
 use Prim.Native.Nat.{_+_, _*_}
 use mathlib.Core.Path.{refl}
 use native.Mathlib.Omega.{arith}
 use Rattle.record.specs.Table.{slotWidth}
 use Rattle.record.specs.Slots.{slotAt}
 use borrow.Author.Needs.{needs}
-use Rattle.record.proofs.slots.slot_at.Statement.{statement}
-use Rattle.record.proofs.slots.slot_at.Tie as tie
+use Rattle.slot_table.proofs.slot_at.Statement.{statement}
+use Rattle.slot_table.proofs.slot_at.Tie as tie
 
 mul-at : tie.Need-mul-at
 mul-at c = search needs

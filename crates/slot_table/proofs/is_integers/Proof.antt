@@ -1,7 +1,7 @@
 -- The tests of the code are the definition's.
 use borrow.Author.Tests.{eq-eqb, ne-eqb}
-use Rattle.record.proofs.slots.is_integers.Statement.{statement}
-use Rattle.record.proofs.slots.is_integers.Tie as tie
+use Rattle.slot_table.proofs.is_integers.Statement.{statement}
+use Rattle.slot_table.proofs.is_integers.Tie as tie
 
 returns : tie.Need-returns
 returns c = simp (eq-eqb _ _ (c .if1 .taken))

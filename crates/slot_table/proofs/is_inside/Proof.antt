@@ -2,11 +2,11 @@
 use Prim.Native.Nat.{_*_, _≤_}
 use native.Mathlib.Omega.{arith}
 use borrow.Author.Tests.{le-leb, lt-leb}
 use Rattle.record.specs.Table.{numberLimit, integerSize}
 use Rattle.record.proofs.Bounds.{item-small, product-small}
 use borrow.Author.Needs.{needs}
-use Rattle.record.proofs.slots.is_inside.Statement.{statement}
-use Rattle.record.proofs.slots.is_inside.Tie as tie
+use Rattle.slot_table.proofs.is_inside.Statement.{statement}
+use Rattle.slot_table.proofs.is_inside.Tie as tie
 
 returns : tie.Need-returns
 returns c = simp (lt-leb _ _ (c .if1 .taken))

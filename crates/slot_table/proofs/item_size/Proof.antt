@@ -1,7 +1,7 @@
 -- The test of the code is the definition's.
 use borrow.Author.Tests.{eq-eqb, ne-eqb}
-use Rattle.record.proofs.slots.item_size.Statement.{statement}
-use Rattle.record.proofs.slots.item_size.Tie as tie
+use Rattle.slot_table.proofs.item_size.Statement.{statement}
+use Rattle.slot_table.proofs.item_size.Tie as tie
 
 returns : tie.Need-returns
 returns c = simp (eq-eqb _ _ (c .if1 .taken))
