@@ -1,12 +1,12 @@
 -- Laws of reals in fields: a single's four bytes in either order, and many singles, one after the other.
 use Prim.Native.Nat.{ℕ, zero, suc, _+_, _-_, _*_, _/_, _%_, _^_, _≤_, _<_}
-use native.Mathlib.Nat.{mod-eq-of-lt, mod-lt, div-add-mod', div-div-eq-div-mul}
+use native.Mathlib.Nat.{add-zero, mod-eq-of-lt, mod-lt, div-add-mod', div-div-eq-div-mul, pow-suc}
 use native.Mathlib.Omega.{arith}
 use mathlib.Core.Path.{_≡_, refl, sym, ap, _∙_}
 use mathlib.Core.Bool.{Bool, true, false, _&&_, not}
 use mathlib.Core.List.{List, [], _∷_, map, map-map, reverse, reverse-reverse}
 use lib.ListN.{length, take, drop, getD, length-map}
-use lib.Seq.{take-all, drop-drop}
+use lib.Seq.{take-all, drop-drop, drop-cons}
 use Rattle.layout.specs.declared.Shape.the-variants.{Integers, Reals}
 use Rattle.real.specs.Patterns.{isNaN}
 use Rattle.real.specs.Narrowing.{singleOf}
@@ -16,7 +16,7 @@ use Rattle.record.specs.Table.{integerBytes, integersIn}
 use Rattle.record.specs.Packing.{stored, lowBytes, noNaN}
 use Rattle.record.specs.Reading.{loaded, widened}
 use Rattle.record.proofs.Bytes.{All, all-ordered, length-pieces, length-digits, length-ordered, number-digits, digits-number}
-use Rattle.record.proofs.NumberLaws.{length-numberBytes}
+use Rattle.record.proofs.NumberLaws.{length-numberBytes, bytes-next}
 use Rattle.record.proofs.Stores.{runs, length-part}
 use Rattle.integers.proofs.IntegerLaws.{joined, pieces-take, part-bytes}
 use Rattle.reals.specs.Items.{singleBytes, doubleBytes}
@@ -75,6 +75,70 @@ single-in input at big s r small inside es er below =
     let own : number 256 (digits 256 4 r) ≡ r = number-digits 256 4 r (omega arith) ∙ mod-eq-of-lt below in
     let turned : digits 256 4 r ≡ ordered big p = sym (reverse-reverse (digits 256 4 r)) ∙ ap reverse (er ∙ ap (ordered big) bytes) ∙ order-back big p in
     sym own ∙ ap (number 256) turned
+
+-- ---- eight bytes as a number, the first in the lowest place
+
+abbrev pub EightBytes : List ℕ → ℕ → Type 0
+EightBytes bs at =
+    (getD bs at 0 < 256) × (getD bs (at + 1) 0 < 256) × (getD bs (at + 2) 0 < 256) × (getD bs (at + 3) 0 < 256) × (getD bs (at + 4) 0 < 256) × (getD bs (at + 5) 0 < 256)
+    × (getD bs (at + 6) 0 < 256) × (getD bs (at + 7) 0 < 256)
+
+pub eight-bytes : (bs : List ℕ) (at : ℕ) → ((i : ℕ) → getD bs i 0 < 256) → EightBytes bs at
+eight-bytes bs at h = (h at, h (at + 1), h (at + 2), h (at + 3), h (at + 4), h (at + 5), h (at + 6), h (at + 7))
+
+module _ (bs : List ℕ) (at : ℕ) (inside : at + 8 ≤ length bs) where
+  next-byte : (j w x : ℕ) → j < 8 → x ≡ number 256 (part bs (at + suc j) w) → getD bs (at + j) 0 + 256 * x ≡ number 256 (part bs (at + j) (suc w))
+  unfolding number
+  next-byte j w x h e = let on : at + suc j ≡ suc (at + j) = omega arith in rw (drop-cons bs (at + j) 0 (omega arith), e, on)
+
+  last-byte : getD bs (at + 7) 0 ≡ number 256 (part bs (at + 7) 1)
+  unfolding number
+  last-byte = let e : getD bs (at + 7) 0 + 256 * 0 ≡ number 256 (part bs (at + 7) 1) = next-byte 7 0 0 (omega arith) refl in omega arith
+
+  pub low-eight : getD bs at 0 + 256 * (getD bs (at + 1) 0 + 256 * (getD bs (at + 2) 0 + 256 * (getD bs (at + 3) 0 + 256 * (getD bs (at + 4) 0 + 256 * (getD bs (at + 5) 0
+      + 256 * (getD bs (at + 6) 0 + 256 * getD bs (at + 7) 0)))))) ≡ number 256 (part bs at 8)
+  low-eight =
+      let x6 = next-byte 6 1 _ (omega arith) last-byte in
+      let x5 = next-byte 5 2 _ (omega arith) x6 in
+      let x4 = next-byte 4 3 _ (omega arith) x5 in
+      let x3 = next-byte 3 4 _ (omega arith) x4 in
+      let x2 = next-byte 2 5 _ (omega arith) x3 in
+      let x1 = next-byte 1 6 _ (omega arith) x2 in
+      rw add-zero at (next-byte 0 7 _ (omega arith) x1)
+
+-- turned round: what stands after j digits of x, and what they leave
+record Turning (x j y rest : ℕ) : Type 0 where
+  is : y ≡ number 256 (numberBytes j x)
+  over : rest ≡ x / 256 ^ j
+
+turning-first : (x : ℕ) → Turning x 1 (x % 256) (x / 256)
+unfolding numberBytes digits number
+turning-first x = record { is = omega arith; over = refl }
+
+swap-sum : (a b : ℕ) → b * 256 + a ≡ a + 256 * b
+swap-sum a b = omega arith
+
+turning-next : {x j y rest : ℕ} → Turning x j y rest → Turning x (suc j) (y * 256 + rest % 256) (rest / 256)
+unfolding number
+turning-next {x} {j} {y} {rest} t = record {
+  is = rw (t .over, t .is, bytes-next j x) (swap-sum (x / 256 ^ j % 256) (number 256 (numberBytes j x)));
+  over = rw (t .over, pow-suc 256 j) (div-div-eq-div-mul x (256 ^ j) 256);
+}
+
+pub turned-eight : (x : ℕ) → ((((((x % 256 * 256 + x / 256 % 256) * 256 + x / 256 / 256 % 256) * 256 + x / 256 / 256 / 256 % 256) * 256 + x / 256 / 256 / 256 / 256 % 256) * 256
+    + x / 256 / 256 / 256 / 256 / 256 % 256) * 256 + x / 256 / 256 / 256 / 256 / 256 / 256 % 256) * 256 + x / 256 / 256 / 256 / 256 / 256 / 256 / 256 % 256
+    ≡ number 256 (numberBytes 8 x)
+turned-eight x =
+    let t4 = turning-next (turning-next (turning-next (turning-first x))) in
+    turning-next (turning-next (turning-next (turning-next t4))) .is
+
+pub double-is : (bs : List ℕ) (at x r : ℕ) → ((i : ℕ) → getD bs i 0 < 256) → at + 8 ≤ length bs → x ≡ number 256 (part bs at 8) → r ≡ number 256 (numberBytes 8 x) → r ≡ numberAt 8 bs at
+unfolding numberBytes numberAt
+double-is bs at x r small inside ex er =
+    let p : List ℕ = part bs at 8 in
+    let long : length p ≡ 8 = length-part 8 at bs inside in
+    let bytes : digits 256 8 x ≡ p = ap (digits 256 8) ex ∙ ap (λ (k : ℕ). digits 256 k (number 256 p)) (sym long) ∙ digits-number 256 p (part-bytes bs at 8 small) in
+    er ∙ ap (λ (ds : List ℕ). number 256 (reverse ds)) bytes
 
 -- ---- one real
 

@@ -19,14 +19,14 @@ abbrev μ-loop : tie.MeasureT-loop
 loop-holds : tie.Need-loop-holds Inv-loop μ-loop
 loop-holds c = let a = c .before .args in (omega arith, from-start (a .area .now) (a .start) (a .n))
 
-mul-number-at : tie.Need-mul-number-at Inv-loop μ-loop
-mul-number-at c = omega arith
+mul-double-at : tie.Need-mul-double-at Inv-loop μ-loop
+mul-double-at c = omega arith
 
-add-number-at : tie.Need-add-number-at Inv-loop μ-loop
-add-number-at c = omega arith
+add-double-at : tie.Need-add-double-at Inv-loop μ-loop
+add-double-at c = omega arith
 
-number-at-requires : tie.Need-number-at-requires Inv-loop μ-loop
-number-at-requires c κs = (omega arith, omega arith)
+double-at-requires : tie.Need-double-at-requires Inv-loop μ-loop
+double-at-requires c κs = omega arith
 
 is-nan-requires : tie.Need-is-nan-requires Inv-loop μ-loop
 is-nan-requires c κs = search needs
@@ -35,7 +35,7 @@ returns : tie.Need-returns Inv-loop μ-loop
 returns c =
     let turn = c .before .before .before in
     let a = turn .before .before .before .args in
-    stops-at (a .area .now) (a .start) (a .n) (turn .before .loop .i) (turn .loop-test .taken) (c .before .before .number-at .ensures .0) (c .before .is-nan .ensures) (c .if1 .taken) ∙ sym (turn .before .loop .inv .1)
+    stops-at (a .area .now) (a .start) (a .n) (turn .before .loop .i) (turn .loop-test .taken) (c .before .before .double-at .ensures) (c .before .is-nan .ensures) (c .if1 .taken) ∙ sym (turn .before .loop .inv .1)
 
 add-i : tie.Need-add-i Inv-loop μ-loop
 add-i c = omega arith
@@ -47,7 +47,7 @@ loop-again : tie.Need-loop-again Inv-loop μ-loop
 loop-again c =
     let turn = c .before .before .before in
     let a = turn .before .before .before .args in
-    (omega arith, turn .before .loop .inv .1 ∙ goes-past (a .area .now) (a .start) (a .n) (turn .before .loop .i) (turn .loop-test .taken) (c .before .before .number-at .ensures .0) (c .before .is-nan .ensures) (c .if1 .left))
+    (omega arith, turn .before .loop .inv .1 ∙ goes-past (a .area .now) (a .start) (a .n) (turn .before .loop .i) (turn .loop-test .taken) (c .before .before .double-at .ensures) (c .before .is-nan .ensures) (c .if1 .left))
 
 returns-2 : tie.Need-returns-2 Inv-loop μ-loop
 returns-2 c =
@@ -61,9 +61,9 @@ no-nan-spec =
     Inv-loop
     μ-loop
     loop-holds
-    mul-number-at
-    add-number-at
-    number-at-requires
+    mul-double-at
+    add-double-at
+    double-at-requires
     is-nan-requires
     returns
     add-i

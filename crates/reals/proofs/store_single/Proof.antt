@@ -7,8 +7,8 @@ use borrow.Author.Needs.{needs}
 use Rattle.reals.proofs.store_single.Statement.{statement}
 use Rattle.reals.proofs.store_single.Tie as tie
 
-number-at-requires : tie.Need-number-at-requires
-number-at-requires c κs = search needs
+double-at-requires : tie.Need-double-at-requires
+double-at-requires c κs = search needs
 
 narrow-requires : tie.Need-narrow-requires
 narrow-requires c κs = search needs
@@ -31,13 +31,13 @@ returns c =
     let narrowed = ordered .before in
     let a = narrowed .before .before .before .before .args in
     c .before .before .put-number .ensures
-    ∙ ap (storeAt (a .out .now) (a .at)) (stored-single (a .big) _ _ _ (narrowed .narrow .ensures ∙ ap singleOf (narrowed .before .number-at .ensures .0)) (ordered .in-order .ensures .0))
+    ∙ ap (storeAt (a .out .now) (a .at)) (stored-single (a .big) _ _ _ (narrowed .narrow .ensures ∙ ap singleOf (narrowed .before .double-at .ensures)) (ordered .in-order .ensures .0))
 
 pub store-single-spec : {M : Type 1} → statement M
 store-single-spec =
     tie.close
     (tie.spec
-    number-at-requires
+    double-at-requires
     narrow-requires
     in-order-requires
     cast-put-number

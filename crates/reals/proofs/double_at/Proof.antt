@@ -1,0 +1,22 @@
+-- The bytes are the digits of the number they make lowest first; turned round, they make it highest first.
+use Rattle.reals.proofs.RealLaws.{double-is}
+use borrow.Author.Needs.{needs}
+use Rattle.reals.proofs.double_at.Statement.{statement}
+use Rattle.reals.proofs.double_at.Tie as tie
+
+low-first-requires : tie.Need-low-first-requires
+low-first-requires c κs = search needs
+
+turned-requires : tie.Need-turned-requires
+turned-requires c κs = search needs
+
+returns : tie.Need-returns
+returns c =
+    let low = c .before in
+    let known = low .before in
+    let start = known .before in
+    let a = start .args in
+    double-is (a .area .now) (a .at) _ _ (λ i. known .shared-slice-known .given i .fits) (start .pre) (low .low-first .ensures) (c .turned .ensures)
+
+pub double-at-spec : {M : Type 1} → statement M
+double-at-spec = tie.close (tie.spec low-first-requires turned-requires returns)
