@@ -1,3 +1,3 @@
 -- The laws that belong to no one function.
 pub mod Turns
-mod Loads
+pub mod Loads

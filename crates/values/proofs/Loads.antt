@@ -72,7 +72,7 @@ integers-length : (w : ℕ) (big u : Bool) (n : ℕ) (bs : List ℕ) → length 
 unfolding loaded
 integers-length w big u n bs = simp (length-map, length-pieces)
 
-integers-eight : (w : ℕ) (big : Bool) → FitCode (Data (Integers w big)) → Eights (Integers w big)
+pub integers-eight : (w : ℕ) (big : Bool) → FitCode (Data (Integers w big)) → Eights (Integers w big)
 integers-eight w big h =
     record {
       bytes = λ u n bs. integers-bytes w big u n bs;
@@ -93,7 +93,7 @@ reals-few : (single big : Bool) (n : ℕ) → n ≤ bytesFor (Reals single big) 
 reals-few true big n = omega arith
 reals-few false big n = omega arith
 
-reals-eight : (single big : Bool) → Eights (Reals single big)
+pub reals-eight : (single big : Bool) → Eights (Reals single big)
 reals-eight single big =
     record {
       bytes = λ u n bs. reals-bytes single big u n bs;
@@ -108,7 +108,7 @@ eights-numbered d l h f =
     (λ k. let e = shape-integers d l k in rw e (integers-eight _ _ (rw e at f)))
     (λ k. rw (shape-reals d k h) (reals-eight _ _))
 
-eights-size : {s : Shape} → Eights s → (u : Bool) (n : ℕ) (bs : List ℕ) → n * 8 ≡ length (areaBytes (loaded s u n bs))
+pub eights-size : {s : Shape} → Eights s → (u : Bool) (n : ℕ) (bs : List ℕ) → n * 8 ≡ length (areaBytes (loaded s u n bs))
 eights-size {s} x u n bs =
     sym (ap length (x .bytes u n bs) ∙ length-bigEndian integerSize (loaded s u n bs .items) ∙ ap (λ (k : ℕ). k * integerSize) (x .long u n bs))
 
