@@ -9,8 +9,8 @@ ghost use Rattle.reading.specs.Tables.{valuesOf};
 use values::run;
 use values::value;
 
-pub fn measure(words: &[u32; layout::MAX_LAYOUT], n: usize, bytes: &[u8]) -> usize
-    requires { ⌜ (n ≤ length (now words)) × (length (now words) ≡ maxLayout) × (length (now bytes) ≤ maxRecord) ⌝ }
+pub fn measure(words: &[u32], n: usize, bytes: &[u8]) -> usize
+    requires { ⌜ (n ≤ length (now words)) × (length (now words) ≤ maxLayout) × (length (now bytes) ≤ maxRecord) ⌝ }
     ensures { λ r. ⌜ r ≡ length (valueBytes (valuesOf n (before words) (before bytes))) ⌝ }
 {
     let mut at: usize = 0;

@@ -47,14 +47,14 @@ fn answer(set: usize, place: usize, steps: usize) -> ReadAnswer
 }
 
 pub fn fill(
-    words: &[u32; layout::MAX_LAYOUT],
+    words: &[u32],
     n: usize,
     bytes: &[u8],
     slots: &mut [u32],
     area: &mut [u8],
     mark: usize,
 ) -> ReadAnswer
-    requires { ⌜ (n ≤ length (now words)) × (length (now words) ≡ maxLayout) × (length (now bytes) ≤ maxRecord) ⌝ }
+    requires { ⌜ (n ≤ length (now words)) × (length (now words) ≤ maxLayout) × (length (now bytes) ≤ maxRecord) ⌝ }
     requires { ⌜ TableRoom (valuesOf n (now words) (now bytes)) (now slots) (now area) mark ⌝ }
     ensures { λ r. ⌜ record { answer = r; slots = after slots; area = after area } ≡ putAll n (before words) (before bytes) (before slots) (before area) mark ⌝ }
 {

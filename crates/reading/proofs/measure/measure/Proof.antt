@@ -19,14 +19,14 @@ loop-holds c = (omega arith, measured-start _ _)
 mul-word : tie.Need-mul-word Inv-loop μ-loop
 mul-word c = omega arith
 
-element-copy-out-word : tie.Need-element-copy-out-word Inv-loop μ-loop
-element-copy-out-word c = omega arith
+shared-slice-read-word : tie.Need-shared-slice-read-word Inv-loop μ-loop
+shared-slice-read-word c = omega arith
 
 add-i : tie.Need-add-i Inv-loop μ-loop
 add-i c = omega arith
 
 position-requires : tie.Need-position-requires Inv-loop μ-loop
-position-requires c κs = (c .before .before .before .loop .inv .1 .ran .inside, c .before .before .before .before .before .pre .2)
+position-requires c κs = (c .before .before .before .loop .inv .1 .ran .inside, c .before .before .before .before .before .before .pre .2)
 
 loop-less : tie.Need-loop-less Inv-loop μ-loop
 loop-less c = omega arith
@@ -34,13 +34,13 @@ loop-less c = omega arith
 loop-again : tie.Need-loop-again Inv-loop μ-loop
 loop-again c =
     let m = c .before .before .before .before .loop .inv .1 in
-    (omega arith, measured-moved m (ran-moved _ _ (c .before .before .before .before .before .before .pre .0) (m .ran) (c .before .before .before .loop-test .taken) (c .before .if1 .taken) (c .position .ensures)))
+    (omega arith, measured-moved m (ran-moved _ _ (c .before .before .before .before .before .before .before .pre .0) (m .ran) (c .before .before .before .loop-test .taken) (c .before .if1 .taken) (c .position .ensures)))
 
 sub-left : tie.Need-sub-left Inv-loop μ-loop
 sub-left c = omega (arith, c .before .before .before .loop .inv .1 .ran .inside)
 
 items-requires : tie.Need-items-requires Inv-loop μ-loop
-items-requires c κs = (omega (arith, c .before .before .before .before .before .pre .2), c .if1 .left)
+items-requires c κs = (omega (arith, c .before .before .before .before .before .before .pre .2), c .if1 .left)
 
 bytes-numbered-requires : tie.Need-bytes-numbered-requires Inv-loop μ-loop
 bytes-numbered-requires c κs = (omega (arith, c .items .ensures .1), c .before .if1 .left)
@@ -48,12 +48,12 @@ bytes-numbered-requires c κs = (omega (arith, c .items .ensures .1), c .before 
 returns : tie.Need-returns Inv-loop μ-loop
 returns c =
     let m = c .before .before .before .before .before .before .loop .inv .1 in
-    measured-done m (ran-short _ _ (c .before .before .before .before .before .before .before .before .pre .0) (m .ran) (c .before .before .before .before .before .loop-test .taken) (c .before .before .before .if1 .left) (c .before .before .items .ensures .0) (c .before .bytes-numbered .ensures) (c .if2 .taken))
+    measured-done m (ran-short _ _ (c .before .before .before .before .before .before .before .before .before .pre .0) (m .ran) (c .before .before .before .before .before .loop-test .taken) (c .before .before .before .if1 .left) (c .before .before .items .ensures .0) (c .before .bytes-numbered .ensures) (c .if2 .taken))
 
 size-of-requires : tie.Need-size-of-requires Inv-loop μ-loop
 size-of-requires c κs =
     let m = c .before .before .before .before .before .before .loop .inv .1 in
-    (c .before .before .before .if1 .left, found-inside _ _ (c .before .before .before .before .before .before .before .before .pre .0) (m .ran) (c .before .before .before .before .before .loop-test .taken) (c .before .before .before .if1 .left) (c .before .before .items .ensures .0) (c .before .bytes-numbered .ensures) (c .if2 .left) (c .before .before .before .before .before .before .before .before .pre .2))
+    (c .before .before .before .if1 .left, found-inside _ _ (c .before .before .before .before .before .before .before .before .before .pre .0) (m .ran) (c .before .before .before .before .before .loop-test .taken) (c .before .before .before .if1 .left) (c .before .before .items .ensures .0) (c .before .bytes-numbered .ensures) (c .if2 .left) (c .before .before .before .before .before .before .before .before .before .pre .2))
 
 add-size : tie.Need-add-size Inv-loop μ-loop
 add-size c = omega (arith, c .before .before .before .before .before .before .before .loop .inv .1 .small, c .size-of .ensures .small)
@@ -68,12 +68,12 @@ loop-again-2 : tie.Need-loop-again-2 Inv-loop μ-loop
 loop-again-2 c =
     let m = c .before .before .before .before .before .before .before .loop .inv .1 in
     let z = c .size-of .ensures in
-    (omega arith, measured-more m _ (z .size _) (z .small) (ran-found _ _ (c .before .before .before .before .before .before .before .before .before .pre .0) (m .ran) (c .before .before .before .before .before .before .loop-test .taken) (c .before .before .before .before .if1 .left) (c .before .before .before .items .ensures .0) (c .before .before .bytes-numbered .ensures) (c .before .if2 .left)))
+    (omega arith, measured-more m _ (z .size _) (z .small) (ran-found _ _ (c .before .before .before .before .before .before .before .before .before .before .pre .0) (m .ran) (c .before .before .before .before .before .before .loop-test .taken) (c .before .before .before .before .if1 .left) (c .before .before .before .items .ensures .0) (c .before .before .bytes-numbered .ensures) (c .before .if2 .left)))
 
 returns-2 : tie.Need-returns-2 Inv-loop μ-loop
 returns-2 c =
     let m = c .before .loop .inv .1 in
-    measured-done m (ran-end _ _ (c .before .before .before .pre .0) (m .ran) (c .loop-test .left))
+    measured-done m (ran-end _ _ (c .before .before .before .before .pre .0) (m .ran) (c .loop-test .left))
 
 pub measure-spec : {M : Type 1} → statement M
 measure-spec =
@@ -83,7 +83,7 @@ measure-spec =
     μ-loop
     loop-holds
     mul-word
-    element-copy-out-word
+    shared-slice-read-word
     add-i
     position-requires
     loop-less
