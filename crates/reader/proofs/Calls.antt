@@ -1,10 +1,10 @@
 -- What each test of a call says of the reading, and what each way out of a call leaves.
 use Prim.Native.Nat.{ℕ, _+_, _-_, _*_, _/_, _≤_, _<_}
 use native.Mathlib.Omega.{arith}
-use mathlib.Core.Path.{_≡_, ap, _∙_}
+use mathlib.Core.Path.{_≡_, refl, sym, ap, _∙_}
 use mathlib.Core.Bool.{true, false}
 use mathlib.Core.List.{List}
-use borrow.Author.Tests.{leb-true, le-leb, lt-leb, lt-ltb, le-ltb}
+use borrow.Author.Tests.{leb-true, eq-eqb, ne-eqb, le-leb, lt-leb, lt-ltb, le-ltb}
 use lib.Dec.{leb}
 use lib.ListN.{length}
 use Rattle.layout.specs.declared.Refusal.{Refusal}
@@ -20,12 +20,13 @@ use Rattle.record.proofs.Fields.{split}
 use Rattle.record.specs.Table.{slotWidth, maxSlots, maxRecord, maxArea, slotsOf, Value, valueBytes}
 use Rattle.record.specs.Packing.{accepted, refusal}
 use Rattle.record.specs.Reading.{valuesFrom, positionsFrom, stepsFrom, reads, putInto, read, readSteps, ReadAll, withSteps, readAll}
-use Rattle.reader.specs.Sizes.{lentFits}
-use Rattle.reading.specs.Tables.{TableRoom}
+use Rattle.reader.specs.Sizes.{lentFits, surelyFits}
+use Rattle.reading.specs.Tables.{valuesOf, putAll, TableRoom}
+use Rattle.reading.proofs.Room.{values-room}
 use Rattle.record.specs.Geometry.{lengthsFit}
 use Rattle.record.proofs.Sizes.{Sized, sized}
 use Rattle.record.proofs.Readings.{values-few}
-use Rattle.reader.specs.Checks.{checked, fitting}
+use Rattle.reader.specs.Checks.{checked, fitting, Ready, readFitting, readWords}
 
 -- what is known where number 1 is not given
 pub record Fit (layout slots bytes area mark : ℕ) : Type 0 where
@@ -63,6 +64,72 @@ module _ (slots taken room size : ℕ) {r : Answer} where
   pub fitting-all : {m : ℕ} → taken ≤ slots / slotWidth → m ≡ size → m ≤ room → r ≡ accepted taken 0 → r ≡ fitting slots taken room size
   unfolding fitting
   fitting-all h e k q = rw (le-ltb _ _ h, ← e, le-ltb _ _ k) q
+
+-- which of the three answers it is
+fitting-cases {ℓ} : {X : Type ℓ} (slots taken room size : ℕ) {r : Answer} → r ≡ fitting slots taken room size
+    → (slots / slotWidth < taken → r ≡ refusal WrongSlots 0 → X)
+    → (taken ≤ slots / slotWidth → room < size → r ≡ refusal NoRoom 0 → X)
+    → (taken ≤ slots / slotWidth → size ≤ room → r ≡ accepted taken 0 → X)
+    → X
+unfolding fitting
+fitting-cases slots taken room size e few lacks fits =
+    split taken (slots / slotWidth)
+    (λ h. split size room (λ k. fits h k (rw (le-ltb _ _ h, le-ltb _ _ k) at e)) (λ k. lacks h k (rw (le-ltb _ _ h, lt-ltb _ _ k) at e)))
+    (λ h. few h (rw (lt-ltb _ _ h) at e))
+
+-- ---- a reading by the fields of the words
+
+module _ (a : Answer) (all : ReadAll) (slots area : List ℕ) where
+  by-refusal : (a .number ≡ 0 → ⊥) → readFitting a all slots area ≡ record { answer = record { answer = a; steps = 0 }; slots = slots; area = area }
+  by-refusal h = rw (ne-eqb (a .number) 0 h)
+
+  by-accepted : a .number ≡ 0 → readFitting a all slots area ≡ all
+  by-accepted h = rw (eq-eqb (a .number) 0 h)
+
+module _ {n taken : ℕ} {ws bs slots area : List ℕ} {mark : ℕ} (k : Ready n taken ws bs slots area mark) where
+  module _ (rows : taken ≤ length slots / slotWidth) (size : length (valueBytes (valuesOf n ws bs)) ≤ length area - mark) where
+    table-room : TableRoom (valuesOf n ws bs) slots area mark
+    table-room = record { rows = omega (arith, k .count, values-few bs 0 (decoded n ws)); table = k .table; room = omega (arith, k .start); limit = k .limit }
+
+    words-put : {e : ReadAll} → e ≡ putAll n ws bs slots area mark → e ≡ readWords n taken ws bs slots area mark
+    unfolding readWords fitting
+    words-put q = q ∙ rw (le-ltb _ _ rows, le-ltb _ _ size)
+
+  -- where they surely fit
+  module _ (t : surelyFits n taken (length bs) (length slots) (length area - mark) ≡ true) where
+    sure-both : (leb (8 * (n * length bs)) (length area - mark) ≡ true) × (leb taken (length slots / slotWidth) ≡ true)
+    sure-both = and-true (leb (8 * (n * length bs)) (length area - mark)) (leb taken (length slots / slotWidth)) t
+
+    sure-rows : taken ≤ length slots / slotWidth
+    sure-rows = leb-true taken (length slots / slotWidth) (sure-both .1)
+
+    sure-size : length (valueBytes (valuesOf n ws bs)) ≤ length area - mark
+    sure-size = omega (arith, values-room n ws bs, leb-true (8 * (n * length bs)) (length area - mark) (sure-both .0))
+
+    pub sure-room : TableRoom (valuesOf n ws bs) slots area mark
+    sure-room = table-room sure-rows sure-size
+
+    pub sure-put : {e : ReadAll} → e ≡ putAll n ws bs slots area mark → e ≡ readWords n taken ws bs slots area mark
+    sure-put q = words-put sure-rows sure-size q
+
+  -- and by the answer of `fits`
+  module _ {r : Answer} (e : r ≡ fitting (length slots) taken (length area - mark) (length (valueBytes (valuesOf n ws bs)))) where
+    pub unfit-left : (r .number ≡ 0 → ⊥) → record { answer = record { answer = r; steps = 0 }; slots = slots; area = area } ≡ readWords n taken ws bs slots area mark
+    unfolding readWords
+    unfit-left h = sym (by-refusal r (putAll n ws bs slots area mark) slots area h) ∙ ap (λ (a : Answer). readFitting a (putAll n ws bs slots area mark) slots area) e
+
+    fit-by {ℓ} : {X : Type ℓ} → r .number ≡ 0 → (taken ≤ length slots / slotWidth → length (valueBytes (valuesOf n ws bs)) ≤ length area - mark → X) → X
+    fit-by z f =
+        fitting-cases (length slots) taken (length area - mark) (length (valueBytes (valuesOf n ws bs))) e
+        (λ h q. absurd (omega (arith, ap (λ (a : Answer). a .number) q)))
+        (λ h l q. absurd (omega (arith, ap (λ (a : Answer). a .number) q)))
+        (λ h l q. f h l)
+
+    pub fit-room : r .number ≡ 0 → TableRoom (valuesOf n ws bs) slots area mark
+    fit-room z = fit-by z (λ h l. table-room h l)
+
+    pub fit-put : r .number ≡ 0 → {x : ReadAll} → x ≡ putAll n ws bs slots area mark → x ≡ readWords n taken ws bs slots area mark
+    fit-put z q = fit-by z (λ h l. words-put h l q)
 
 -- ---- what each way out leaves, and what each test says of the reading
 
@@ -118,33 +185,38 @@ module _ (layout bs slots area : List ℕ) (mark : ℕ) where
           unfolding reads
           accepted-all = rw (sizes .test, l .fields, rows, le-leb _ _ inside)
 
-          room : TableRoom (valuesFrom bs 0 (decoded n ws)) slots area mark
-          room =
-              record { rows = omega (arith, l .taken, values-few bs 0 (decoded n ws)); table = sizes .table; room = inside; limit = sizes .limit }
-
       -- either answer of `fits`
-      pub fitted {ℓ} : {X : Type ℓ} {r : Answer} → r ≡ fitting (length slots) taken (length area - mark) (length (valueBytes (valuesFrom bs 0 (decoded n ws))))
+      fitted {ℓ} : {X : Type ℓ} {r : Answer} → r ≡ fitting (length slots) taken (length area - mark) (length (valueBytes (valuesFrom bs 0 (decoded n ws))))
           → ((why : Refusal) → reads layout bs slots area mark ≡ refused why 0 → r ≡ refusal why 0 → 0 < r .number → X)
-          → (reads layout bs slots area mark ≡ ok (valuesFrom bs 0 (decoded n ws)) → TableRoom (valuesFrom bs 0 (decoded n ws)) slots area mark → r ≡ accepted taken 0 → X)
+          → (reads layout bs slots area mark ≡ ok (valuesFrom bs 0 (decoded n ws)) → r ≡ accepted taken 0 → X)
           → X
-      unfolding fitting
       fitted {r} e refuses accepts =
-          split taken (length slots / slotWidth)
-          (λ enough. split (length (valueBytes (valuesFrom bs 0 (decoded n ws)))) (length area - mark)
-          (λ fits. accepts (accepted-all enough fits) (room enough fits) (rw (le-ltb _ _ enough, le-ltb _ _ fits) at e))
-          (λ lacks.
-          let q : r ≡ refusal NoRoom 0 = rw (le-ltb _ _ enough, lt-ltb _ _ lacks) at e in
-          refuses NoRoom (room-refuses enough lacks) q (rw q (omega arith))))
-          (λ few.
-          let q : r ≡ refusal WrongSlots 0 = rw (lt-ltb _ _ few) at e in
-          refuses WrongSlots (slots-refuse few) q (rw q (omega arith)))
+          fitting-cases (length slots) taken (length area - mark) (length (valueBytes (valuesFrom bs 0 (decoded n ws)))) e
+          (λ few q. refuses WrongSlots (slots-refuse few) q (rw q (omega arith)))
+          (λ enough lacks q. refuses NoRoom (room-refuses enough lacks) q (rw q (omega arith)))
+          (λ enough fits q. accepts (accepted-all enough fits) q)
 
-      module _ {r : Answer} (e : r ≡ fitting (length slots) taken (length area - mark) (length (valueBytes (valuesFrom bs 0 (decoded n ws))))) where
-        pub check-fits : r ≡ checked layout bs slots area mark
-        check-fits = fitted e (λ why h q z. check-refused h q) (λ h room q. check-accepted l h q)
+      pub check-fits : {r : Answer} → r ≡ fitting (length slots) taken (length area - mark) (length (valueBytes (valuesFrom bs 0 (decoded n ws)))) → r ≡ checked layout bs slots area mark
+      check-fits e = fitted e (λ why h q z. check-refused h q) (λ h q. check-accepted l h q)
 
-        pub read-unfit : (r .number ≡ 0 → ⊥) → record { answer = record { answer = r; steps = 0 }; slots = slots; area = area } ≡ readAll layout bs slots area mark
-        read-unfit k = fitted e (λ why h q z. read-refused h q) (λ h room q. absurd (k (ap (λ (a : Answer). a .number) q)))
+      -- a reading by the fields of the words is the reading by the layout
+      pub words-read : {e : ReadAll} → e ≡ readWords n taken ws bs slots area mark → e ≡ readAll layout bs slots area mark
+      unfolding readWords
+      words-read {e} q =
+          let a : Answer = fitting (length slots) taken (length area - mark) (length (valueBytes (valuesOf n ws bs))) in
+          let all : ReadAll = putAll n ws bs slots area mark in
+          fitted {r = a} refl
+          (λ why h x z. q ∙ by-refusal a all slots area (λ zero. absurd (omega arith)) ∙ read-refused h x)
+          (λ h x. read-put l h (q ∙ by-accepted a all slots area (ap (λ (y : Answer). y .number) x)))
 
-        pub read-fits : r .number ≡ 0 → (reads layout bs slots area mark ≡ ok (valuesFrom bs 0 (decoded n ws))) × TableRoom (valuesFrom bs 0 (decoded n ws)) slots area mark
-        read-fits k = fitted e (λ why h q z. absurd (omega arith)) (λ h room q. (h, room))
+      pub ready : Ready n taken ws bs slots area mark
+      ready =
+          record {
+            few = l .few;
+            room = l .room;
+            count = l .taken;
+            whole = sizes .whole;
+            table = sizes .table;
+            limit = sizes .limit;
+            start = sizes .start;
+          }

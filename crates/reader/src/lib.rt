@@ -1,15 +1,16 @@
 // The reader (Tcl's `binary scan`): the values that a layout shows of a record, put into a table of slots and a value area.
-// Two passes over the fields: the first measures, and the second writes. So all is decided before anything is written.
+// Two passes over the fields: the first measures, and the second writes. So all is decided before anything is written. Where the lengths alone tell
+// that the values fit, the first is left out.
 ghost use mathlib.Core.Path.{_≡_};
 ghost use Prim.Native.Nat.{_*_, _≤_};
 ghost use lib.ListN.{length};
-ghost use Rattle.layout.specs.Layout.{maxLayout};
+ghost use Rattle.layout.specs.Layout.{maxLayout, shortLayout};
 ghost use Rattle.layout.specs.Lent.{before, after};
 ghost use Rattle.record.specs.Table.{slotWidth, maxSlots, maxRecord, valueBytes};
 ghost use Rattle.record.specs.Reading.{readAll};
-ghost use Rattle.reader.specs.Sizes.{lentFits};
+ghost use Rattle.reader.specs.Sizes.{lentFits, surelyFits};
 ghost use Rattle.reading.specs.Tables.{valuesOf};
-ghost use Rattle.reader.specs.Checks.{checked, fitting};
+ghost use Rattle.reader.specs.Checks.{checked, fitting, Ready, readWords};
 use layout::Parsed;
 use layout::Refusal;
 use record::Answer;
@@ -26,15 +27,8 @@ fn sizes_fit(layout: usize, slots: usize, bytes: usize, area: usize, mark: usize
 }
 
 // Numbers 5 and 11 for the fields of the words: enough slots for the `taken` that take one, and room for their values; else 0 and how many they are.
-fn fits(
-    words: &[u32; layout::MAX_LAYOUT],
-    n: usize,
-    taken: usize,
-    bytes: &[u8],
-    slots: usize,
-    room: usize,
-) -> Answer
-    requires { ⌜ (n ≤ length (now words)) × (length (now words) ≡ maxLayout) × (length (now bytes) ≤ maxRecord) × (slots ≤ slotWidth * maxSlots) ⌝ }
+fn fits(words: &[u32], n: usize, taken: usize, bytes: &[u8], slots: usize, room: usize) -> Answer
+    requires { ⌜ (n ≤ length (now words)) × (length (now words) ≤ maxLayout) × (length (now bytes) ≤ maxRecord) × (slots ≤ slotWidth * maxSlots) ⌝ }
     ensures { λ r. ⌜ r ≡ fitting slots taken room (length (valueBytes (valuesOf n (before words) (before bytes)))) ⌝ }
 {
     if slots / record::SLOT_WIDTH < taken {
@@ -64,6 +58,43 @@ pub fn check(layout: &[u8], bytes: &[u8], slots: &[u32], area: &[u8], mark: usiz
     }
 }
 
+// There are room and slots enough whatever the record holds: a value takes at most 8 bytes of the area for each byte of the record.
+fn surely_fits(n: usize, taken: usize, bytes: usize, slots: usize, room: usize) -> bool
+    requires { ⌜ (n ≤ maxLayout) × (bytes ≤ maxRecord) ⌝ }
+    ensures { λ r. ⌜ r ≡ surelyFits n taken bytes slots room ⌝ }
+{
+    if room < 8 * (n * bytes) {
+        return false;
+    }
+    taken <= slots / record::SLOT_WIDTH
+}
+
+// Reads by the fields of the words. Their values are measured only where it is not sure without it that they fit.
+fn read_words(
+    words: &[u32],
+    n: usize,
+    taken: usize,
+    bytes: &[u8],
+    slots: &mut [u32],
+    area: &mut [u8],
+    mark: usize,
+) -> ReadAnswer
+    requires { ⌜ Ready n taken (now words) (now bytes) (now slots) (now area) mark ⌝ }
+    ensures { λ r. ⌜ record { answer = r; slots = after slots; area = after area } ≡ readWords n taken (before words) (before bytes) (before slots) (before area) mark ⌝ }
+{
+    if surely_fits(n, taken, bytes.len(), slots.len(), area.len() - mark) {
+        return reading::table::fill(words, n, bytes, slots, area, mark);
+    }
+    let a = fits(words, n, taken, bytes, slots.len(), area.len() - mark);
+    if a.number != 0 {
+        return ReadAnswer {
+            answer: a,
+            steps: 0,
+        };
+    }
+    reading::table::fill(words, n, bytes, slots, area, mark)
+}
+
 // Reads a record by a layout: sets slots from the first on, and puts their values into the area from the mark on. A refusal changes nothing.
 // (It checks as `check` does and does not call it: the words stay here, and a call that fills them for its caller costs more than the checks.)
 pub fn read(
@@ -88,15 +119,40 @@ pub fn read(
             answer: Answer::refused(why, place as u32),
             steps: 0,
         },
+        Parsed::Fields(n, taken) => read_words(&words, n, taken, bytes, slots, area, mark),
+    }
+}
+
+// As `read`, by a short layout: a small array is enough for its fields.
+// (The test of `read_words` stands here too: the fields are then written by a call from here, where it costs least.)
+pub fn read_short(
+    layout: &[u8],
+    bytes: &[u8],
+    slots: &mut [u32],
+    area: &mut [u8],
+    mark: usize,
+) -> ReadAnswer
+    requires { ⌜ length (now layout) ≤ shortLayout ⌝ }
+    ensures { λ r. ⌜ record { answer = r; slots = after slots; area = after area } ≡ readAll (before layout) (before bytes) (before slots) (before area) mark ⌝ }
+{
+    if !sizes_fit(layout.len(), slots.len(), bytes.len(), area.len(), mark) {
+        return ReadAnswer {
+            answer: Answer::refused(Refusal::BadSize, 0),
+            steps: 0,
+        };
+    }
+    let mut words: [u32; layout::SHORT_LAYOUT] = [0; layout::SHORT_LAYOUT];
+    let p = parser::parse(layout, false, &mut words);
+    match p {
+        Parsed::Refused(why, place) => ReadAnswer {
+            answer: Answer::refused(why, place as u32),
+            steps: 0,
+        },
         Parsed::Fields(n, taken) => {
-            let a = fits(&words, n, taken, bytes, slots.len(), area.len() - mark);
-            if a.number != 0 {
-                return ReadAnswer {
-                    answer: a,
-                    steps: 0,
-                };
+            if surely_fits(n, taken, bytes.len(), slots.len(), area.len() - mark) {
+                return reading::table::fill(&words, n, bytes, slots, area, mark);
             }
-            reading::table::fill(&words, n, bytes, slots, area, mark)
+            read_words(&words, n, taken, bytes, slots, area, mark)
         }
     }
 }

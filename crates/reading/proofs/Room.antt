@@ -87,18 +87,18 @@ step-room bs at (Data s) u n fs m f h =
     (λ t. omega (arith, leb-true (bytesFor s i) (length bs - at) t, value-room bs at s u i f)) (h (at + bytesFor s i))
 step-room bs at (Move g) u n fs m f h = omega (arith, h (movedIn (length bs) g n at))
 
-words-room : (bs : List ℕ) (at : ℕ) (ws : List ℕ) → length (valueBytes (valuesFrom bs at (map fieldOf ws))) ≤ length ws * (8 * length bs)
+words-room : (bs : List ℕ) (at : ℕ) (ws : List ℕ) → length (valueBytes (valuesFrom bs at (map fieldOf ws))) ≤ 8 * (length ws * length bs)
 unfolding valuesFrom valueBytes join
 words-room bs at [] = omega arith
 words-room bs at (w ∷ ws) =
     let f : Field = fieldOf w in
-    let one : suc (length ws) * (8 * length bs) ≡ 8 * length bs + length ws * (8 * length bs) = rw (suc-mul (length ws) (8 * length bs)) (omega arith) in
-    rw one (step-room bs at (f .code) (f .unsigned) (f .count) (map fieldOf ws) (length ws * (8 * length bs)) (word-fits w) (λ to. words-room bs to ws))
+    let all : suc (length ws) * length bs ≡ length ws * length bs + length bs = suc-mul (length ws) (length bs) in
+    omega (arith, step-room bs at (f .code) (f .unsigned) (f .count) (map fieldOf ws) (8 * (length ws * length bs)) (word-fits w) (λ to. words-room bs to ws))
 
--- the values of so many fields take no more than eight bytes a field for each byte of the record
-pub values-room : (n : ℕ) (ws bs : List ℕ) → length (valueBytes (valuesOf n ws bs)) ≤ n * (8 * length bs)
+-- the values of n fields take no more than eight bytes each for every byte of the record
+pub values-room : (n : ℕ) (ws bs : List ℕ) → length (valueBytes (valuesOf n ws bs)) ≤ 8 * (n * length bs)
 unfolding decoded
 values-room n ws bs =
     let few : length (take n ws) ≤ n = simp length-take (omega arith) in
-    let all : length (take n ws) * (8 * length bs) ≤ n * (8 * length bs) = mul-le-mul few (le-refl (8 * length bs)) in
+    let all : length (take n ws) * length bs ≤ n * length bs = mul-le-mul few (le-refl (length bs)) in
     omega (arith, words-room bs 0 (take n ws))
