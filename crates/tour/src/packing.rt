@@ -1,4 +1,5 @@
 // Packing: a line for each call, with the layout, what it is lent, the answer's three numbers and the bytes of the result.
+use record::MAX_AREA;
 use record::MAX_NUMBERS;
 use record::SLOT_WIDTH;
 use tour_text::notation;
@@ -114,17 +115,13 @@ fn last(told: &[u8], area: &[u8], record: &mut [u8; 4096]) {
     show(b"a", told, &[1, 524287, 1, 0], area, record);
 }
 
-fn areas(record: &mut [u8; 4096]) {
-    last(
-        b"slot 1 524287 1, area of 524288 bytes",
-        &[b'z'; 524288],
-        record,
-    );
-    last(
-        b"slot 1 524287 1, area of 524289 bytes",
-        &[b'z'; 524289],
-        record,
-    );
+// A long array is lent as an array, and only its borrower takes it for a slice: where an array is made, the prover counts a slice of it byte by byte.
+fn longest(area: &[u8; MAX_AREA], record: &mut [u8; 4096]) {
+    last(b"slot 1 524287 1, area of 524288 bytes", area, record);
+}
+
+fn longer(area: &[u8; MAX_AREA + 1], record: &mut [u8; 4096]) {
+    last(b"slot 1 524287 1, area of 524289 bytes", area, record);
 }
 
 // Number 1: layouts, slots and areas at their limits and one above.
@@ -132,7 +129,8 @@ pub fn sizes(record: &mut [u8; 4096]) {
     layouts(record);
     tables(record);
     placed(b"a", b"five numbers", &[1; 5], record);
-    areas(record);
+    longest(&[b'z'; MAX_AREA], record);
+    longer(&[b'z'; MAX_AREA + 1], record);
 }
 
 // Packs a string of n bytes into an output that is lent.
@@ -140,26 +138,23 @@ fn output(layout: &[u8], told: &[u8], n: u32, record: &mut [u8]) {
     show(layout, told, &[1, 0, n, 0], b"xy", record);
 }
 
-// Outputs above their limit, as long as the result, and shorter.
+// Outputs as long as can be, one above, as long as the result, and shorter.
+fn limit(record: &mut [u8; 32768]) {
+    output(b"a", b"slot 1 0 1, output of 32768 bytes", 1, record);
+}
+
+fn above(record: &mut [u8; 32769]) {
+    output(b"a", b"slot 1 0 1, output of 32769 bytes", 1, record);
+}
+
+fn filled(record: &mut [u8; 32768]) {
+    output(b"a32768", b"slot 1 0 2, output of 32768 bytes", 2, record);
+}
+
 pub fn outputs() {
-    output(
-        b"a",
-        b"slot 1 0 1, output of 32768 bytes",
-        1,
-        &mut [0; 32768],
-    );
-    output(
-        b"a",
-        b"slot 1 0 1, output of 32769 bytes",
-        1,
-        &mut [0; 32769],
-    );
-    output(
-        b"a32768",
-        b"slot 1 0 2, output of 32768 bytes",
-        2,
-        &mut [0; 32768],
-    );
+    limit(&mut [0; 32768]);
+    above(&mut [0; 32769]);
+    filled(&mut [0; 32768]);
     output(b"a2", b"slot 1 0 2, output of 2 bytes", 2, &mut [0; 2]);
     output(b"a2x", b"slot 1 0 2, output of 2 bytes", 2, &mut [0; 2]);
 }

@@ -1,5 +1,7 @@
 // Reading: a line for each call, with the layout, the record, the answer's four numbers and the values that the slots then show.
+use record::MAX_AREA;
 use record::MAX_NUMBERS;
+use record::MAX_RECORD;
 use record::SLOT_WIDTH;
 use tour_text::print;
 use tour_text::print::Style;
@@ -96,8 +98,12 @@ pub fn kept() {
 }
 
 // Reads into a table that is lent, with room for every value.
+fn roomy(layout: &[u8], record: &[u8], told: &[u8], slots: &mut [u32], area: &mut [u8; 262144]) {
+    show(layout, record, told, slots, area, 0);
+}
+
 fn sized(layout: &[u8], record: &[u8], told: &[u8], slots: &mut [u32]) {
-    show(layout, record, told, slots, &mut [0u8; 262144], 0);
+    roomy(layout, record, told, slots, &mut [0; 262144]);
 }
 
 fn layouts() {
@@ -125,25 +131,23 @@ fn tables() {
     );
 }
 
+// Reads a record into one slot.
+fn single(layout: &[u8], record: &[u8], told: &[u8]) {
+    sized(layout, record, told, &mut [0; SLOT_WIDTH]);
+}
+
+fn whole_records(record: &[u8; MAX_RECORD]) {
+    single(b"c32768", record, b"record of 32768 bytes");
+    single(b"b*", record, b"record of 32768 bytes");
+}
+
+fn above(record: &[u8; MAX_RECORD + 1]) {
+    single(b"@32767c", record, b"record of 32769 bytes");
+}
+
 fn records() {
-    sized(
-        b"c32768",
-        &[9; 32768],
-        b"record of 32768 bytes",
-        &mut [0; SLOT_WIDTH],
-    );
-    sized(
-        b"b*",
-        &[9; 32768],
-        b"record of 32768 bytes",
-        &mut [0; SLOT_WIDTH],
-    );
-    sized(
-        b"@32767c",
-        &[9; 32769],
-        b"record of 32769 bytes",
-        &mut [0; SLOT_WIDTH],
-    );
+    whole_records(&[9; MAX_RECORD]);
+    above(&[9; MAX_RECORD + 1]);
 }
 
 // Number 1: layouts, slots and records at their limits and one above.
@@ -169,10 +173,18 @@ fn eight(layout: &[u8], told: &[u8], mark: usize) {
     marked(layout, b"\x07", told, &mut [0; 8], mark);
 }
 
-// Areas at their limit and one above: number 1.
+// Areas at their limit and one above: number 1. A long array is lent as an array, and only its borrower takes it for a slice.
+fn longest(area: &mut [u8; MAX_AREA]) {
+    last(b"mark 524287, area of 524288 bytes", area);
+}
+
+fn longer(area: &mut [u8; MAX_AREA + 1]) {
+    last(b"mark 524287, area of 524289 bytes", area);
+}
+
 pub fn areas() {
-    last(b"mark 524287, area of 524288 bytes", &mut [0; 524288]);
-    last(b"mark 524287, area of 524289 bytes", &mut [0; 524289]);
+    longest(&mut [0; MAX_AREA]);
+    longer(&mut [0; MAX_AREA + 1]);
 }
 
 // Marks: numbers 11 and 1.

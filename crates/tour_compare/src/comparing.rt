@@ -144,50 +144,49 @@ pub fn short_areas() {
     area(b"areas of 10 and 9 bytes", &mut [0; 10], &mut [0; 9]);
 }
 
-// Number 1, of the second area, after number 11 of the first.
+// Number 1, of the second area, after number 11 of the first. A long array is lent as an array, and only its borrower takes it for a slice: where an
+// array is made, the prover counts a slice of it byte by byte.
+fn longer(told: &[u8], first: &mut [u8], second: &mut [u8; MAX_AREA + 1]) {
+    area(told, first, second);
+}
+
 pub fn long_areas() {
-    area(
+    longer(
         b"second area over its size",
         &mut [0; 10],
         &mut [0; MAX_AREA + 1],
     );
-    area(
+    longer(
         b"first area of 9 bytes, second over its size",
         &mut [0; 9],
         &mut [0; MAX_AREA + 1],
     );
 }
 
-// Records at their limit and above: number 1, after every refusal of the first.
-pub fn records() {
+fn longest_records(first: &[u8; MAX_RECORD], second: &[u8; MAX_RECORD]) {
     own(
         b"@32767a",
-        &[b'x'; MAX_RECORD],
-        &[b'y'; MAX_RECORD],
+        first,
+        second,
         b"records of the longest size",
         &mut [9; 3],
     );
-    own(
-        b"a",
-        &[b'x'; MAX_RECORD + 1],
-        b"x",
-        b"a byte more first",
-        &mut [9; 3],
-    );
-    own(
-        b"a",
-        b"x",
-        &[b'x'; MAX_RECORD + 1],
-        b"a byte more second",
-        &mut [9; 3],
-    );
-    own(
-        b"a9z",
-        b"x",
-        &[b'x'; MAX_RECORD + 1],
-        b"a byte more second",
-        &mut [9; 3],
-    );
+}
+
+fn longer_first(first: &[u8; MAX_RECORD + 1]) {
+    own(b"a", first, b"x", b"a byte more first", &mut [9; 3]);
+}
+
+fn longer_second(layout: &[u8], second: &[u8; MAX_RECORD + 1]) {
+    own(layout, b"x", second, b"a byte more second", &mut [9; 3]);
+}
+
+// Records at their limit and above: number 1, after every refusal of the first.
+pub fn records() {
+    longest_records(&[b'x'; MAX_RECORD], &[b'y'; MAX_RECORD]);
+    longer_first(&[b'x'; MAX_RECORD + 1]);
+    longer_second(b"a", &[b'x'; MAX_RECORD + 1]);
+    longer_second(b"a9z", &[b'x'; MAX_RECORD + 1]);
 }
 
 // Number 11: a report of fewer numbers than three a value field.

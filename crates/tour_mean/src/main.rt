@@ -154,6 +154,11 @@ fn bad_ends() {
     placed(b"slot 2 8 0 over {50}", &[2, 8, 0, 0]);
 }
 
+// A long array is lent as an array, and only its borrower takes it for a slice: where an array is made, the prover counts a slice of it byte by byte.
+fn longer(area: &[u8; MAX_AREA + 1]) {
+    show(b"area over its size", &[4; SLOT_WIDTH], area);
+}
+
 // Number 1, which comes before every slot.
 fn sizes() {
     show(
@@ -162,7 +167,7 @@ fn sizes() {
         b"",
     );
     show(b"a number more than a slot", &[4; SLOT_WIDTH + 1], b"");
-    show(b"area over its size", &[4; SLOT_WIDTH], &[0; MAX_AREA + 1]);
+    longer(&[0; MAX_AREA + 1]);
     show(b"slot 3 0 1 over eight bytes 80", &[3, 0, 1, 0], &[0x80; 8]);
 }
 

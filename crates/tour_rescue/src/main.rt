@@ -128,40 +128,35 @@ fn orders() {
     first(b"\x01", b"4294967297 legs", 4294967297);
 }
 
-// Sizes at their limits and above.
-fn sizes() {
+// A long array is lent as an array, and only its borrower takes it for a slice: where an array is made, the prover counts a slice of it byte by byte.
+fn longest(sheet: &[u8; MAX_AREA], area: &mut [u8; MAX_AREA]) {
     show(
-        &[1; MAX_AREA],
+        sheet,
         b"a sheet as long as an area, 64 legs",
         MAX_SLOTS,
         &mut [0; MAX_NUMBERS],
-        &mut [0; MAX_AREA],
+        area,
         0,
     );
-    show(
-        b"",
+}
+
+fn longer(area: &mut [u8; MAX_AREA + 1]) {
+    show(b"", b"area over its size", 1, &mut [0; SLOT_WIDTH], area, 0);
+}
+
+fn table(told: &[u8], slots: &mut [u32]) {
+    show(b"", told, 1, slots, &mut [0; 8], 0);
+}
+
+// Sizes at their limits and above.
+fn sizes() {
+    longest(&[1; MAX_AREA], &mut [0; MAX_AREA]);
+    table(
         b"a slot more than can be",
-        1,
         &mut [0; MAX_NUMBERS + SLOT_WIDTH],
-        &mut [0; 8],
-        0,
     );
-    show(
-        b"",
-        b"a number more than a slot",
-        1,
-        &mut [0; SLOT_WIDTH + 1],
-        &mut [0; 8],
-        0,
-    );
-    show(
-        b"",
-        b"area over its size",
-        1,
-        &mut [0; SLOT_WIDTH],
-        &mut [0; MAX_AREA + 1],
-        0,
-    );
+    table(b"a number more than a slot", &mut [0; SLOT_WIDTH + 1]);
+    longer(&mut [0; MAX_AREA + 1]);
 }
 
 fn main() {

@@ -56,14 +56,16 @@ fn header(told: &[u8], slots: &mut [u32], area: &mut [u8]) {
     show(b"\x01\x00\x00", told, slots, area, 0);
 }
 
-// Number 1: slots and area at their limits and above.
-pub fn sizes() {
-    marks();
-    header(
-        b"as many slots as can be",
-        &mut [0; MAX_NUMBERS],
-        &mut [0; MAX_AREA],
-    );
+// A long array is lent as an array, and only its borrower takes it for a slice.
+fn longest(area: &mut [u8; MAX_AREA]) {
+    header(b"as many slots as can be", &mut [0; MAX_NUMBERS], area);
+}
+
+fn longer(area: &mut [u8; MAX_AREA + 1]) {
+    header(b"area over its size", &mut [0; SLOT_WIDTH], area);
+}
+
+fn odd_tables() {
     header(
         b"a slot more",
         &mut [0; MAX_NUMBERS + SLOT_WIDTH],
@@ -74,11 +76,14 @@ pub fn sizes() {
         &mut [0; SLOT_WIDTH + 1],
         &mut [0; 8],
     );
-    header(
-        b"area over its size",
-        &mut [0; SLOT_WIDTH],
-        &mut [0; MAX_AREA + 1],
-    );
+}
+
+// Number 1: slots and area at their limits and above.
+pub fn sizes() {
+    marks();
+    longest(&mut [0; MAX_AREA]);
+    odd_tables();
+    longer(&mut [0; MAX_AREA + 1]);
 }
 
 // Reads into three slots of nines and eight bytes aa from the mark 1 on, and prints all that they then hold.

@@ -107,9 +107,14 @@ pub fn refusals() {
 const ONE_AREA: usize = MAX_AREA + 10;
 
 // Writes slots over an area as long as any, into a buffer that one such value fills. (The prover has no arrays of a million bytes: the longest buffers
-// and sheets are tried by the tests outside.)
+// and sheets are tried by the tests outside.) A long array is lent as an array, and only its borrower takes it for a slice: where an array is made, the
+// prover counts a slice of it byte by byte.
+fn over(told: &[u8], slots: &[u32], area: &[u8; MAX_AREA], sheet: &mut [u8; ONE_AREA]) {
+    show(told, slots, area, sheet);
+}
+
 fn long(told: &[u8], slots: &[u32]) {
-    show(told, slots, &[b'z'; MAX_AREA], &mut [0; ONE_AREA]);
+    over(told, slots, &[b'z'; MAX_AREA], &mut [0; ONE_AREA]);
 }
 
 // The longest that version 1 can hold, and a byte more: version 2. The longest value; and number 11.
@@ -129,25 +134,30 @@ fn lengths() {
 }
 
 // The version goes by the lengths, and not by the buffer.
-fn short_buffers() {
+fn enough(area: &[u8; MAX_AREA], sheet: &mut [u8; 65543]) {
     show(
         b"slot 1 0 65533, buffer of 65543 bytes",
         &[1, 0, 65533, 0],
-        &[b'z'; MAX_AREA],
-        &mut [0; 65543],
-    );
-    show(
-        b"slot 1 0 65533, buffer of 65542 bytes",
-        &[1, 0, 65533, 0],
-        &[b'z'; MAX_AREA],
-        &mut [0; 65542],
+        area,
+        sheet,
     );
 }
 
-// Number 1: slots and area at their limits and above.
-pub fn sizes() {
-    lengths();
-    short_buffers();
+fn too_short(area: &[u8; MAX_AREA], sheet: &mut [u8; 65542]) {
+    show(
+        b"slot 1 0 65533, buffer of 65542 bytes",
+        &[1, 0, 65533, 0],
+        area,
+        sheet,
+    );
+}
+
+fn short_buffers() {
+    enough(&[b'z'; MAX_AREA], &mut [0; 65543]);
+    too_short(&[b'z'; MAX_AREA], &mut [0; 65542]);
+}
+
+fn tables() {
     show(
         b"as many slots as can be",
         &[0; MAX_NUMBERS],
@@ -161,12 +171,18 @@ pub fn sizes() {
         &mut [0; 256],
     );
     placed(b"a number more than a slot", &[0; SLOT_WIDTH + 1]);
-    show(
-        b"area over its size",
-        &[0; 0],
-        &[0; MAX_AREA + 1],
-        &mut [0; 8],
-    );
+}
+
+fn area_above(area: &[u8; MAX_AREA + 1]) {
+    show(b"area over its size", &[0; 0], area, &mut [0; 8]);
+}
+
+// Number 1: slots and area at their limits and above.
+pub fn sizes() {
+    lengths();
+    short_buffers();
+    tables();
+    area_above(&[0; MAX_AREA + 1]);
 }
 
 // Writes into eight bytes aa, and prints all that they then hold.
