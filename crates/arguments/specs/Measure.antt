@@ -49,7 +49,7 @@ HasRoom (refused why place) size = ⊥
 -- the words hold n fields, and there is a slot for each that takes one (number 5 is not given)
 pub record Prepared (n : ℕ) (ws ns : List ℕ) : Type 0 where
   pub few : n ≤ length ws
-  pub room : length ws ≡ maxLayout
+  pub room : length ws ≤ maxLayout
   pub slots : slotCount (decoded n ws) ≡ length ns / slotWidth
   pub limit : length ns ≤ slotWidth * maxSlots
 

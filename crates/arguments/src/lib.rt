@@ -82,7 +82,7 @@ fn step(word: u32, slots: &[u32], area: &[u8], k: usize, c: Cursor) -> Stepped
 }
 
 // The pass over the fields in the first n words.
-pub fn measure(words: &[u32; layout::MAX_LAYOUT], n: usize, slots: &[u32], area: &[u8]) -> Measured
+pub fn measure(words: &[u32], n: usize, slots: &[u32], area: &[u8]) -> Measured
     requires { ⌜ Prepared n (now words) (now slots) ⌝ }
     ensures { λ r. ⌜ Measures (checked (now (area .entry)) 0 (slotsOf (now (slots .entry))) (decoded n (now (words .entry))) origin) r ⌝ }
 {
@@ -91,7 +91,7 @@ pub fn measure(words: &[u32; layout::MAX_LAYOUT], n: usize, slots: &[u32], area:
     let mut i: usize = 0;
     while i < n {
         let word = words[i];
-        let taken = layout::slots_in(word);
+        let taken = layout::slots_in(word % layout::FLAG_UNIT);
         let t = step(word, slots, area, k, c);
         match t {
             Stepped::Stop(why, place) => {

@@ -19,7 +19,7 @@ passed c (f ∷ fs) = passed (advance c (f .code) (f .count) 0) fs
 -- the words hold n fields, which are those of some layout
 pub record Holds (n : ℕ) (ws : List ℕ) : Type 0 where
   pub few : n ≤ length ws
-  pub room : length ws ≡ maxLayout
+  pub room : length ws ≤ maxLayout
   pub text : List ℕ
   pub fields : fieldsOf true text ≡ ok (decoded n ws)
 

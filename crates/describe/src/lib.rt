@@ -26,7 +26,7 @@ fn step(code: Code, n: Count, c: Cursor) -> Cursor
 }
 
 // The length of the shortest record of the fields in the first n words.
-fn least_length(words: &[u32; layout::MAX_LAYOUT], n: usize) -> usize
+fn least_length(words: &[u32], n: usize) -> usize
     requires { ⌜ Holds n (now words) ⌝ }
     ensures { λ r. ⌜ Least (decoded n (before words)) r ⌝ }
 {

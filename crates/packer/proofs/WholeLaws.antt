@@ -10,6 +10,7 @@ use lib.ListN.{length, drop}
 use Rattle.layout.specs.declared.Field.{Field}
 use Rattle.layout.specs.declared.Refusal.{Refusal}
 use Rattle.layout.specs.declared.Refusal.the-variants.{BadSize, WrongSlots, NoRoom}
+use Rattle.layout.specs.declared.Parsed.{Parsed}
 use Rattle.layout.specs.Refusals.{Result, ok, refused, _>>=_}
 use Rattle.layout.specs.Layout.{fieldsOf, slotCount}
 use Rattle.record.specs.declared.Cursor.{Cursor}
@@ -20,7 +21,8 @@ use Rattle.record.specs.Packing.{finished, start, cursorOf, packAll, filled, pa
 use Rattle.arguments.specs.declared.Measured.the-variants.{Length, Refused}
 use Rattle.record.specs.Cursor.{origin}
 use Rattle.arguments.specs.Measure.{checked, HasRoom, measuredOf}
-use Rattle.packer.specs.Writing.{written}
+use Rattle.packer.specs.Writing.{written, Read}
+use Rattle.record.proofs.Sizes.{Sized, sized}
 use Rattle.record.proofs.Tables.{length-slots}
 use Rattle.packer.proofs.RunLaws.{measured-as, written-as}
 
@@ -88,6 +90,10 @@ module _ (layout slots area output : List ℕ) where
       pub pack-finish : eqb (length (slotsOf slots)) (slotCount fs) ≡ true → packEffect output (finished area (slotsOf slots) fs output) ≡ pack layout slots area output
       unfolding pack packs finished
       pack-finish h = simp (fine, e, h)
+
+-- the limits that are checked before the layout is read
+pub read-sized : {p : Parsed} {ws slots area output layout : List ℕ} → Read p ws slots area output layout → Sized (length layout) (length slots) (length output) (length area)
+read-sized j = sized (j .fine)
 
 -- ---- number 5
 

@@ -3,11 +3,12 @@
 ghost use mathlib.Core.Path.{_≡_};
 ghost use Prim.Native.Nat.{_≤_};
 ghost use lib.ListN.{length};
+ghost use Rattle.layout.specs.Layout.{shortLayout};
 ghost use Rattle.layout.specs.Lent.{before, after};
 ghost use Rattle.record.specs.Table.{maxRecord};
 ghost use Rattle.record.specs.Packing.{pack};
 ghost use Rattle.arguments.specs.Measure.{Prepared};
-ghost use Rattle.packer.specs.Writing.{finishes};
+ghost use Rattle.packer.specs.Writing.{finishes, Readable, PacksAsRead};
 use arguments::Measured;
 use layout::Parsed;
 use layout::Refusal;
@@ -16,13 +17,7 @@ use record::Answer;
 mod write;
 
 // What is left once there is a slot for each field that takes one.
-fn finish(
-    words: &[u32; layout::MAX_LAYOUT],
-    n: usize,
-    slots: &[u32],
-    area: &[u8],
-    output: &mut [u8],
-) -> Answer
+fn finish(words: &[u32], n: usize, slots: &[u32], area: &[u8], output: &mut [u8]) -> Answer
     requires { ⌜ Prepared n (now words) (now slots) × (length (now output) ≤ maxRecord) ⌝ }
     ensures { λ r. ⌜ record { answer = r; output = after output } ≡ finishes (before words) n (before slots) (before area) (before output) ⌝ }
 {
@@ -39,6 +34,35 @@ fn finish(
     }
 }
 
+// What is left once the layout is read.
+fn packed(p: Parsed, words: &[u32], slots: &[u32], area: &[u8], output: &mut [u8]) -> Answer
+    requires { ⌜ Readable p (now words) (now slots) (now area) (now output) ⌝ }
+    ensures { λ r. ⌜ PacksAsRead p (before words) (before slots) (before area) (before output) r (after output) ⌝ }
+{
+    match p {
+        Parsed::Refused(why, place) => Answer::refused(why, place as u32),
+        Parsed::Fields(n, needed) => {
+            if slots.len() / record::SLOT_WIDTH != needed {
+                return Answer::refused(Refusal::WrongSlots, 0);
+            }
+            finish(words, n, slots, area, output)
+        }
+    }
+}
+
+// Packs as `pack` does, by a short layout. (The layout is read where its words stand, here and in `pack`: a call that fills them for its caller costs more.)
+pub fn pack_short(layout: &[u8], slots: &[u32], area: &[u8], output: &mut [u8]) -> Answer
+    requires { ⌜ length (now layout) ≤ shortLayout ⌝ }
+    ensures { λ r. ⌜ record { answer = r; output = after output } ≡ pack (before layout) (before slots) (before area) (before output) ⌝ }
+{
+    if !record::lengths_fit(layout.len(), slots.len(), output.len(), area.len()) {
+        return Answer::refused(Refusal::BadSize, 0);
+    }
+    let mut words: [u32; layout::SHORT_LAYOUT] = [0; layout::SHORT_LAYOUT];
+    let p = parser::parse(layout, true, &mut words);
+    packed(p, &words, slots, area, output)
+}
+
 // Packs the arguments into the output by the layout. A refusal changes nothing.
 pub fn pack(layout: &[u8], slots: &[u32], area: &[u8], output: &mut [u8]) -> Answer
     ensures { λ r. ⌜ record { answer = r; output = after output } ≡ pack (before layout) (before slots) (before area) (before output) ⌝ }
@@ -48,13 +72,5 @@ pub fn pack(layout: &[u8], slots: &[u32], area: &[u8], output: &mut [u8]) -> Ans
     }
     let mut words: [u32; layout::MAX_LAYOUT] = [0; layout::MAX_LAYOUT];
     let p = parser::parse(layout, true, &mut words);
-    match p {
-        Parsed::Refused(why, place) => Answer::refused(why, place as u32),
-        Parsed::Fields(n, needed) => {
-            if slots.len() / record::SLOT_WIDTH != needed {
-                return Answer::refused(Refusal::WrongSlots, 0);
-            }
-            finish(&words, n, slots, area, output)
-        }
-    }
+    packed(p, &words, slots, area, output)
 }

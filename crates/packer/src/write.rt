@@ -54,13 +54,7 @@ fn put(word: u32, slots: &[u32], area: &[u8], k: usize, c: Cursor, out: &mut [u8
 }
 
 // The pass over the fields in the first n words.
-pub fn write(
-    words: &[u32; layout::MAX_LAYOUT],
-    n: usize,
-    slots: &[u32],
-    area: &[u8],
-    out: &mut [u8],
-)
+pub fn write(words: &[u32], n: usize, slots: &[u32], area: &[u8], out: &mut [u8])
     requires { ⌜ Writable (now area) n (now words) (now slots) (length (now out)) ⌝ }
     ensures { λ _. ⌜ after out ≡ written (before area) (slotsOf (before slots)) (decoded n (before words)) origin (before out) ⌝ }
 {
@@ -69,7 +63,7 @@ pub fn write(
     let mut i: usize = 0;
     while i < n {
         let word = words[i];
-        let taken = layout::slots_in(word);
+        let taken = layout::slots_in(word % layout::FLAG_UNIT);
         c = put(word, slots, area, k, c, out);
         k += taken;
         i += 1;

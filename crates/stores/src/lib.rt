@@ -87,8 +87,8 @@ fn store_reals(
     bytes
 }
 
-// n items of a value of the type number d; tells how many bytes they fill. A call with constants for each type, so that the compiler makes
-// code of its own for each, and tests the type once.
+// n items of a value of the type number d; tells how many bytes they fill. A call with constants for each type of integers and reals, so
+// that the compiler makes code of its own for each, and one for all digits: with more, this function is too large to be built into the pass.
 pub fn store_value(d: u32, n: usize, a: Slot, area: &[u8], out: &mut [u8], at: usize) -> usize
     requires { ⌜ (d ≤ lastData) × Storable (now area) (shapeNumbered d) n a at (length (now out)) ⌝ }
     ensures { λ r. ⌜ StoredAs (now (area .entry)) (shapeNumbered d) n a at (now (out .entry)) r (now (out .exit)) ⌝ }
@@ -96,10 +96,7 @@ pub fn store_value(d: u32, n: usize, a: Slot, area: &[u8], out: &mut [u8], at: u
     match d {
         0 => store_text(n, a, area, out, at, 0),
         1 => store_text(n, a, area, out, at, 32),
-        2 => store_digits(n, a, area, out, at, false, false),
-        3 => store_digits(n, a, area, out, at, false, true),
-        4 => store_digits(n, a, area, out, at, true, false),
-        5 => store_digits(n, a, area, out, at, true, true),
+        2..=5 => store_digits(n, a, area, out, at, layout::LAST_BINARY < d, d % 2 == 1),
         6 => store_integers(n, a, area, out, at, 1, false),
         7 => store_integers(n, a, area, out, at, 1, true),
         8 => store_integers(n, a, area, out, at, 2, false),

@@ -22,7 +22,7 @@ slot-number : (c : tie.After-known-told) → c .before .m .given .0 .1 .0 ≤ 64
 slot-number c = rw (c .before .m .given .1) at (c .before .before .before .measure .ensures .small)
 
 at-length : (c : tie.After-known-told2)
-    → Length (c .before .m2 .given .0 .0) ≡ measuredOf (checked (c .before .before .before .before .before .before .before .args .area .now) 0 (slotsOf (c .before .before .before .before .before .before .before .args .slots .now)) (decoded (c .before .before .before .before .before .before .before .args .n) (c .before .before .before .before .before .before .before .args .words .now)) origin)
+    → Length (c .before .m2 .given .0 .0) ≡ measuredOf (checked (c .before .before .before .before .before .before .before .before .args .area .now) 0 (slotsOf (c .before .before .before .before .before .before .before .before .args .slots .now)) (decoded (c .before .before .before .before .before .before .before .before .args .n) (c .before .before .before .before .before .before .before .before .args .words .now)) origin)
 at-length c = sym (c .before .m2 .given .1) ∙ c .before .before .before .measure .ensures .same
 
 cast-refused : tie.Need-cast-refused
@@ -45,7 +45,7 @@ returns c =
 write-requires : tie.Need-write-requires
 write-requires c κs =
     let k = c .before .before in
-    let start = k .before .before .before .before .before .before .before in
+    let start = k .before .before .before .before .before .before .before .before in
     let s = start .args in
     record {
       prepared = start .pre .0;
