@@ -27,7 +27,7 @@ use Rattle.record.proofs.Tables.{kind-integers, reals-kind}
 use Rattle.record.specs.Packing.{kindFits, enough, amountFits, digitsFit, allDigits, realsFit, noNaN, insideArea, argumentFits}
 use Rattle.record.proofs.Fields.{split}
 use Rattle.arguments.specs.Checks.{verdictOf, Sound}
-use Rattle.arguments.specs.declared.check.Verdict.the-variants.{Fits, Refused}
+use Rattle.arguments.specs.declared.Verdict.the-variants.{Fits, Refused}
 
 -- ---- each answer of the check
 

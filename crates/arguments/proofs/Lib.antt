@@ -1,4 +1,2 @@
--- Laws of the check of an argument and of the measuring pass.
-pub mod Bounds
+-- Laws of the check of an argument.
 pub mod ArgumentLaws
-pub mod MeasureLaws

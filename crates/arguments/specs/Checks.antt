@@ -8,8 +8,8 @@ use Rattle.layout.specs.declared.Count.{Count}
 use Rattle.layout.specs.Refusals.{Result, ok, refused}
 use Rattle.record.specs.declared.slots.Slot.{Slot}
 use Rattle.record.specs.Packing.{argumentFits}
-use Rattle.arguments.specs.declared.check.Verdict.{Verdict}
-use Rattle.arguments.specs.declared.check.Verdict.the-variants.{Fits, Refused}
+use Rattle.arguments.specs.declared.Verdict.{Verdict}
+use Rattle.arguments.specs.declared.Verdict.the-variants.{Fits, Refused}
 
 abbrev pub verdictOf : Result (Unit {0}) → Verdict
 verdictOf (ok a) = Fits

@@ -1,3 +1,2 @@
--- What the check of an argument and the measuring pass compute. The definition of packing itself stands in the crate `record`.
+-- What the check of an argument computes. The definition of packing itself stands in the crate `record`.
 pub mod Checks
-pub mod Measure

@@ -1,108 +1,191 @@
-// The arguments of a packing: each is checked, and the length of the result is measured. Nothing is written.
+// The check of one argument: whether it is refused with one of the numbers 6 to 10, or 16 (the table of numbers is in include/curlew.h).
 ghost use mathlib.Core.Path.{_≡_};
-ghost use Prim.Native.Nat.{_+_, _<_};
-ghost use Rattle.layout.specs.Words.{decoded, fieldOf, FitCount};
-ghost use Rattle.record.specs.Table.{slotsOf};
-ghost use Rattle.record.specs.Slots.{slotAt};
-ghost use Rattle.record.specs.Cursor.{origin, moved};
-ghost use Rattle.arguments.specs.Measure.{Ready, Prepared, stepped, checked, steppedOf, Measures};
-use check::Verdict;
-use layout::Code;
+ghost use mathlib.Core.Bool.{Bool, true};
+ghost use Prim.Native.Nat.{ℕ, _+_, _*_, _≤_, _<_};
+ghost use lib.Dec.{eqb};
+ghost use Rattle.layout.specs.declared.Shape.the-variants.{Integers, Reals};
+ghost use Rattle.layout.specs.Words.{lastDigits, lastIntegers, lastData, shapeNumbered};
+ghost use Rattle.record.specs.Table.{numberLimit, real, shown};
+ghost use Rattle.record.specs.Packing.{kindFits, enough, amountFits, digitsFit, realsFit, insideArea, argumentFits};
+ghost use Rattle.arguments.specs.Checks.{verdictOf, Sound};
 use layout::Count;
-use layout::Motion;
 use layout::Refusal;
 use layout::Shape;
-use record::Cursor;
+use record::slots::Slot;
 
-mod check;
-
-// What one field does to the pass: the cursor moves on, or the argument is refused.
-pub enum Stepped {
-    Next(Cursor),
-    Stop(Refusal, usize),
-}
-
-// What the pass answers: the length of the result, or the refusal and the number of the slot.
-pub enum Measured {
-    Length(usize),
+// What a check answers: nothing is wrong, or the refusal and its place.
+pub enum Verdict {
+    Fits,
     Refused(Refusal, usize),
 }
 
-// The cursor after `x X @`.
-pub fn moved(m: Motion, n: Count, c: Cursor) -> Cursor
-    requires { ⌜ (c .at < 1152921504606846976) × FitCount n ⌝ }
-    ensures { λ r. ⌜ r ≡ moved c m n ⌝ }
+// The kind is one that the type takes; else number 8.
+fn kind_fits(s: Shape, kind: usize) -> bool
+    ensures { λ r. ⌜ r ≡ kindFits s kind ⌝ }
 {
-    match m {
-        Motion::Skip => c.store(record::amount(n, 0)),
-        Motion::Back => c.back(n),
-        Motion::Goto => c.goto(n),
+    match s {
+        Shape::Text(_) => kind == 1,
+        Shape::Digits(_, _) => kind == 1,
+        Shape::Integers(_, _) => slot_table::is_integers(kind),
+        Shape::Reals(_, _) => kind == record::slots::REAL,
     }
 }
 
-// One field of the pass, by the exact check of its argument.
-fn step_exactly(code: Code, n: Count, slots: &[u32], area: &[u8], k: usize, c: Cursor) -> Stepped
-    requires { ⌜ Ready (now slots) k c code n ⌝ }
-    ensures { λ r. ⌜ r ≡ steppedOf (stepped (now (area .entry)) k (slotAt (now (slots .entry)) k) c code n) ⌝ }
+fn is_enough(n: Count, have: usize) -> bool
+    ensures { λ r. ⌜ r ≡ enough n have ⌝ }
 {
-    match code {
-        Code::Data(s) => {
-            let a = slot_table::slot_at(slots, k);
-            let v = check::check(s, n, a, k, area);
-            match v {
-                Verdict::Refused(why, place) => Stepped::Stop(why, place),
-                Verdict::Fits => {
-                    let bytes = record::bytes_for(s, record::amount(n, a.len));
-                    Stepped::Next(c.store(bytes))
-                }
-            }
-        }
-        Code::Move(m) => Stepped::Next(moved(m, n, c)),
+    match n {
+        Count::Absent => have == 1,
+        Count::Star => true,
+        Count::Times(m) => m <= have,
     }
 }
 
-// One field of the pass. A value whose argument passes the quick test is measured by the number of its type; the exact check does the rest.
-fn step(word: u32, slots: &[u32], area: &[u8], k: usize, c: Cursor) -> Stepped
-    requires { ⌜ Ready (now slots) k c (fieldOf word .code) (fieldOf word .count) ⌝ }
-    ensures { λ r. ⌜ r ≡ steppedOf (stepped (now (area .entry)) k (slotAt (now (slots .entry)) k) c (fieldOf word .code) (fieldOf word .count)) ⌝ }
+// There are as many integers or reals as the count asks for; else number 9.
+fn amount_fits(s: Shape, n: Count, have: usize) -> bool
+    ensures { λ r. ⌜ r ≡ amountFits s n have ⌝ }
 {
-    let d = word % layout::FLAG_UNIT;
-    if d <= layout::LAST_DATA {
-        let a = slot_table::slot_at(slots, k);
-        let n = layout::count_from(word / layout::COUNT_UNIT);
-        if check::serves(d, n, a, area) {
-            let bytes = record::bytes_numbered(d, record::amount(n, a.len));
-            return Stepped::Next(c.store(bytes));
-        }
+    match s {
+        Shape::Text(_) => true,
+        Shape::Digits(_, _) => true,
+        Shape::Integers(_, _) => is_enough(n, have),
+        Shape::Reals(_, _) => is_enough(n, have),
     }
-    let f = layout::field_of(word);
-    let code = f.code;
-    let count = f.count;
-    step_exactly(code, count, slots, area, k, c)
 }
 
-// The pass over the fields in the first n words.
-pub fn measure(words: &[u32], n: usize, slots: &[u32], area: &[u8]) -> Measured
-    requires { ⌜ Prepared n (now words) (now slots) ⌝ }
-    ensures { λ r. ⌜ Measures (checked (now (area .entry)) 0 (slotsOf (now (slots .entry))) (decoded n (now (words .entry))) origin) r ⌝ }
+// Each digit that is looked at is one; else number 10.
+fn digits_fit(s: Shape, n: usize, a: Slot, area: &[u8]) -> bool
+    requires { ⌜ (kindFits s (a .kind) ≡ true) × (insideArea (now area) a ≡ true) ⌝ }
+    ensures { λ r. ⌜ r ≡ digitsFit s n (shown (now (area .entry)) a .items) ⌝ }
 {
-    let mut c = Cursor::new(0);
-    let mut k: usize = 0;
-    let mut i: usize = 0;
-    while i < n {
-        let word = words[i];
-        let taken = layout::slots_in(word % layout::FLAG_UNIT);
-        let t = step(word, slots, area, k, c);
-        match t {
-            Stepped::Stop(why, place) => {
-                return Measured::Refused(why, place);
-            }
-            Stepped::Next(d) => {
-                c = d;
-                k += taken;
-                i += 1;
-            }
-        }
+    match s {
+        Shape::Text(_) => true,
+        Shape::Digits(hex, _) => { digits::all_digits(area, a.start, record::least(n, a.len), hex) }
+        Shape::Integers(_, _) => true,
+        Shape::Reals(_, _) => true,
     }
-    Measured::Length(c.end)
+}
+
+// None of the first n reals that become singles is a NaN.
+fn singles_fit(single: bool, n: usize, a: Slot, area: &[u8]) -> bool
+    requires { ⌜ (eqb (a .kind) real ≡ true) × (insideArea (now area) a ≡ true) ⌝ }
+    ensures { λ r. ⌜ ((big : Bool) → r ≡ realsFit (Reals single big) n (shown (now (area .entry)) a .items)) ⌝ }
+{
+    if single {
+        return reals::no_nan(area, a.start, record::least(n, a.len));
+    }
+    true
+}
+
+// The same of any argument; else number 16.
+fn reals_fit(s: Shape, n: usize, a: Slot, area: &[u8]) -> bool
+    requires { ⌜ (kindFits s (a .kind) ≡ true) × (insideArea (now area) a ≡ true) ⌝ }
+    ensures { λ r. ⌜ r ≡ realsFit s n (shown (now (area .entry)) a .items) ⌝ }
+{
+    match s {
+        Shape::Text(_) => true,
+        Shape::Digits(_, _) => true,
+        Shape::Integers(_, _) => true,
+        Shape::Reals(single, _) => singles_fit(single, n, a, area),
+    }
+}
+
+// The argument in slot number k serves a field.
+pub fn check(s: Shape, n: Count, a: Slot, k: usize, area: &[u8]) -> Verdict
+    requires { ⌜ (a .start < numberLimit) × (a .len < numberLimit) ⌝ }
+    ensures { λ r. ⌜ r ≡ verdictOf (argumentFits (now (area .entry)) s n k a) ⌝ }
+{
+    if a.kind == 0 {
+        return Verdict::Refused(Refusal::NotSet, k);
+    }
+    if !slot_table::is_inside(a, area.len()) {
+        return Verdict::Refused(Refusal::BadSlot, k);
+    }
+    if !kind_fits(s, a.kind) {
+        return Verdict::Refused(Refusal::WrongKind, k);
+    }
+    if !amount_fits(s, n, a.len) {
+        return Verdict::Refused(Refusal::WrongAmount, k);
+    }
+    if !digits_fit(s, record::amount(n, a.len), a, area) {
+        return Verdict::Refused(Refusal::BadDigit, k);
+    }
+    if !reals_fit(s, record::amount(n, a.len), a, area) {
+        return Verdict::Refused(Refusal::BadReal, k);
+    }
+    Verdict::Fits
+}
+
+// ---- the quick test: the usual argument, which serves, is spared the exact check
+
+// Integers serve: where this holds, nothing is wrong with them.
+fn integers_serve(n: Count, a: Slot, area: &[u8]) -> bool
+    requires { ⌜ (a .start < numberLimit) × (a .len < numberLimit) ⌝ }
+    ensures { λ r. ⌜ ((w : ℕ) (big : Bool) → Sound r (now (area .entry)) (Integers w big) n a) ⌝ }
+{
+    let kind = a.kind;
+    if kind < record::slots::SIGNED {
+        return false;
+    }
+    if record::slots::UNSIGNED < kind {
+        return false;
+    }
+    if area.len() < a.start + a.len * 8 {
+        return false;
+    }
+    is_enough(n, a.len)
+}
+
+// Reals serve.
+fn reals_serve(d: u32, n: Count, a: Slot, area: &[u8]) -> bool
+    requires { ⌜ (lastIntegers < d) × (d ≤ lastData) × (a .start < numberLimit) × (a .len < numberLimit) ⌝ }
+    ensures { λ r. ⌜ Sound r (now (area .entry)) (shapeNumbered d) n a ⌝ }
+{
+    if a.kind != record::slots::REAL {
+        return false;
+    }
+    if area.len() < a.start + a.len * record::INTEGER_SIZE {
+        return false;
+    }
+    if !is_enough(n, a.len) {
+        return false;
+    }
+    singles_fit(d <= layout::LAST_SINGLE, record::amount(n, a.len), a, area)
+}
+
+// A string serves.
+fn string_serves(d: u32, n: Count, a: Slot, area: &[u8]) -> bool
+    requires { ⌜ (d ≤ lastDigits) × (a .start < numberLimit) × (a .len < numberLimit) ⌝ }
+    ensures { λ r. ⌜ Sound r (now (area .entry)) (shapeNumbered d) n a ⌝ }
+{
+    if a.kind != 1 {
+        return false;
+    }
+    if area.len() < a.start + a.len {
+        return false;
+    }
+    if d <= layout::LAST_TEXT {
+        return true;
+    }
+    let items = record::amount(n, a.len);
+    digits::all_digits(
+        area,
+        a.start,
+        record::least(items, a.len),
+        layout::LAST_BINARY < d,
+    )
+}
+
+// The argument serves a field, by the number of the field's type. Where this does not hold, `check` finds what is wrong.
+pub fn serves(d: u32, n: Count, a: Slot, area: &[u8]) -> bool
+    requires { ⌜ (d ≤ lastData) × (a .start < numberLimit) × (a .len < numberLimit) ⌝ }
+    ensures { λ r. ⌜ Sound r (now (area .entry)) (shapeNumbered d) n a ⌝ }
+{
+    if layout::LAST_INTEGERS < d {
+        return reals_serve(d, n, a, area);
+    }
+    if layout::LAST_DIGITS < d {
+        return integers_serve(n, a, area);
+    }
+    string_serves(d, n, a, area)
 }

@@ -20,8 +20,8 @@ use Rattle.record.specs.declared.Answer.{Answer}
 use Rattle.record.specs.declared.Cursor.{Cursor}
 use Rattle.record.specs.Cursor.{origin}
 use Rattle.record.specs.Packing.{accepted, refusal}
-use Rattle.arguments.specs.Measure.{advance}
-use Rattle.arguments.proofs.Bounds.{advance-within}
+use Rattle.measuring.specs.Measure.{advance}
+use Rattle.measuring.proofs.Bounds.{advance-within}
 use Rattle.describe.specs.Description.{leastLength, fieldReach, layoutReach, described}
 use Rattle.describe.specs.Measure.{passed, Holds, Least}
 use Rattle.describe.proofs.Passing.{passed-length, advance-near}

@@ -20,7 +20,7 @@ use Rattle.record.specs.Table.{slotsOf}
 use Rattle.record.specs.Cursor.{origin}
 use Rattle.record.specs.Packing.{start, cursorOf, packAll, packed, filled, accepted, packs, pack, packEffect, Packed}
 use Rattle.record.proofs.Sizes.{Sized, sized}
-use Rattle.arguments.specs.Measure.{checked}
+use Rattle.measuring.specs.Measure.{checked}
 use Rattle.packer.proofs.RunLaws.{measured-as}
 use Rattle.runs.proofs.Calls.{Passed, packs-passed, accepted-result}
 use Rattle.describe.specs.Description.{leastLength, layoutReach, fieldReach, answerOf, described}

@@ -35,9 +35,9 @@ use Rattle.runs.proofs.Calls.{T→true}
 use Rattle.record.proofs.Bounds.{bytes-small}
 use Rattle.record.proofs.Fields.{Served, length-stored}
 use Rattle.record.proofs.Moves.{Within, pack-within, cursor-store, cursor-goto}
-use Rattle.arguments.specs.Measure.{advance, stepped, checked}
-use Rattle.arguments.proofs.Bounds.{advance-within}
-use Rattle.arguments.proofs.MeasureLaws.{stepped-advance}
+use Rattle.measuring.specs.Measure.{advance, stepped, checked}
+use Rattle.measuring.proofs.Bounds.{advance-within}
+use Rattle.measuring.proofs.MeasureLaws.{stepped-advance}
 use Rattle.describe.specs.Description.{fewest, leastLength, fieldReach}
 use Rattle.describe.specs.Claim.{emptyStar, starsEmpty, noStar, starless}
 use Rattle.describe.specs.Measure.{passed}

@@ -4,7 +4,7 @@ ghost use mathlib.Core.Path.{_≡_};
 ghost use Prim.Native.Nat.{_<_};
 ghost use Rattle.layout.specs.Lent.{before};
 ghost use Rattle.layout.specs.Words.{decoded, FitCode, FitCount};
-ghost use Rattle.arguments.specs.Measure.{advance};
+ghost use Rattle.measuring.specs.Measure.{advance};
 ghost use Rattle.describe.specs.Description.{described};
 ghost use Rattle.describe.specs.Measure.{Holds, Least};
 use layout::Code;
@@ -21,7 +21,7 @@ fn step(code: Code, n: Count, c: Cursor) -> Cursor
 {
     match code {
         Code::Data(s) => c.store(record::bytes_for(s, record::amount(n, 0))),
-        Code::Move(m) => arguments::moved(m, n, c),
+        Code::Move(m) => measuring::moved(m, n, c),
     }
 }
 

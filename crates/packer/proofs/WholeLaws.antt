@@ -18,9 +18,9 @@ use Rattle.record.specs.declared.slots.Slot.{Slot}
 use Rattle.record.specs.Table.{slotsOf, slotWidth}
 use Rattle.record.specs.Geometry.{sizesFit}
 use Rattle.record.specs.Packing.{finished, start, cursorOf, packAll, filled, packed, argumentsFit, accepted, refusal, packs, packEffect, pack}
-use Rattle.arguments.specs.declared.Measured.the-variants.{Length, Refused}
+use Rattle.measuring.specs.declared.Measured.the-variants.{Length, Refused}
 use Rattle.record.specs.Cursor.{origin}
-use Rattle.arguments.specs.Measure.{checked, HasRoom, measuredOf}
+use Rattle.measuring.specs.Measure.{checked, HasRoom, measuredOf}
 use Rattle.packer.specs.Writing.{written, Read}
 use Rattle.record.proofs.Sizes.{Sized, sized}
 use Rattle.record.proofs.Tables.{length-slots}

@@ -22,7 +22,7 @@ use Rattle.record.specs.Geometry.{amount, gotoIn, sizesFit}
 use Rattle.record.specs.Packing.{stored, nextSlot, finished, Packed, packEffect, pack}
 use Rattle.record.specs.Slots.{slotAt}
 use Rattle.record.specs.Cursor.{origin, moved}
-use Rattle.arguments.specs.Measure.{advance, stepped, checked, HasRoom, Ready, Prepared}
+use Rattle.measuring.specs.Measure.{advance, stepped, checked, HasRoom, Ready, Prepared}
 
 -- `x` stores zeros; `@` past the highest position fills the gap with them
 abbrev pub putMove : List ℕ → Cursor → Motion → Count → List ℕ

@@ -7,11 +7,11 @@ ghost use Rattle.layout.specs.Layout.{shortLayout};
 ghost use Rattle.layout.specs.Lent.{before, after};
 ghost use Rattle.record.specs.Table.{maxRecord};
 ghost use Rattle.record.specs.Packing.{pack};
-ghost use Rattle.arguments.specs.Measure.{Prepared};
+ghost use Rattle.measuring.specs.Measure.{Prepared};
 ghost use Rattle.packer.specs.Writing.{finishes, Readable, PacksAsRead};
-use arguments::Measured;
 use layout::Parsed;
 use layout::Refusal;
+use measuring::Measured;
 use record::Answer;
 
 mod write;
@@ -21,7 +21,7 @@ fn finish(words: &[u32], n: usize, slots: &[u32], area: &[u8], output: &mut [u8]
     requires { ⌜ Prepared n (now words) (now slots) × (length (now output) ≤ maxRecord) ⌝ }
     ensures { λ r. ⌜ record { answer = r; output = after output } ≡ finishes (before words) n (before slots) (before area) (before output) ⌝ }
 {
-    let m = arguments::measure(words, n, slots, area);
+    let m = measuring::measure(words, n, slots, area);
     match m {
         Measured::Refused(why, k) => Answer::refused(why, k as u32),
         Measured::Length(len) => {

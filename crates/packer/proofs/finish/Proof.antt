@@ -4,9 +4,9 @@ use native.Mathlib.Omega.{arith}
 use mathlib.Core.Path.{_≡_, sym, _∙_}
 use Rattle.layout.specs.Words.{decoded}
 use Rattle.record.specs.Table.{slotsOf}
-use Rattle.arguments.specs.declared.Measured.the-variants.{Length}
+use Rattle.measuring.specs.declared.Measured.the-variants.{Length}
 use Rattle.record.specs.Cursor.{origin}
-use Rattle.arguments.specs.Measure.{checked, measuredOf}
+use Rattle.measuring.specs.Measure.{checked, measuredOf}
 use Rattle.packer.proofs.WholeLaws.{finish-refused, finish-full, finish-room, finish-done}
 use borrow.Author.Needs.{needs}
 use Rattle.packer.proofs.finish.Statement.{statement}

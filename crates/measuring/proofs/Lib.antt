@@ -1,0 +1,3 @@
+-- Laws of the measuring pass.
+pub mod Bounds
+pub mod MeasureLaws
