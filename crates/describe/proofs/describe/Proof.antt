@@ -23,11 +23,14 @@ returns c = rw (c .refused .ensures) (too-long _ (c .before .if1 .taken))
 fits : (c : tie.Else1) → length (c .before .before .args .layout .now) ≤ maxLayout
 fits c = omega arith
 
-bad : (c : tie.After-known-told) → fieldsOf true (c .before .before .before .before .before .before .before .args .layout .now) ≡ refused (c .before .p .given .0 .0) (c .before .p .given .0 .1 .0)
-bad c = parsed-refused _ _ _ _ _ (c .before .before .before .parse .ensures) (c .before .p .given .1)
+bad : (c : tie.After-known-told) → fieldsOf true (c .before .before .before .before .before .before .before .before .args .layout .now) ≡ refused (c .before .p .given .0 .0) (c .before .p .given .0 .1 .0)
+bad c = parsed-refused _ _ _ _ _ (c .before .before .before .before .parse .ensures) (c .before .p .given .1)
 
-learnt : (c : tie.After-known-told2) → Learnt (fieldsOf true (c .before .before .before .before .before .before .before .args .layout .now)) (c .before .p2 .given .0 .0) (c .before .p2 .given .0 .1 .0) (c .before .before .before .parse .last .1 .1 .0)
-learnt c = parsed-fields _ _ _ _ _ (c .before .before .before .parse .ensures) (c .before .p2 .given .1)
+learnt : (c : tie.After-known-told2) → Learnt (fieldsOf true (c .before .before .before .before .before .before .before .before .args .layout .now)) (c .before .p2 .given .0 .0) (c .before .p2 .given .0 .1 .0) (c .before .before .before .before .parse .last .1 .1 .0)
+learnt c = parsed-fields _ _ _ _ _ (c .before .before .before .before .parse .ensures) (c .before .p2 .given .1)
+
+slice-aggregate-parse : tie.Need-slice-aggregate-parse
+slice-aggregate-parse c = search needs
 
 parse-requires : tie.Need-parse-requires
 parse-requires c κs = search needs
@@ -37,13 +40,16 @@ enum-known-p c = search needs
 
 cast-refused : tie.Need-cast-refused
 cast-refused c =
-    omega (arith, fits (c .before .before .before .before .before), refused-inside true (c .before .before .before .before .before .before .before .args .layout .now) _ _ (bad c))
+    omega (arith, fits (c .before .before .before .before .before .before), refused-inside true (c .before .before .before .before .before .before .before .before .args .layout .now) _ _ (bad c))
 
 refused-requires-2 : tie.Need-refused-requires-2
 refused-requires-2 c κs = search needs
 
 enum-known-p-2 : tie.Need-enum-known-p-2
 enum-known-p-2 c = search needs
+
+slice-aggregate-least-length : tie.Need-slice-aggregate-least-length
+slice-aggregate-least-length c = search needs
 
 least-length-requires : tie.Need-least-length-requires
 least-length-requires c κs =
@@ -55,7 +61,7 @@ cast-accepted c =
     let k = c .before .before in
     let l = learnt k in
     let n = k .before .p2 .given .0 .0 in
-    let ws = k .before .before .before .parse .last .1 .1 .0 in
+    let ws = k .before .before .before .before .parse .last .1 .1 .0 in
     omega (arith, l .taken, l .few, l .room, slots-few (decoded n ws), decoded-length n ws (l .few))
 
 cast-accepted-2 : tie.Need-cast-accepted-2
@@ -67,14 +73,14 @@ accepted-requires c κs = search needs
 returns-2 : tie.Need-returns-2
 returns-2 c =
     let k = c .before in
-    rw (c .refused2 .ensures) (refused-fields _ (fits (k .before .before .before .before .before)) _ _ (bad k))
+    rw (c .refused2 .ensures) (refused-fields _ (fits (k .before .before .before .before .before .before)) _ _ (bad k))
 
 returns-3 : tie.Need-returns-3
 returns-3 c =
     let m = c .before in
     let k = m .before .before in
     let l = learnt k in
-    rw (c .accepted .ensures) (told _ (fits (k .before .before .before .before .before)) _ (l .fields) _ _ (l .taken) (m .least-length .ensures))
+    rw (c .accepted .ensures) (told _ (fits (k .before .before .before .before .before .before)) _ (l .fields) _ _ (l .taken) (m .least-length .ensures))
 
 pub describe-spec : {M : Type 1} → statement M
 describe-spec =
@@ -82,11 +88,13 @@ describe-spec =
     (tie.spec
     refused-requires
     returns
+    slice-aggregate-parse
     parse-requires
     enum-known-p
     cast-refused
     refused-requires-2
     enum-known-p-2
+    slice-aggregate-least-length
     least-length-requires
     cast-accepted
     cast-accepted-2

@@ -16,13 +16,13 @@ new-requires : tie.Need-new-requires Inv-loop μ-loop
 new-requires c κs = search needs
 
 loop-holds : tie.Need-loop-holds Inv-loop μ-loop
-loop-holds c = rw (c .new .ensures) (passing-none _ _ (c .before .pre))
+loop-holds c = rw (c .new .ensures) (passing-none _ _ (c .before .before .pre))
 
 mul-field-of : tie.Need-mul-field-of Inv-loop μ-loop
-mul-field-of c = omega (arith, c .before .before .before .pre)
+mul-field-of c = omega (arith, c .before .before .before .before .pre)
 
-element-copy-out-field-of : tie.Need-element-copy-out-field-of Inv-loop μ-loop
-element-copy-out-field-of c = omega (arith, c .before .before .before .pre)
+shared-slice-read-field-of : tie.Need-shared-slice-read-field-of Inv-loop μ-loop
+shared-slice-read-field-of c = omega (arith, c .before .before .before .before .before .pre)
 
 field-of-requires : tie.Need-field-of-requires Inv-loop μ-loop
 field-of-requires c κs = search needs
@@ -30,13 +30,13 @@ field-of-requires c κs = search needs
 step-requires : tie.Need-step-requires Inv-loop μ-loop
 step-requires c κs =
     let l = c .before .before .before in
-    (c .field-of .ensures .code, c .field-of .ensures .count, passing-near _ _ (l .before .before .pre) _ _ (l .loop .inv))
+    (c .field-of .ensures .code, c .field-of .ensures .count, passing-near _ _ (l .before .before .before .pre) _ _ (l .loop .inv))
 
 loop-again : tie.Need-loop-again Inv-loop μ-loop
 loop-again c =
     let f = c .before in
     let l = f .before .before .before in
-    passing-next _ _ (l .before .before .pre) _ _ (l .loop .inv) (f .before .before .loop-test .taken) _ (f .field-of .ensures .same) _ (c .step .ensures)
+    passing-next _ _ (l .before .before .before .pre) _ _ (l .loop .inv) (f .before .before .loop-test .taken) _ (f .field-of .ensures .same) _ (c .step .ensures)
 
 add-i : tie.Need-add-i Inv-loop μ-loop
 add-i c = omega arith
@@ -45,7 +45,7 @@ loop-less : tie.Need-loop-less Inv-loop μ-loop
 loop-less c = omega arith
 
 returns : tie.Need-returns Inv-loop μ-loop
-returns c = passing-done _ _ (c .before .before .before .pre) _ _ (c .before .loop .inv) (c .loop-test .left)
+returns c = passing-done _ _ (c .before .before .before .before .pre) _ _ (c .before .loop .inv) (c .loop-test .left)
 
 pub least-length-spec : {M : Type 1} → statement M
 least-length-spec =
@@ -56,7 +56,7 @@ least-length-spec =
     new-requires
     loop-holds
     mul-field-of
-    element-copy-out-field-of
+    shared-slice-read-field-of
     field-of-requires
     step-requires
     add-i
