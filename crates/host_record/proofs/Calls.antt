@@ -1,28 +1,37 @@
 -- What each way out of a call leaves is what the definition gives.
-use Prim.Native.Nat.{ℕ, _*_, _<_}
+use Prim.Native.Nat.{ℕ, _*_, _≤_, _<_}
 use native.Mathlib.Omega.{arith}
 use mathlib.Core.Path.{_≡_, refl, sym, ap, _∙_}
-use mathlib.Core.Bool.{true, false}
+use mathlib.Core.Bool.{Bool, true, false}
 use mathlib.Core.List.{List}
-use lib.Dec.{eqb}
+use borrow.Author.Tests.{leb-true, eq-eqb, ne-eqb, eqb-true, eqb-false}
+use lib.Dec.{eqb, leb}
 use lib.ListN.{length, take}
 use Rattle.layout.specs.declared.Refusal.the-variants.{BadSize}
-use Rattle.layout.specs.Refusals.{numberOf}
+use Rattle.layout.specs.Refusals.{numberOf, if_then_else_}
+use Rattle.layout.specs.Layout.{shortLayout}
 use Rattle.record.specs.declared.Answer.{Answer}
 use Rattle.record.specs.declared.ReadAnswer.{ReadAnswer}
 use Rattle.record.specs.Bytes.{storeAt}
-use Rattle.record.proofs.Bytes.{All}
+use Rattle.record.proofs.Bytes.{All, and-true}
 use Rattle.record.specs.Table.{maxSlots, slotWidth}
 use Rattle.record.specs.Geometry.{sizesFit}
-use Rattle.record.specs.Packing.{refusal, packs, pack}
+use Rattle.record.specs.Packing.{Packed, refusal, packs, pack}
 use Rattle.record.specs.Reading.{reads, read, readSteps, ReadAll, leftOf, readAll}
 use Rattle.record.proofs.Sizes.{too-many}
-use Rattle.record.proofs.Readings.{over, read-over, steps-same}
+use Rattle.record.proofs.Readings.{over, read-over, steps-same, set-few}
 use Rattle.host.specs.Host.{numberSize, replySize, longReplySize, numbersIn, bytesOf, replyOf, longReply, packCall, ReadCall, readCall, slotsFit}
 use Rattle.host.proofs.NumberLaws.{length-numbersIn}
 use Rattle.host.proofs.Guards.{Fit, guarded-unwritten, guarded-refused, guarded-served}
 use Rattle.host.proofs.Calls as host
-use Rattle.host_record.specs.Calls.{curlewPack, stepsCall, curlewRead}
+use Rattle.host_record.specs.Calls.{fewNumbers, isSmall, curlewPack, stepsCall, curlewRead, writtenBack}
+
+-- what the test for the small arrays lets through
+pub short-and-few : {b : Bool} {layout numbers : ℕ} → b ≡ isSmall layout numbers → b ≡ true → (layout ≤ shortLayout) × (numbers ≤ fewNumbers)
+unfolding isSmall
+short-and-few {b} {layout} {numbers} e h =
+    let (short, few) = and-true (leb layout shortLayout) (leb numbers fewNumbers) (sym e ∙ h) in
+    (leb-true layout shortLayout short, leb-true numbers fewNumbers few)
 
 -- more slots than a call may be lent are refused with 1
 module _ (layout ns bs area : List ℕ) (many : slotWidth * maxSlots < length ns) where
@@ -40,10 +49,9 @@ module _ (layout ns bs area : List ℕ) (many : slotWidth * maxSlots < length ns
 -- ---- packing
 
 module _ (layout slots area out : List ℕ) where
-  -- the call on numbers, and the reply
-  pub pack-replied : {ns out′ reply′ : List ℕ} {a : Answer} {r : ℕ} → ns ≡ numbersIn slots → record { answer = a; output = out′ } ≡ pack layout ns area out → (r ≡ a .number) × (reply′ ≡ replyOf a)
-      → record { returned = r; output = out′; reply = reply′ } ≡ packCall (pack layout (numbersIn slots) area out)
-  pack-replied e p q = host.pack-replied q (p ∙ ap (λ (n : List ℕ). pack layout n area out) e)
+  -- the call on the numbers that were decoded
+  pub packed : {ns : List ℕ} {p : Packed} → ns ≡ numbersIn slots → p ≡ pack layout ns area out → p ≡ pack layout (numbersIn slots) area out
+  packed e p = p ∙ ap (λ (n : List ℕ). pack layout n area out) e
 
   module _ (reply : List ℕ) where
     pub pack-unwritten : eqb (length reply) replySize ≡ false → record { returned = numberOf BadSize; output = out; reply = reply } ≡ curlewPack layout slots area out reply
@@ -58,15 +66,31 @@ module _ (layout slots area out : List ℕ) where
           let here : record { returned = r; output = out; reply = reply′ } ≡ packCall (record { answer = refusal BadSize 0; output = out }) = rw (q .0, q .1, e) in
           here ∙ guarded-refused replySize reply slots _ _ _ sized bad (λ many. ap packCall (pack-many layout (numbersIn slots) out area many))
 
-      pub pack-served : Fit (length slots) → packCall (pack layout (numbersIn slots) area out) ≡ curlewPack layout slots area out reply
+      pub pack-served : {a : Answer} {out′ reply′ : List ℕ} {r : ℕ} → Fit (length slots) → record { answer = a; output = out′ } ≡ pack layout (numbersIn slots) area out
+          → (r ≡ a .number) × (reply′ ≡ replyOf a) → record { returned = r; output = out′; reply = reply′ } ≡ curlewPack layout slots area out reply
       unfolding curlewPack
-      pack-served f = guarded-served replySize reply slots _ _ _ sized f
+      pack-served f p q = host.pack-replied q p ∙ guarded-served replySize reply slots _ _ _ sized f
 
 -- ---- reading
 
+-- what a refusal leaves, and an accepted reading
+module _ (slots ns : List ℕ) (a : Answer) where
+  pub left-back : (a .number ≡ 0 → ⊥) → slots ≡ writtenBack slots ns a
+  unfolding writtenBack
+  left-back h = rw (ne-eqb (a .number) 0 h)
+
+  pub set-back : {slots′ : List ℕ} → a .number ≡ 0 → slots′ ≡ storeAt slots 0 (bytesOf (take (a .first * slotWidth) ns)) → slots′ ≡ writtenBack slots ns a
+  unfolding writtenBack
+  set-back h s = rw (eq-eqb (a .number) 0 h) s
+
+-- what a call left has room for the slots that it set
+pub set-room : (layout bytes area : List ℕ) (mark : ℕ) (ns : List ℕ) {ns′ area′ : List ℕ} {a : ReadAnswer} → record { answer = a; slots = ns′; area = area′ } ≡ readAll layout bytes ns area mark
+    → length ns′ ≡ length ns → a .answer .number ≡ 0 → a .answer .first * slotWidth ≤ length ns′
+set-room layout bytes area mark ns p e h = set-few layout bytes area mark ns (ap leftOf p) h e
+
 module _ (layout bytes slots area : List ℕ) (mark : ℕ) where
-  module _ (ns : List ℕ) {ns′ area′ reply′ : List ℕ} {a : ReadAnswer} {r : ℕ} (size : length slots ≡ length ns * numberSize)
-      (p : record { answer = a; slots = ns′; area = area′ } ≡ readAll layout bytes ns area mark) (q : (r ≡ a .answer .number) × (reply′ ≡ longReply (a .answer) (a .steps))) where
+  module _ (ns : List ℕ) {ns′ area′ slots′ reply′ : List ℕ} {a : ReadAnswer} {r : ℕ} (size : length slots ≡ length ns * numberSize)
+      (p : record { answer = a; slots = ns′; area = area′ } ≡ readAll layout bytes ns area mark) (q : (r ≡ a .answer .number) × (reply′ ≡ longReply (a .answer) (a .steps)) × (slots′ ≡ writtenBack slots ns′ (a .answer))) where
     same : length ns ≡ length (numbersIn slots)
     same = rw length-numbersIn (omega arith)
 
@@ -84,14 +108,14 @@ module _ (layout bytes slots area : List ℕ) (mark : ℕ) where
         let reply : reply′ ≡ longReply (read layout bytes (numbersIn slots) area mark .answer) (readSteps layout bytes (numbersIn slots) area mark) = q .1 ∙ rw (lent, steps) in
         rw (reply, e)
 
-    -- a refusal leaves the slots
-    pub read-left : (a .answer .number ≡ 0 → ⊥) → record { returned = r; slots = slots; area = area′; reply = reply′ } ≡ stepsCall slots (readAll layout bytes (numbersIn slots) area mark)
-    read-left h = replied (host.read-left (q .0, refl) slots ns′ lent h)
-
-    -- and an accepted reading the bytes of those that it did not set
-    pub read-set : {slots′ : List ℕ} → a .answer .number ≡ 0 → All (λ b. b < 256) slots → slots′ ≡ storeAt slots 0 (bytesOf (take (a .answer .first * slotWidth) ns′))
+    by-answer : (b : Bool) → eqb (a .answer .number) 0 ≡ b → slots′ ≡ (if b then storeAt slots 0 (bytesOf (take (a .answer .first * slotWidth) ns′)) else slots) → All (λ b. b < 256) slots
         → record { returned = r; slots = slots′; area = area′; reply = reply′ } ≡ stepsCall slots (readAll layout bytes (numbersIn slots) area mark)
-    read-set h below s = replied (host.read-set (q .0, refl) slots ns′ lent h (omega arith) below s)
+    by-answer true e s below = replied (host.read-set (q .0, refl) slots ns′ lent (eqb-true (a .answer .number) 0 e) (omega arith) below s)
+    by-answer false e s below = rw s (replied (host.read-left (q .0, refl) slots ns′ lent (eqb-false (a .answer .number) 0 e)))
+
+    pub read-replied : All (λ b. b < 256) slots → record { returned = r; slots = slots′; area = area′; reply = reply′ } ≡ stepsCall slots (readAll layout bytes (numbersIn slots) area mark)
+    unfolding writtenBack
+    read-replied below = by-answer (eqb (a .answer .number) 0) refl (q .2) below
 
   module _ (reply : List ℕ) where
     pub read-unwritten : eqb (length reply) longReplySize ≡ false → record { returned = numberOf BadSize; slots = slots; area = area; reply = reply } ≡ curlewRead layout bytes slots area mark reply
@@ -106,6 +130,8 @@ module _ (layout bytes slots area : List ℕ) (mark : ℕ) where
           let here : record { returned = r; slots = slots; area = area; reply = reply′ } ≡ stepsCall slots (record { answer = record { answer = refusal BadSize 0; steps = 0 }; slots = numbersIn slots; area = area }) = rw (q .0, q .1, e) in
           here ∙ guarded-refused longReplySize reply slots _ _ _ sized bad (λ many. ap (stepsCall slots) (read-many layout (numbersIn slots) bytes area many mark))
 
-      pub read-served : Fit (length slots) → stepsCall slots (readAll layout bytes (numbersIn slots) area mark) ≡ curlewRead layout bytes slots area mark reply
+      pub read-served : {r : ℕ} {slots′ area′ reply′ : List ℕ} → Fit (length slots)
+          → record { returned = r; slots = slots′; area = area′; reply = reply′ } ≡ stepsCall slots (readAll layout bytes (numbersIn slots) area mark)
+          → record { returned = r; slots = slots′; area = area′; reply = reply′ } ≡ curlewRead layout bytes slots area mark reply
       unfolding curlewRead
-      read-served f = guarded-served longReplySize reply slots _ _ _ sized f
+      read-served f e = e ∙ guarded-served longReplySize reply slots _ _ _ sized f

@@ -1,14 +1,17 @@
--- Each way out is one law of the definition; what was tested on the way is its premise.
+-- Each way out is one law of the definition; what was tested on the way is its premise. What the room is lent for fits into it, small or large.
+use Prim.Native.Nat.{_/_, _≤_}
 use native.Mathlib.Omega.{arith}
 use mathlib.Core.Path.{_≡_, sym, _∙_}
 use borrow.Author.Tests.{not-true, not-false, eqb-true}
 use mathlib.Core.Bool.{true}
 use lib.Dec.{eqb}
 use lib.ListN.{length}
-use Rattle.host.specs.Host.{replySize}
+use Rattle.layout.specs.Layout.{shortLayout}
+use Rattle.host.specs.Host.{numberSize, replySize}
 use lib.Seq.{length-take-le}
 use Rattle.host.proofs.Guards.{Fit, fit, room-for, room-whole}
-use Rattle.host_record.proofs.Calls.{pack-unwritten, pack-refused, pack-served}
+use Rattle.host_record.specs.Calls.{fewNumbers}
+use Rattle.host_record.proofs.Calls.{short-and-few, pack-unwritten, pack-refused, pack-served}
 use borrow.Author.Needs.{needs}
 use Rattle.host_record.proofs.pack.Statement.{statement}
 use Rattle.host_record.proofs.pack.Tie as tie
@@ -43,16 +46,25 @@ returns-2 c =
 served : (c : tie.Else2) → Fit (length (c .before .before .before .before .before .before .before .before .before .args .slots .now))
 served c = fit _ (sym (c .before .slots-fit .ensures) ∙ not-false _ (c .if2 .left))
 
+small-requires : tie.Need-small-requires
+small-requires c κs = search needs
+
+short : (c : tie.Then3) → (length (c .before .before .before .before .before .before .before .before .before .before .before .args .layout .now) ≤ shortLayout) × (length (c .before .before .before .before .before .before .before .before .before .before .before .args .slots .now) / numberSize ≤ fewNumbers)
+short c = short-and-few (c .before .small .ensures) (c .if3 .taken)
+
 array-borrow-prefix-room : tie.Need-array-borrow-prefix-room
-array-borrow-prefix-room c = let k = served (c .before .before) in omega (arith, k .few)
+array-borrow-prefix-room c = short (c .before) .1
 
-slice-aggregate-pack-by : tie.Need-slice-aggregate-pack-by
-slice-aggregate-pack-by c = sym (length-take-le _ _ (array-borrow-prefix-room (c .before)))
+slice-aggregate-pack-short : tie.Need-slice-aggregate-pack-short
+slice-aggregate-pack-short c = sym (length-take-le _ _ (array-borrow-prefix-room (c .before)))
 
-pack-by-requires : tie.Need-pack-by-requires
-pack-by-requires c κs =
-    let tested = c .before .before .before in
-    (eqb-true _ _ (sized (tested .before .before)), room-for _ (served tested) (array-borrow-prefix-room (c .before)), room-whole _ (served tested) (array-borrow-prefix-room (c .before)))
+pack-short-requires : tie.Need-pack-short-requires
+pack-short-requires c κs =
+    let tested = c .before .before in
+    (short tested .0, (room-for _ (served (tested .before .before)) (array-borrow-prefix-room (c .before)), room-whole _ (served (tested .before .before)) (array-borrow-prefix-room (c .before))))
+
+reply-with-requires-2 : tie.Need-reply-with-requires-2
+reply-with-requires-2 c κs = eqb-true _ _ (sized (c .before .before .before .before .before .before .before .before .before .before .before))
 
 same-length-2 : tie.Need-same-length-2
 same-length-2 c = search needs
@@ -62,9 +74,37 @@ same-length-3 c = search needs
 
 returns-3 : tie.Need-returns-3
 returns-3 c =
-    let called = c .before .before .before .before .before in
-    let tested = called .before .before .before .before in
-    called .pack-by .ensures ∙ pack-served _ _ _ _ _ (sized (tested .before .before)) (served tested)
+    let replied = c .before .before in
+    let packed = replied .before .before .before .before .before in
+    let tested = packed .before .before .before .before .before in
+    pack-served _ _ _ _ _ (sized (tested .before .before)) (served tested) (packed .pack-short .ensures) (replied .reply-with2 .ensures)
+
+array-borrow-prefix-room-2 : tie.Need-array-borrow-prefix-room-2
+array-borrow-prefix-room-2 c = let k = served (c .before .before .before) in omega (arith, k .few)
+
+slice-aggregate-pack-long : tie.Need-slice-aggregate-pack-long
+slice-aggregate-pack-long c = sym (length-take-le _ _ (array-borrow-prefix-room-2 (c .before)))
+
+pack-long-requires : tie.Need-pack-long-requires
+pack-long-requires c κs =
+    let tested = c .before .before in
+    (room-for _ (served (tested .before .before)) (array-borrow-prefix-room-2 (c .before)), room-whole _ (served (tested .before .before)) (array-borrow-prefix-room-2 (c .before)))
+
+reply-with-requires-3 : tie.Need-reply-with-requires-3
+reply-with-requires-3 c κs = eqb-true _ _ (sized (c .before .before .before .before .before .before .before .before .before .before .before))
+
+same-length-4 : tie.Need-same-length-4
+same-length-4 c = search needs
+
+same-length-5 : tie.Need-same-length-5
+same-length-5 c = search needs
+
+returns-4 : tie.Need-returns-4
+returns-4 c =
+    let replied = c .before .before in
+    let packed = replied .before .before .before .before .before in
+    let tested = packed .before .before .before .before .before in
+    pack-served _ _ _ _ _ (sized (tested .before .before)) (served tested) (packed .pack-long .ensures) (replied .reply-with3 .ensures)
 
 pub pack-spec : {M : Type 1} → statement M
 pack-spec =
@@ -77,9 +117,18 @@ pack-spec =
     reply-with-requires
     same-length
     returns-2
+    small-requires
     array-borrow-prefix-room
-    slice-aggregate-pack-by
-    pack-by-requires
+    slice-aggregate-pack-short
+    pack-short-requires
+    reply-with-requires-2
     same-length-2
     same-length-3
-    returns-3)
+    returns-3
+    array-borrow-prefix-room-2
+    slice-aggregate-pack-long
+    pack-long-requires
+    reply-with-requires-3
+    same-length-4
+    same-length-5
+    returns-4)

@@ -1,14 +1,17 @@
--- Each way out is one law of the definition; what was tested on the way is its premise.
+-- Each way out is one law of the definition; what was tested on the way is its premise. What the room is lent for fits into it, small or large.
+use Prim.Native.Nat.{_/_, _≤_}
 use native.Mathlib.Omega.{arith}
 use mathlib.Core.Path.{_≡_, sym, _∙_}
 use borrow.Author.Tests.{not-true, not-false, eqb-true}
 use mathlib.Core.Bool.{true}
 use lib.Dec.{eqb}
 use lib.ListN.{length}
-use Rattle.host.specs.Host.{longReplySize}
+use Rattle.layout.specs.Layout.{shortLayout}
+use Rattle.host.specs.Host.{numberSize, longReplySize}
 use lib.Seq.{length-take-le}
 use Rattle.host.proofs.Guards.{Fit, fit, room-for}
-use Rattle.host_record.proofs.Calls.{read-unwritten, read-refused, read-served}
+use Rattle.host_record.specs.Calls.{fewNumbers}
+use Rattle.host_record.proofs.Calls.{short-and-few, read-unwritten, read-refused, read-served}
 use borrow.Author.Needs.{needs}
 use Rattle.host_record.proofs.read.Statement.{statement}
 use Rattle.host_record.proofs.read.Tie as tie
@@ -43,16 +46,22 @@ returns-2 c =
 served : (c : tie.Else2) → Fit (length (c .before .before .before .before .before .before .before .before .before .args .slots .now))
 served c = fit _ (sym (c .before .slots-fit .ensures) ∙ not-false _ (c .if2 .left))
 
+small-requires : tie.Need-small-requires
+small-requires c κs = search needs
+
+short : (c : tie.Then3) → (length (c .before .before .before .before .before .before .before .before .before .before .before .args .layout .now) ≤ shortLayout) × (length (c .before .before .before .before .before .before .before .before .before .before .before .args .slots .now) / numberSize ≤ fewNumbers)
+short c = short-and-few (c .before .small .ensures) (c .if3 .taken)
+
 array-borrow-prefix-room : tie.Need-array-borrow-prefix-room
-array-borrow-prefix-room c = let k = served (c .before .before .before) in omega (arith, k .few)
+array-borrow-prefix-room c = short (c .before .before .before) .1
 
-slice-aggregate-read-by : tie.Need-slice-aggregate-read-by
-slice-aggregate-read-by c = sym (length-take-le _ _ (array-borrow-prefix-room (c .before)))
+slice-aggregate-read-short : tie.Need-slice-aggregate-read-short
+slice-aggregate-read-short c = sym (length-take-le _ _ (array-borrow-prefix-room (c .before)))
 
-read-by-requires : tie.Need-read-by-requires
-read-by-requires c κs =
+read-short-requires : tie.Need-read-short-requires
+read-short-requires c κs =
     let tested = c .before .before .before .before in
-    (eqb-true _ _ (sized (tested .before .before)), room-for _ (served tested) (array-borrow-prefix-room (c .before)))
+    (short tested .0, eqb-true _ _ (sized (tested .before .before .before .before)), room-for _ (served (tested .before .before)) (array-borrow-prefix-room (c .before)))
 
 same-length-2 : tie.Need-same-length-2
 same-length-2 c = search needs
@@ -66,8 +75,34 @@ same-length-4 c = search needs
 returns-3 : tie.Need-returns-3
 returns-3 c =
     let called = c .before .before .before .before .before .before .before in
-    let tested = called .before .before .before .before .before in
-    called .read-by .ensures ∙ read-served _ _ _ _ _ _ (sized (tested .before .before)) (served tested)
+    let tested = called .before .before .before .before .before .before .before in
+    read-served _ _ _ _ _ _ (sized (tested .before .before)) (served tested) (called .read-short .ensures)
+
+array-borrow-prefix-room-2 : tie.Need-array-borrow-prefix-room-2
+array-borrow-prefix-room-2 c = let k = served (c .before .before .before .before .before) in omega (arith, k .few)
+
+slice-aggregate-read-long : tie.Need-slice-aggregate-read-long
+slice-aggregate-read-long c = sym (length-take-le _ _ (array-borrow-prefix-room-2 (c .before)))
+
+read-long-requires : tie.Need-read-long-requires
+read-long-requires c κs =
+    let tested = c .before .before .before .before in
+    (eqb-true _ _ (sized (tested .before .before .before .before)), room-for _ (served (tested .before .before)) (array-borrow-prefix-room-2 (c .before)))
+
+same-length-5 : tie.Need-same-length-5
+same-length-5 c = search needs
+
+same-length-6 : tie.Need-same-length-6
+same-length-6 c = search needs
+
+same-length-7 : tie.Need-same-length-7
+same-length-7 c = search needs
+
+returns-4 : tie.Need-returns-4
+returns-4 c =
+    let called = c .before .before .before .before .before .before .before in
+    let tested = called .before .before .before .before .before .before .before in
+    read-served _ _ _ _ _ _ (sized (tested .before .before)) (served tested) (called .read-long .ensures)
 
 pub read-spec : {M : Type 1} → statement M
 read-spec =
@@ -80,10 +115,18 @@ read-spec =
     reply-long-requires
     same-length
     returns-2
+    small-requires
     array-borrow-prefix-room
-    slice-aggregate-read-by
-    read-by-requires
+    slice-aggregate-read-short
+    read-short-requires
     same-length-2
     same-length-3
     same-length-4
-    returns-3)
+    returns-3
+    array-borrow-prefix-room-2
+    slice-aggregate-read-long
+    read-long-requires
+    same-length-5
+    same-length-6
+    same-length-7
+    returns-4)
