@@ -34,7 +34,7 @@ use Rattle.record.specs.Table.{slotWidth}
 use Rattle.slots.specs.declared.Slot.{Slot}
 use Rattle.slots.specs.Slots.{maxNumbers, taken}
 use Rattle.slots.proofs.Runs.{filled, length-filled}
-use Rattle.slots.proofs.Calls.{taken-within}
+use Rattle.slots.proofs.Limits.{taken-within}
 use Rattle.slots.proofs.Turns.{numbers-fit}
 use Rattle.slots.proofs.Zeros.{zeros}
 use Rattle.slots.proofs.Slot as T

@@ -52,7 +52,7 @@ fn write_record(bytes: &[u8; 5]) {
 
 fn show_read(name: &[u8], layout: &[u8], bytes: &[u8; 5], slots: [Slot; slots::ROWS]) {
     let mut area: [u8; 32] = [0; 32];
-    let read = slots::read_some(layout, bytes, slots, 2, &mut area, 4);
+    let read = slots_read::read_some(layout, bytes, slots, 2, &mut area, 4);
     write_read(name, read.answer);
     let s = read.slots;
     write_slot(s[0]);
@@ -133,7 +133,7 @@ fn pack_both(layout: &[u8], count: usize) {
         return;
     }
     let mut by_slots: [u8; slots::ROWS] = [0; slots::ROWS];
-    let answer = slots::pack_some(layout, table(), count, b"xyz", &mut by_slots);
+    let answer = slots_pack::pack_some(layout, table(), count, b"xyz", &mut by_slots);
     write_answer(b"pack", answer);
     write_bytes(by_slots[0], by_slots[record::MAX_SLOTS - 1]);
     let mut by_numbers: [u8; slots::ROWS] = [0; slots::ROWS];
@@ -148,7 +148,7 @@ fn read_slots(layout: &[u8], count: usize) {
         return;
     }
     let mut area: [u8; 4 + slots::ROWS] = [0; 4 + slots::ROWS];
-    let read = slots::read_some(
+    let read = slots_read::read_some(
         layout,
         b"oppppppppppppppppppppppppppppppppppppppppppppppppppppppppppppppqr",
         table(),
@@ -234,10 +234,10 @@ fn two() {
         position: 0,
     };
     let mut bytes: [u8; 5] = [0; 5];
-    let packed = slots::pack_some(b"a3c2", pair(string, integers), 2, &area, &mut bytes);
+    let packed = slots_pack::pack_some(b"a3c2", pair(string, integers), 2, &area, &mut bytes);
     write_answer(b"packed", packed);
     write_record(&bytes);
-    let refused = slots::pack_some(b"a3c2", pair(integers, string), 2, &area, &mut bytes);
+    let refused = slots_pack::pack_some(b"a3c2", pair(integers, string), 2, &area, &mut bytes);
     write_answer(b"refused", refused);
     write_record(&bytes);
     show_read(b"read", b"a3c2", &bytes, pair(unset, unset));

@@ -49,7 +49,7 @@ use Rattle.slots.specs.declared.Slot.{Slot}
 use Rattle.record.specs.Table.{slotWidth, maxSlots}
 use Rattle.slots.specs.Slots.{maxNumbers, putAt, taken}
 use Rattle.slots.proofs.Runs.{noSlot, slotOf, loaded, length-loaded, loaded-is}
-use Rattle.slots.proofs.Calls.{taken-within}
+use Rattle.slots.proofs.Limits.{taken-within}
 use Rattle.slots.proofs.Turns.{recordSize, numbers-fit, bytes-fit, place-fits, next-fits, slot-more, less-left, one-more, held, over}
 use Rattle.slots.proofs.Slot as T
 use Rattle.slots.proofs.Slot.Laws as T′

@@ -1,7 +1,7 @@
 -- The test is the definition's own.
 use mathlib.Core.Path.{sym}
 use borrow.Author.Needs.{needs}
-use Rattle.slots.proofs.Calls.{taken-few, taken-many}
+use Rattle.slots.proofs.Limits.{taken-few, taken-many}
 use Rattle.slots.proofs.taken.Statement.{statement}
 use Rattle.slots.proofs.taken.Tie as tie
 

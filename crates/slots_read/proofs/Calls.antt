@@ -1,61 +1,24 @@
--- Each call over slots is the core call on their numbers: of no more slots than a table may have it is made over the first part of the scratch, and of more it is refused.
+-- Reading over slots is reading into their numbers: of no more slots than a table may have it is made over the first part of the scratch, and of more it is refused.
 use mathlib.Core.Path.{_≡_, sym, ap, _∙_}
 use Prim.Native.Nat.{ℕ, _*_, _<_, _≤_}
 use native.Mathlib.Nat.{lt-of-not-le}
-use native.Mathlib.Omega.{arith}
 use native.Mathlib.Decide.{decLe}
-use mathlib.Core.Bool.{false}
 use mathlib.Core.List.{List, _++_, append-nil}
 use lib.ListN.{length, take, drop}
-use lib.Seq.{take-at, take-length, drop-length, length-take-le}
+use lib.Seq.{take-at, drop-length}
 use borrow.Author.Tests.{le-leb, lt-leb}
 use Rattle.layout.specs.declared.Refusal.the-variants.{BadSize}
 use Rattle.record.specs.declared.ReadAnswer.{ReadAnswer}
-use Rattle.record.specs.Geometry.{sizesFit}
-use Rattle.record.proofs.Sizes.{too-many}
 use Rattle.record.specs.Table.{slotWidth, maxSlots}
-use Rattle.record.specs.Packing.{pack, packs, refusal}
+use Rattle.record.specs.Packing.{refusal}
 use Rattle.record.specs.Reading.{read, readSteps, reads, ReadAll, readAll}
 use Rattle.slots.specs.declared.Slot.{Slot}
-use Rattle.slots.specs.Slots.{maxNumbers, numbersOf, slotsFrom, taken, packFirst, readFirst, readSlots, readPart, withSlots, withRest}
-use Rattle.slots.proofs.Runs.{filled, length-numbers, slots-back}
-
--- ---- how many are taken apart
-
-pub taken-few : (n : ℕ) → n ≤ maxSlots → taken n ≡ n
-unfolding taken
-taken-few n l = rw (le-leb n maxSlots l)
-
-pub taken-many : (n : ℕ) → maxSlots < n → taken n ≡ 0
-unfolding taken
-taken-many n l = rw (lt-leb n maxSlots l)
-
-pub taken-within : (n : ℕ) → (taken n ≤ n) × (taken n ≤ maxSlots)
-taken-within n = elim (decLe n maxSlots) [
-  | yes l ↦ (rw (taken-few n l) (omega arith), rw (taken-few n l) l)
-  | no l ↦ (rw (taken-many n (lt-of-not-le l)) (omega arith), rw (taken-many n (lt-of-not-le l)) (omega arith))
-]
-
--- the first numbers of the scratch
-pub first-numbers : (ss : List Slot) (ns : List ℕ) → length ss ≤ maxSlots → take (length ss * slotWidth) (filled (taken (length ss)) ss ns) ≡ numbersOf ss
-first-numbers ss ns l =
-    ap (λ (k : ℕ). take (length ss * slotWidth) (filled k ss ns)) (taken-few (length ss) l)
-    ∙ ap (λ (z : List Slot). take (length ss * slotWidth) (numbersOf z ++ drop (length ss * slotWidth) ns)) (take-length ss)
-    ∙ take-at (numbersOf ss) (drop (length ss * slotWidth) ns) (length ss * slotWidth) (length-numbers ss)
-
-pub first-part : (ns : List ℕ) (n : ℕ) → n ≤ maxSlots → maxNumbers ≤ length ns → n * slotWidth ≡ length (take (n * slotWidth) ns)
-first-part ns n l g = sym (length-take-le (n * slotWidth) ns (omega arith))
+use Rattle.slots.specs.Slots.{numbersOf, slotsFrom, taken}
+use Rattle.slots.proofs.Runs.{filled, slots-back}
+use Rattle.slots.proofs.Limits.{taken-few, taken-many, first-numbers, beyond}
+use Rattle.slots_read.specs.Reading.{readFirst, readSlots, readPart, withSlots, withRest}
 
 -- ---- the core call on the first part of the scratch
-
-module _ (layout ns area output : List ℕ) (n : ℕ) where
-  pub pack-few : n ≤ maxSlots → pack layout (take (n * slotWidth) ns) area output ≡ packFirst layout ns n area output
-  unfolding packFirst
-  pack-few l = rw (le-leb n maxSlots l)
-
-  pub pack-many : maxSlots < n → record { answer = refusal BadSize 0; output = output } ≡ packFirst layout ns n area output
-  unfolding packFirst
-  pack-many l = rw (lt-leb n maxSlots l)
 
 module _ (layout bs ns area : List ℕ) (n mark : ℕ) where
   pub read-few : n ≤ maxSlots → readAll layout bs (take (n * slotWidth) ns) area mark ≡ readFirst layout bs ns n area mark
@@ -72,24 +35,11 @@ read-front zs rest k l {a} {z} r = ap (λ (s : List ℕ). record { answer = a; s
 
 -- ---- more slots than a table may have: number 1
 
-over : (layout bytes area : List ℕ) (ss : List Slot) → maxSlots < length ss → sizesFit layout (numbersOf ss) bytes area ≡ false
-over layout bytes area ss l = too-many (length layout) (length (numbersOf ss)) (length bytes) (length area) (omega (arith, length-numbers ss))
-
-pack-over : (layout area output : List ℕ) (ss : List Slot) → maxSlots < length ss → record { answer = refusal BadSize 0; output = output } ≡ pack layout (numbersOf ss) area output
-unfolding pack packs
-pack-over layout area output ss l = rw (over layout output area ss l)
-
 read-over : (layout bs area : List ℕ) (ss : List Slot) (mark : ℕ) → maxSlots < length ss → record { answer = record { answer = refusal BadSize 0; steps = 0 }; slots = numbersOf ss; area = area } ≡ readAll layout bs (numbersOf ss) area mark
 unfolding read readSteps reads
-read-over layout bs area ss mark l = rw (over layout bs area ss l)
+read-over layout bs area ss mark l = rw (beyond layout bs area ss l)
 
--- ---- the calls over slots
-
-pub pack-loaded : (layout ns area output : List ℕ) (ss : List Slot) → packFirst layout (filled (taken (length ss)) ss ns) (length ss) area output ≡ pack layout (numbersOf ss) area output
-pack-loaded layout ns area output ss = elim (decLe (length ss) maxSlots) [
-  | yes l ↦ sym (pack-few layout _ area output (length ss) l) ∙ ap (λ (z : List ℕ). pack layout z area output) (first-numbers ss ns l)
-  | no l ↦ sym (pack-many layout _ area output (length ss) (lt-of-not-le l)) ∙ pack-over layout area output ss (lt-of-not-le l)
-]
+-- ---- the call over slots
 
 module _ (layout bs ns ws area z : List ℕ) (ss ts : List Slot) (mark : ℕ) (a : ReadAnswer) where
   pub read-loaded :

@@ -2,11 +2,12 @@
 use mathlib.Core.Path.{_≡_, sym, _∙_}
 use Prim.Native.Nat.{_*_}
 use lib.ListN.{length, take}
-use Rattle.slots.proofs.Calls.{first-part, read-few, read-many, read-front}
+use Rattle.slots.proofs.Limits.{first-part}
+use Rattle.slots_read.proofs.Calls.{read-few, read-many, read-front}
 use borrow.Author.Needs.{needs}
 use Rattle.record.specs.Table.{slotWidth}
-use Rattle.slots.proofs.read_first.Statement.{statement}
-use Rattle.slots.proofs.read_first.Tie as tie
+use Rattle.slots_read.proofs.read_first.Statement.{statement}
+use Rattle.slots_read.proofs.read_first.Tie as tie
 
 refused-requires : tie.Need-refused-requires
 refused-requires c κs = search needs

@@ -44,24 +44,24 @@ use denote.Triple.Table.{entered, cited}
 use denote.Triple.Walked.{says, needs, Stays, stay-dropped, gave-slice, walkOf, goes-dropped, goes-gave-slice, Walks, ends-at, walked, walk-meets}
 use denote.Exit.{yes}
 use Rattle.record.specs.declared.Answer.{Answer}
 use Rattle.slots.specs.declared.Slot.{Slot}
 use Rattle.slots.specs.Slots.{numbersOf, rows}
 use Rattle.slots.proofs.Slot as T
 use Rattle.slots.proofs.Slot.Laws as T′
 use Rattle.slots.proofs.Arrays.{arr, apart, cells-part, part-cells, room-back, Behind, cut, joined}
 use Rattle.slots.proofs.Turns.{rows-fit}
 use Rattle.slots.proofs.Requires.{no-requires}
 use Rattle.record.proofs.Answer as TA
 use Rattle.record.proofs.Answer.Laws as TA′
 use Rattle.record.specs.Packing.{Packed, pack}
-use Rattle.slots.proofs.pack_slots as ps
-use Rattle.slots.proofs.pack_slots.Symbol as ps-def
-use Rattle.slots.proofs.pack_slots.Symbol.{name as #slots·pack-slots}
-use Rattle.slots.proofs.pack_slots.Met as ps-thm
-use Rattle.slots.proofs.pack_rows.Key.{name as #slots·pack-rows}
-use Rattle.slots.proofs.pack_rows as pt
-use Rattle.slots.proofs.pack_rows.Statement as stated
-use Rattle.slots.proofs.pack_rows.Code as code
+use Rattle.slots_pack.proofs.pack_slots as ps
+use Rattle.slots_pack.proofs.pack_slots.Symbol as ps-def
+use Rattle.slots_pack.proofs.pack_slots.Symbol.{name as #slots-pack·pack-slots}
+use Rattle.slots_pack.proofs.pack_slots.Met as ps-thm
+use Rattle.slots_pack.proofs.pack_rows.Key.{name as #slots-pack·pack-rows}
+use Rattle.slots_pack.proofs.pack_rows as pt
+use Rattle.slots_pack.proofs.pack_rows.Statement as stated
+use Rattle.slots_pack.proofs.pack_rows.Code as code
 
 abbrev R : RattleType
 R = T.the-row
@@ -182,7 +182,7 @@ module _ {M : Type 1} (𝓤 : URA M) (H : Heap 𝓤) (A : Atoms 𝓤) (W : Given
         -- [the array's room; the area's and the output's tokens; the layout's token; the result; the output's last list; true]
         move ! (1 ∷ []) $ split ! $ move ! (1 ∷ []) $ split ! $ at-once ! $ show ! (Got u) (r, z .1 .1 .1 .0) $ check ! (e, long) $ keep ! (5 ∷ 6 ∷ 0 ∷ 2 ∷ 4 ∷ 3 ∷ []) $ done !))))
 
-  module _ (𝓣 : Tables 𝓤 H) (known : Triple 𝓤 (𝓣 .C #slots·pack-slots) (PackSlots 𝓤 H A mem run)) where
+  module _ (𝓣 : Tables 𝓤 H) (known : Triple 𝓤 (𝓣 .C #slots-pack·pack-slots) (PackSlots 𝓤 H A mem run)) where
     walk : ent 𝓤 (onEntry 𝓤 H A pt.signature (κ₀, (κ₁, (κ₂, tt))) (q₀, (q₁, (q₂, tt))) (t, (xs, (n, (a, (o, tt))))) at) (WpFn 𝓤 H (𝓣 .C) (𝓣 .Λ) code.function (vt ∷ v ∷ vint w64 n ∷ va ∷ vo ∷ []) Post)
     walk =
         qed W ((‵ (flft κ₀ q₀) ⊛ (‵ (flft κ₁ q₁) ⊛ (‵ (flft κ₂ q₂) ⊛ ‵ ftrue))) ∷ ‵ (owns (ShrSlice (named 0) κ₀ u8 ∷ Table ∷ usize ∷ ShrSlice (named 1) κ₁ u8 ∷ MutSlice (named 2) κ₂ u8 ∷ []) (t, (xs, (n, (a, (o, tt))))) at) ∷ []) ∵
@@ -212,7 +212,7 @@ module _ {M : Type 1} (𝓤 : URA M) (H : Heap 𝓤) (A : Atoms 𝓤) (W : Given
         move ! (25 ∷ 26 ∷ []) $ free1 ! $ move ! (23 ∷ 24 ∷ []) $ free1 ! $ move ! (21 ∷ 22 ∷ []) $ free1 ! $ move ! (19 ∷ 20 ∷ []) $ free1 ! $ move ! (17 ∷ 18 ∷ []) $ free1 ! $ move ! (15 ∷ 16 ∷ []) $ free1 ! $ move ! (0 ∷ 14 ∷ []) $ free1 ! $ move ! (11 ∷ 12 ∷ []) $ free1 ! $ move ! (9 ∷ 10 ∷ []) $ free1 ! $ move ! (7 ∷ 8 ∷ []) $ free1 ! $ move ! (5 ∷ 6 ∷ []) $ free1 ! $ free0 ! $
         by ! (exits p u f))))))))))))))))))
 
-module _ {M : Type 1} (𝓤 : URA M) (H : Heap 𝓤) (A : Atoms 𝓤) (W : Given 𝓤 H A) (mem : Memory → SProp 𝓤) (run : Routine → Fun 𝓤) (𝓣 : Tables 𝓤 H) (known : Triple 𝓤 (𝓣 .C #slots·pack-slots) (PackSlots 𝓤 H A mem run)) where
+module _ {M : Type 1} (𝓤 : URA M) (H : Heap 𝓤) (A : Atoms 𝓤) (W : Given 𝓤 H A) (mem : Memory → SProp 𝓤) (run : Routine → Fun 𝓤) (𝓣 : Tables 𝓤 H) (known : Triple 𝓤 (𝓣 .C #slots-pack·pack-slots) (PackSlots 𝓤 H A mem run)) where
   walks : Walks 𝓤 H A pt.ended stayed (WpFn 𝓤 H (𝓣 .C) (𝓣 .Λ) code.function) (pt.clauses 𝓤 H A mem run)
   walks = walked 𝓤 H A pt.ended stayed (pt.clauses 𝓤 H A mem run) (WpFn 𝓤 H (𝓣 .C) (𝓣 .Λ) code.function) (λ κs. (slice-vals, (spelled, (uint-vals w64, (slice-vals, (slice-vals, tt))))))
       (λ κs. (shr-slice-tells (named 0) (κs .0) u8, (array-tells R (LL.vals T.the-type T′.the-laws) (LL.tells T.the-type T′.the-laws) rows, (uint-tells w64, (shr-slice-tells (named 1) (κs .1 .0) u8, (mut-slice-tells (named 2) (κs .1 .1 .0) u8, tt))))))
@@ -229,6 +229,6 @@ pub pack-rows-spec : {M : Type 1} → stated.statement M
 unfolding code.routine tablesOf
 pack-rows-spec 𝓤 H 𝓜 𝓖 𝓡 =
     entered 𝓤 H (tripleOf 𝓤 H (𝓖 .A) pt.signature (pt.spec 𝓤 H (𝓖 .A) (𝓜 .mem) (𝓡 .run)))
-    (tables 𝓤 H 𝓜 𝓡 code.env .C) (tables 𝓤 H 𝓜 𝓡 code.env .Λ) #slots·pack-rows code.function (code.unfolded 𝓤 H 𝓜 𝓡)
+    (tables 𝓤 H 𝓜 𝓡 code.env .C) (tables 𝓤 H 𝓜 𝓡 code.env .Λ) #slots-pack·pack-rows code.function (code.unfolded 𝓤 H 𝓜 𝓡)
     (meets 𝓤 H (𝓖 .A) (givenOf 𝓤 H 𝓜 𝓖) (𝓜 .mem) (𝓡 .run) (tablesOf 𝓤 H 𝓜 (tables 𝓤 H 𝓜 𝓡 code.env))
-    (cited 𝓤 H (PackSlots 𝓤 H (𝓖 .A) (𝓜 .mem) (𝓡 .run)) 𝓜 𝓡 code.env #slots·pack-slots ps-def.routine code.calls-slots·pack-slots (ps-thm.met 𝓤 H 𝓜 𝓖 𝓡)))
+    (cited 𝓤 H (PackSlots 𝓤 H (𝓖 .A) (𝓜 .mem) (𝓡 .run)) 𝓜 𝓡 code.env #slots-pack·pack-slots ps-def.routine code.calls-slots-pack·pack-slots (ps-thm.met 𝓤 H 𝓜 𝓖 𝓡)))

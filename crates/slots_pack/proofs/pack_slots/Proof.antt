@@ -43,27 +43,28 @@ use denote.Triple.Table.{entered, cited}
 use denote.Triple.Walked.{says, Stays, stay-dropped, gave-slice, walkOf, goes-dropped, goes-gave-slice, Walks, ends-at, walked, walk-meets}
 use denote.Exit.{yes}
 use Rattle.record.specs.declared.Answer.{Answer}
 use Rattle.slots.specs.declared.Slot.{Slot}
-use Rattle.slots.specs.Slots.{maxNumbers, taken, packFirst}
-use Rattle.slots.proofs.Calls.{pack-loaded}
+use Rattle.slots.specs.Slots.{maxNumbers, taken}
+use Rattle.slots_pack.specs.Packing.{packFirst}
+use Rattle.slots_pack.proofs.Calls.{pack-loaded}
 use Rattle.slots.proofs.Arrays.{arr, cells-part, part-cells, room-back}
 use Rattle.slots.proofs.Zeros.{zeros, zeros-fit, zeros-apart}
 use Rattle.slots.proofs.Slot as T
 use Rattle.record.proofs.Answer as TA
 use Rattle.record.proofs.Answer.Laws as TA′
 use Rattle.record.specs.Packing.{Packed}
 use Rattle.slots.proofs.Loads.{Load, zeros-long, room-numbers, scratch, scratch-long, Own-zeros, to-load, asked-load, back-load}
 use Rattle.slots.proofs.load.Symbol as ld-def
 use Rattle.slots.proofs.load.Symbol.{name as #slots·load}
 use Rattle.slots.proofs.load.Met as ld-thm
-use Rattle.slots.proofs.pack_first as pf
-use Rattle.slots.proofs.pack_first.Symbol as pf-def
-use Rattle.slots.proofs.pack_first.Symbol.{name as #slots·pack-first}
-use Rattle.slots.proofs.pack_first.Met as pf-thm
-use Rattle.slots.proofs.pack_slots.Key.{name as #slots·pack-slots}
-use Rattle.slots.proofs.pack_slots as ps
-use Rattle.slots.proofs.pack_slots.Statement as stated
-use Rattle.slots.proofs.pack_slots.Code as code
+use Rattle.slots_pack.proofs.pack_first as pf
+use Rattle.slots_pack.proofs.pack_first.Symbol as pf-def
+use Rattle.slots_pack.proofs.pack_first.Symbol.{name as #slots-pack·pack-first}
+use Rattle.slots_pack.proofs.pack_first.Met as pf-thm
+use Rattle.slots_pack.proofs.pack_slots.Key.{name as #slots-pack·pack-slots}
+use Rattle.slots_pack.proofs.pack_slots as ps
+use Rattle.slots_pack.proofs.pack_slots.Statement as stated
+use Rattle.slots_pack.proofs.pack_slots.Code as code
 
 abbrev R : RattleType
 R = T.the-row
@@ -169,7 +170,7 @@ module _ {M : Type 1} (𝓤 : URA M) (H : Heap 𝓤) (A : Atoms 𝓤) (W : Given
         -- [the array's room; the area's and the output's tokens; the layout's token; the result; the output's last list; true]
         move ! (1 ∷ []) $ split ! $ move ! (1 ∷ []) $ split ! $ at-once ! $ show ! (Got u) (r, z .1 .1 .1 .1 .0) $ check ! (e, long) $ keep ! (5 ∷ 6 ∷ 0 ∷ 2 ∷ 4 ∷ 3 ∷ []) $ done !))))
 
-  module _ (𝓣 : Tables 𝓤 H) (known-load : Triple 𝓤 (𝓣 .C #slots·load) (Load 𝓤 H A mem run)) (known-pack : Triple 𝓤 (𝓣 .C #slots·pack-first) (PackFirst 𝓤 H A mem run)) where
+  module _ (𝓣 : Tables 𝓤 H) (known-load : Triple 𝓤 (𝓣 .C #slots·load) (Load 𝓤 H A mem run)) (known-pack : Triple 𝓤 (𝓣 .C #slots-pack·pack-first) (PackFirst 𝓤 H A mem run)) where
     walk : ent 𝓤 (onEntry 𝓤 H A ps.signature (κ₀, (κ₁, (κ₂, (κ₃, tt)))) (q₀, (q₁, (q₂, (q₃, tt)))) (t, (x, (a, (o, tt)))) at) (WpFn 𝓤 H (𝓣 .C) (𝓣 .Λ) code.function (vt ∷ vs ∷ va ∷ vo ∷ []) Post)
     walk =
         qed W ((‵ (flft κ₀ q₀) ⊛ (‵ (flft κ₁ q₁) ⊛ (‵ (flft κ₂ q₂) ⊛ (‵ (flft κ₃ q₃) ⊛ ‵ ftrue)))) ∷ ‵ (owns (ShrSlice (named 0) κ₀ u8 ∷ ShrSlice (named 1) κ₁ R ∷ ShrSlice (named 2) κ₂ u8 ∷ MutSlice (named 3) κ₃ u8 ∷ []) (t, (x, (a, (o, tt)))) at) ∷ []) ∵
@@ -210,7 +211,7 @@ module _ {M : Type 1} (𝓤 : URA M) (H : Heap 𝓤) (A : Atoms 𝓤) (W : Given
         move ! (30 ∷ 31 ∷ []) $ free1 ! $ move ! (28 ∷ 29 ∷ []) $ free1 ! $ move ! (26 ∷ 27 ∷ []) $ free1 ! $ move ! (24 ∷ 25 ∷ []) $ free1 ! $ move ! (22 ∷ 23 ∷ []) $ free1 ! $ move ! (0 ∷ 21 ∷ []) $ free1 ! $ move ! (18 ∷ 19 ∷ []) $ free1 ! $ move ! (16 ∷ 17 ∷ []) $ free1 ! $ move ! (14 ∷ 15 ∷ []) $ free1 ! $ move ! (12 ∷ 13 ∷ []) $ free1 ! $ move ! (10 ∷ 11 ∷ []) $ free1 ! $ move ! (8 ∷ 9 ∷ []) $ free1 ! $ move ! (6 ∷ 7 ∷ []) $ free1 ! $ free0 ! $
         by ! (exits p v f))))))))))))))))))))))))))
 
-module _ {M : Type 1} (𝓤 : URA M) (H : Heap 𝓤) (A : Atoms 𝓤) (W : Given 𝓤 H A) (mem : Memory → SProp 𝓤) (run : Routine → Fun 𝓤) (𝓣 : Tables 𝓤 H) (known-load : Triple 𝓤 (𝓣 .C #slots·load) (Load 𝓤 H A mem run)) (known-pack : Triple 𝓤 (𝓣 .C #slots·pack-first) (PackFirst 𝓤 H A mem run)) where
+module _ {M : Type 1} (𝓤 : URA M) (H : Heap 𝓤) (A : Atoms 𝓤) (W : Given 𝓤 H A) (mem : Memory → SProp 𝓤) (run : Routine → Fun 𝓤) (𝓣 : Tables 𝓤 H) (known-load : Triple 𝓤 (𝓣 .C #slots·load) (Load 𝓤 H A mem run)) (known-pack : Triple 𝓤 (𝓣 .C #slots-pack·pack-first) (PackFirst 𝓤 H A mem run)) where
   walks : Walks 𝓤 H A ps.ended stayed (WpFn 𝓤 H (𝓣 .C) (𝓣 .Λ) code.function) (ps.clauses 𝓤 H A mem run)
   walks = walked 𝓤 H A ps.ended stayed (ps.clauses 𝓤 H A mem run) (WpFn 𝓤 H (𝓣 .C) (𝓣 .Λ) code.function) (λ κs. (slice-vals, (slice-vals, (slice-vals, (slice-vals, tt)))))
       (λ κs. (shr-slice-tells (named 0) (κs .0) u8, (shr-slice-tells (named 1) (κs .1 .0) R, (shr-slice-tells (named 2) (κs .1 .1 .0) u8, (mut-slice-tells (named 3) (κs .1 .1 .1 .0) u8, tt)))))
@@ -226,7 +227,7 @@ pub pack-slots-spec : {M : Type 1} → stated.statement M
 unfolding code.routine tablesOf
 pack-slots-spec 𝓤 H 𝓜 𝓖 𝓡 =
     entered 𝓤 H (tripleOf 𝓤 H (𝓖 .A) ps.signature (ps.spec 𝓤 H (𝓖 .A) (𝓜 .mem) (𝓡 .run)))
-    (tables 𝓤 H 𝓜 𝓡 code.env .C) (tables 𝓤 H 𝓜 𝓡 code.env .Λ) #slots·pack-slots code.function (code.unfolded 𝓤 H 𝓜 𝓡)
+    (tables 𝓤 H 𝓜 𝓡 code.env .C) (tables 𝓤 H 𝓜 𝓡 code.env .Λ) #slots-pack·pack-slots code.function (code.unfolded 𝓤 H 𝓜 𝓡)
     (meets 𝓤 H (𝓖 .A) (givenOf 𝓤 H 𝓜 𝓖) (𝓜 .mem) (𝓡 .run) (tablesOf 𝓤 H 𝓜 (tables 𝓤 H 𝓜 𝓡 code.env))
     (cited 𝓤 H (Load 𝓤 H (𝓖 .A) (𝓜 .mem) (𝓡 .run)) 𝓜 𝓡 code.env #slots·load ld-def.routine code.calls-slots·load (ld-thm.met 𝓤 H 𝓜 𝓖 𝓡))
-    (cited 𝓤 H (PackFirst 𝓤 H (𝓖 .A) (𝓜 .mem) (𝓡 .run)) 𝓜 𝓡 code.env #slots·pack-first pf-def.routine code.calls-slots·pack-first (pf-thm.met 𝓤 H 𝓜 𝓖 𝓡)))
+    (cited 𝓤 H (PackFirst 𝓤 H (𝓖 .A) (𝓜 .mem) (𝓡 .run)) 𝓜 𝓡 code.env #slots-pack·pack-first pf-def.routine code.calls-slots-pack·pack-first (pf-thm.met 𝓤 H 𝓜 𝓖 𝓡)))

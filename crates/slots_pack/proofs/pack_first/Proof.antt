@@ -1,9 +1,10 @@
 -- More slots than a table may have are refused here; else it is the core call on the first numbers.
 use mathlib.Core.Path.{_∙_}
-use Rattle.slots.proofs.Calls.{first-part, pack-few, pack-many}
+use Rattle.slots.proofs.Limits.{first-part}
+use Rattle.slots_pack.proofs.Calls.{pack-few, pack-many}
 use borrow.Author.Needs.{needs}
-use Rattle.slots.proofs.pack_first.Statement.{statement}
-use Rattle.slots.proofs.pack_first.Tie as tie
+use Rattle.slots_pack.proofs.pack_first.Statement.{statement}
+use Rattle.slots_pack.proofs.pack_first.Tie as tie
 
 refused-requires : tie.Need-refused-requires
 refused-requires c κs = search needs

@@ -44,31 +44,32 @@ use denote.Triple.Walked.{says, needs, Stays, stay-dropped, gave-slice, walkOf, 
 use denote.Exit.{yes}
 use borrow.Table.Elements.{same-len}
 use Rattle.record.specs.declared.ReadAnswer.{ReadAnswer}
 use Rattle.slots.specs.declared.Slot.{Slot}
-use Rattle.slots.specs.Slots.{ReadSlots, readSlots, readPart, rows}
+use Rattle.slots.specs.Slots.{rows}
+use Rattle.slots_read.specs.Reading.{ReadSlots, readSlots, readPart}
 use Rattle.slots.proofs.Slot as T
 use Rattle.slots.proofs.Slot.Laws as T′
 use Rattle.slots.proofs.Arrays.{arr, apart, made-whole, Behind, cut, joined}
-use Rattle.slots.proofs.Calls.{read-part}
+use Rattle.slots_read.proofs.Calls.{read-part}
 use Rattle.slots.proofs.Turns.{rows-fit}
 use Rattle.slots.proofs.Requires.{no-requires}
 use Rattle.record.proofs.ReadAnswer as TA
 use Rattle.record.proofs.ReadAnswer.Laws as TA′
-use Rattle.slots.specs.declared.Outcome.{Outcome}
-use Rattle.slots.proofs.Outcome as TO
-use Rattle.slots.proofs.Outcome.Laws as TO′
-use Rattle.slots.proofs.read_slots as rs
-use Rattle.slots.proofs.read_slots.Symbol as rs-def
-use Rattle.slots.proofs.read_slots.Symbol.{name as #slots·read-slots}
-use Rattle.slots.proofs.read_slots.Met as rs-thm
-use Rattle.slots.proofs.together as tg
-use Rattle.slots.proofs.together.Symbol as tg-def
-use Rattle.slots.proofs.together.Symbol.{name as #slots·together}
-use Rattle.slots.proofs.together.Met as tg-thm
-use Rattle.slots.proofs.read_rows.Key.{name as #slots·read-rows}
-use Rattle.slots.proofs.read_rows as rt
-use Rattle.slots.proofs.read_rows.Statement as stated
-use Rattle.slots.proofs.read_rows.Code as code
+use Rattle.slots_read.specs.declared.Outcome.{Outcome}
+use Rattle.slots_read.proofs.Outcome as TO
+use Rattle.slots_read.proofs.Outcome.Laws as TO′
+use Rattle.slots_read.proofs.read_slots as rs
+use Rattle.slots_read.proofs.read_slots.Symbol as rs-def
+use Rattle.slots_read.proofs.read_slots.Symbol.{name as #slots-read·read-slots}
+use Rattle.slots_read.proofs.read_slots.Met as rs-thm
+use Rattle.slots_read.proofs.together as tg
+use Rattle.slots_read.proofs.together.Symbol as tg-def
+use Rattle.slots_read.proofs.together.Symbol.{name as #slots-read·together}
+use Rattle.slots_read.proofs.together.Met as tg-thm
+use Rattle.slots_read.proofs.read_rows.Key.{name as #slots-read·read-rows}
+use Rattle.slots_read.proofs.read_rows as rt
+use Rattle.slots_read.proofs.read_rows.Statement as stated
+use Rattle.slots_read.proofs.read_rows.Code as code
 
 abbrev R : RattleType
 R = T.the-row
@@ -223,7 +224,7 @@ module _ {M : Type 1} (𝓤 : URA M) (H : Heap 𝓤) (A : Atoms 𝓤) (W : Given
     said-tg : (m : Outcome) → ent 𝓤 (ensured 𝓤 H A tg.ended (tg.clauses 𝓤 H A mem run) tt (r, (zs, tt)) tt m) (fact 𝓤 (Is-both m))
     said-tg m = exE 𝓤 _ (λ ws. snd∗ 𝓤 (sem 𝓤 H A (lasts tg.ended tt (r, (zs, tt)) ws)) (fact 𝓤 (Is-both m)))
 
-  module _ (𝓣 : Tables 𝓤 H) (known-read : Triple 𝓤 (𝓣 .C #slots·read-slots) (ReadRun 𝓤 H A mem run)) (known-tg : Triple 𝓤 (𝓣 .C #slots·together) (Together 𝓤 H A mem run)) where
+  module _ (𝓣 : Tables 𝓤 H) (known-read : Triple 𝓤 (𝓣 .C #slots-read·read-slots) (ReadRun 𝓤 H A mem run)) (known-tg : Triple 𝓤 (𝓣 .C #slots-read·together) (Together 𝓤 H A mem run)) where
     walk : ent 𝓤 (onEntry 𝓤 H A rt.signature (κ₀, (κ₁, (κ₂, tt))) (q₀, (q₁, (q₂, tt))) (t, (y, (xs, (n, (a, (k, tt)))))) at) (WpFn 𝓤 H (𝓣 .C) (𝓣 .Λ) code.function (vt ∷ vy ∷ v ∷ vint w64 n ∷ va ∷ vint w64 k ∷ []) Post)
     walk =
         qed W ((‵ (flft κ₀ q₀) ⊛ (‵ (flft κ₁ q₁) ⊛ (‵ (flft κ₂ q₂) ⊛ ‵ ftrue))) ∷ ‵ (owns (ShrSlice (named 0) κ₀ u8 ∷ ShrSlice (named 1) κ₁ u8 ∷ Table ∷ usize ∷ MutSlice (named 2) κ₂ u8 ∷ usize ∷ []) (t, (y, (xs, (n, (a, (k, tt)))))) at) ∷ []) ∵
@@ -262,7 +263,7 @@ module _ {M : Type 1} (𝓤 : URA M) (H : Heap 𝓤) (A : Atoms 𝓤) (W : Given
         move ! (31 ∷ 32 ∷ []) $ free1 ! $ move ! (29 ∷ 30 ∷ []) $ free1 ! $ move ! (27 ∷ 28 ∷ []) $ free1 ! $ move ! (25 ∷ 26 ∷ []) $ free1 ! $ move ! (23 ∷ 24 ∷ []) $ free1 ! $ move ! (21 ∷ 22 ∷ []) $ free1 ! $ move ! (19 ∷ 20 ∷ []) $ free1 ! $ move ! (1 ∷ 18 ∷ []) $ free1 ! $ move ! (15 ∷ 16 ∷ []) $ free1 ! $ move ! (13 ∷ 14 ∷ []) $ free1 ! $ move ! (11 ∷ 12 ∷ []) $ free1 ! $ move ! (9 ∷ 10 ∷ []) $ free1 ! $ move ! (7 ∷ 8 ∷ []) $ free1 ! $ move ! (5 ∷ 6 ∷ []) $ free1 ! $ free0 ! $
         move ! (0 ∷ 4 ∷ 3 ∷ 2 ∷ 1 ∷ []) $ by ! (exits p m s f is-m)))))))))))))))))))))))))))
 
-module _ {M : Type 1} (𝓤 : URA M) (H : Heap 𝓤) (A : Atoms 𝓤) (W : Given 𝓤 H A) (mem : Memory → SProp 𝓤) (run : Routine → Fun 𝓤) (𝓣 : Tables 𝓤 H) (known-read : Triple 𝓤 (𝓣 .C #slots·read-slots) (ReadRun 𝓤 H A mem run)) (known-tg : Triple 𝓤 (𝓣 .C #slots·together) (Together 𝓤 H A mem run)) where
+module _ {M : Type 1} (𝓤 : URA M) (H : Heap 𝓤) (A : Atoms 𝓤) (W : Given 𝓤 H A) (mem : Memory → SProp 𝓤) (run : Routine → Fun 𝓤) (𝓣 : Tables 𝓤 H) (known-read : Triple 𝓤 (𝓣 .C #slots-read·read-slots) (ReadRun 𝓤 H A mem run)) (known-tg : Triple 𝓤 (𝓣 .C #slots-read·together) (Together 𝓤 H A mem run)) where
   walks : Walks 𝓤 H A rt.ended stayed (WpFn 𝓤 H (𝓣 .C) (𝓣 .Λ) code.function) (rt.clauses 𝓤 H A mem run)
   walks = walked 𝓤 H A rt.ended stayed (rt.clauses 𝓤 H A mem run) (WpFn 𝓤 H (𝓣 .C) (𝓣 .Λ) code.function) (λ κs. (slice-vals, (slice-vals, (spelled, (uint-vals w64, (slice-vals, (uint-vals w64, tt)))))))
       (λ κs. (shr-slice-tells (named 0) (κs .0) u8, (shr-slice-tells (named 1) (κs .1 .0) u8, (array-tells R (LL.vals T.the-type T′.the-laws) (LL.tells T.the-type T′.the-laws) rows, (uint-tells w64, (mut-slice-tells (named 2) (κs .1 .1 .0) u8, (uint-tells w64, tt)))))))
@@ -279,7 +280,7 @@ pub read-rows-spec : {M : Type 1} → stated.statement M
 unfolding code.routine tablesOf
 read-rows-spec 𝓤 H 𝓜 𝓖 𝓡 =
     entered 𝓤 H (tripleOf 𝓤 H (𝓖 .A) rt.signature (rt.spec 𝓤 H (𝓖 .A) (𝓜 .mem) (𝓡 .run)))
-    (tables 𝓤 H 𝓜 𝓡 code.env .C) (tables 𝓤 H 𝓜 𝓡 code.env .Λ) #slots·read-rows code.function (code.unfolded 𝓤 H 𝓜 𝓡)
+    (tables 𝓤 H 𝓜 𝓡 code.env .C) (tables 𝓤 H 𝓜 𝓡 code.env .Λ) #slots-read·read-rows code.function (code.unfolded 𝓤 H 𝓜 𝓡)
     (meets 𝓤 H (𝓖 .A) (givenOf 𝓤 H 𝓜 𝓖) (𝓜 .mem) (𝓡 .run) (tablesOf 𝓤 H 𝓜 (tables 𝓤 H 𝓜 𝓡 code.env))
-    (cited 𝓤 H (ReadRun 𝓤 H (𝓖 .A) (𝓜 .mem) (𝓡 .run)) 𝓜 𝓡 code.env #slots·read-slots rs-def.routine code.calls-slots·read-slots (rs-thm.met 𝓤 H 𝓜 𝓖 𝓡))
-    (cited 𝓤 H (Together 𝓤 H (𝓖 .A) (𝓜 .mem) (𝓡 .run)) 𝓜 𝓡 code.env #slots·together tg-def.routine code.calls-slots·together (tg-thm.met 𝓤 H 𝓜 𝓖 𝓡)))
+    (cited 𝓤 H (ReadRun 𝓤 H (𝓖 .A) (𝓜 .mem) (𝓡 .run)) 𝓜 𝓡 code.env #slots-read·read-slots rs-def.routine code.calls-slots-read·read-slots (rs-thm.met 𝓤 H 𝓜 𝓖 𝓡))
+    (cited 𝓤 H (Together 𝓤 H (𝓖 .A) (𝓜 .mem) (𝓡 .run)) 𝓜 𝓡 code.env #slots-read·together tg-def.routine code.calls-slots-read·together (tg-thm.met 𝓤 H 𝓜 𝓖 𝓡)))

@@ -44,34 +44,36 @@ use denote.Triple.Table.{entered, cited}
 use denote.Triple.Walked.{says, Stays, stay-dropped, gave-slice, walkOf, goes-dropped, goes-gave-slice, Walks, ends-at, walked, walk-meets}
 use denote.Exit.{yes}
 use Rattle.record.specs.declared.ReadAnswer.{ReadAnswer}
 use Rattle.slots.specs.declared.Slot.{Slot}
-use Rattle.slots.specs.Slots.{maxNumbers, slotsFrom, taken, readFirst}
-use Rattle.slots.proofs.Calls.{taken-within, read-loaded}
+use Rattle.slots.specs.Slots.{maxNumbers, slotsFrom, taken}
+use Rattle.slots_read.specs.Reading.{readFirst}
+use Rattle.slots.proofs.Limits.{taken-within}
+use Rattle.slots_read.proofs.Calls.{read-loaded}
 use Rattle.slots.proofs.Turns.{numbers-fit}
 use Rattle.slots.proofs.Arrays.{arr, cells-part, part-cells, room-back}
 use Rattle.slots.proofs.Zeros.{zeros, zeros-fit, zeros-apart}
 use Rattle.slots.proofs.Slot as T
 use Rattle.record.proofs.ReadAnswer as TA
 use Rattle.record.proofs.ReadAnswer.Laws as TA′
 use Rattle.record.specs.Reading.{ReadAll}
 use Rattle.record.specs.Table.{slotWidth}
-use Rattle.slots.proofs.Shared.{LentShared, lends-shared, comes-back-shared}
+use Rattle.slots_read.proofs.Shared.{LentShared, lends-shared, comes-back-shared}
 use Rattle.slots.proofs.Loads.{Load, zeros-long, room-numbers, scratch, scratch-long, Own-zeros, to-load, asked-load, back-load}
 use Rattle.slots.proofs.load.Symbol as ld-def
 use Rattle.slots.proofs.load.Symbol.{name as #slots·load}
 use Rattle.slots.proofs.load.Met as ld-thm
-use Rattle.slots.proofs.read_first as rf
-use Rattle.slots.proofs.read_first.Symbol as rf-def
-use Rattle.slots.proofs.read_first.Symbol.{name as #slots·read-first}
-use Rattle.slots.proofs.read_first.Met as rf-thm
+use Rattle.slots_read.proofs.read_first as rf
+use Rattle.slots_read.proofs.read_first.Symbol as rf-def
+use Rattle.slots_read.proofs.read_first.Symbol.{name as #slots-read·read-first}
+use Rattle.slots_read.proofs.read_first.Met as rf-thm
 use Rattle.slots.proofs.save as sv
 use Rattle.slots.proofs.save.Symbol as sv-def
 use Rattle.slots.proofs.save.Symbol.{name as #slots·save}
 use Rattle.slots.proofs.save.Met as sv-thm
-use Rattle.slots.proofs.read_slots.Key.{name as #slots·read-slots}
-use Rattle.slots.proofs.read_slots as rs
-use Rattle.slots.proofs.read_slots.Statement as stated
-use Rattle.slots.proofs.read_slots.Code as code
+use Rattle.slots_read.proofs.read_slots.Key.{name as #slots-read·read-slots}
+use Rattle.slots_read.proofs.read_slots as rs
+use Rattle.slots_read.proofs.read_slots.Statement as stated
+use Rattle.slots_read.proofs.read_slots.Code as code
 
 abbrev R : RattleType
 R = T.the-row
@@ -244,7 +246,7 @@ module _ {M : Type 1} (𝓤 : URA M) (H : Heap 𝓤) (A : Atoms 𝓤) (W : Given
         -- [the array's room; true; the slots' token; their last list; true]
         at-once ! $ show ! (Got-save u) (z .0) $ check ! (ap only is-unit, (e, as-many)) $ keep ! (3 ∷ 2 ∷ 0 ∷ []) $ done !)))))
 
-  module _ (𝓣 : Tables 𝓤 H) (known-load : Triple 𝓤 (𝓣 .C #slots·load) (Load 𝓤 H A mem run)) (known-read : Triple 𝓤 (𝓣 .C #slots·read-first) (ReadFirst 𝓤 H A mem run)) (known-save : Triple 𝓤 (𝓣 .C #slots·save) (Save 𝓤 H A mem run)) where
+  module _ (𝓣 : Tables 𝓤 H) (known-load : Triple 𝓤 (𝓣 .C #slots·load) (Load 𝓤 H A mem run)) (known-read : Triple 𝓤 (𝓣 .C #slots-read·read-first) (ReadFirst 𝓤 H A mem run)) (known-save : Triple 𝓤 (𝓣 .C #slots·save) (Save 𝓤 H A mem run)) where
     walk : ent 𝓤 (onEntry 𝓤 H A rs.signature (κ₀, (κ₁, (κ₂, (κ₃, tt)))) (q₀, (q₁, (q₂, (q₃, tt)))) (t, (y, (xs γ, (a, (k, tt))))) at) (WpFn 𝓤 H (𝓣 .C) (𝓣 .Λ) code.function (vt ∷ vy ∷ vs ∷ va ∷ vint w64 k ∷ []) Post)
     walk =
         qed W ((‵ (flft κ₀ q₀) ⊛ (‵ (flft κ₁ q₁) ⊛ (‵ (flft κ₂ q₂) ⊛ (‵ (flft κ₃ q₃) ⊛ ‵ ftrue)))) ∷ ‵ (owns (ShrSlice (named 0) κ₀ u8 ∷ ShrSlice (named 1) κ₁ u8 ∷ MutSlice (named 2) κ₂ R ∷ MutSlice (named 3) κ₃ u8 ∷ usize ∷ []) (t, (y, (xs γ, (a, (k, tt))))) at) ∷ []) ∵
@@ -304,7 +306,7 @@ module _ {M : Type 1} (𝓤 : URA M) (H : Heap 𝓤) (A : Atoms 𝓤) (W : Given
         move ! (51 ∷ 52 ∷ []) $ free1 ! $ move ! (49 ∷ 50 ∷ []) $ free1 ! $ move ! (47 ∷ 48 ∷ []) $ free1 ! $ move ! (45 ∷ 46 ∷ []) $ free1 ! $ move ! (43 ∷ 44 ∷ []) $ free1 ! $ move ! (41 ∷ 42 ∷ []) $ free1 ! $ move ! (0 ∷ 40 ∷ []) $ free1 ! $ move ! (37 ∷ 38 ∷ []) $ free1 ! $ move ! (35 ∷ 36 ∷ []) $ free1 ! $ move ! (33 ∷ 34 ∷ []) $ free1 ! $ move ! (31 ∷ 32 ∷ []) $ free1 ! $ move ! (29 ∷ 30 ∷ []) $ free1 ! $ move ! (27 ∷ 28 ∷ []) $ free1 ! $ move ! (25 ∷ 26 ∷ []) $ free1 ! $ move ! (23 ∷ 24 ∷ []) $ free1 ! $ move ! (21 ∷ 22 ∷ []) $ free1 ! $ move ! (19 ∷ 20 ∷ []) $ free1 ! $ move ! (17 ∷ 18 ∷ []) $ free1 ! $ move ! (15 ∷ 16 ∷ []) $ free1 ! $ move ! (13 ∷ 14 ∷ []) $ free1 ! $ move ! (11 ∷ 12 ∷ []) $ free1 ! $ move ! (9 ∷ 10 ∷ []) $ free1 ! $ move ! (7 ∷ 8 ∷ []) $ free1 ! $ free0 ! $
         by ! (exits p zs v f (s .1))))))))))))))))))))))))))))))))))))))))))))
 
-module _ {M : Type 1} (𝓤 : URA M) (H : Heap 𝓤) (A : Atoms 𝓤) (W : Given 𝓤 H A) (mem : Memory → SProp 𝓤) (run : Routine → Fun 𝓤) (𝓣 : Tables 𝓤 H) (known-load : Triple 𝓤 (𝓣 .C #slots·load) (Load 𝓤 H A mem run)) (known-read : Triple 𝓤 (𝓣 .C #slots·read-first) (ReadFirst 𝓤 H A mem run)) (known-save : Triple 𝓤 (𝓣 .C #slots·save) (Save 𝓤 H A mem run)) where
+module _ {M : Type 1} (𝓤 : URA M) (H : Heap 𝓤) (A : Atoms 𝓤) (W : Given 𝓤 H A) (mem : Memory → SProp 𝓤) (run : Routine → Fun 𝓤) (𝓣 : Tables 𝓤 H) (known-load : Triple 𝓤 (𝓣 .C #slots·load) (Load 𝓤 H A mem run)) (known-read : Triple 𝓤 (𝓣 .C #slots-read·read-first) (ReadFirst 𝓤 H A mem run)) (known-save : Triple 𝓤 (𝓣 .C #slots·save) (Save 𝓤 H A mem run)) where
   walks : Walks 𝓤 H A rs.ended stayed (WpFn 𝓤 H (𝓣 .C) (𝓣 .Λ) code.function) (rs.clauses 𝓤 H A mem run)
   walks = walked 𝓤 H A rs.ended stayed (rs.clauses 𝓤 H A mem run) (WpFn 𝓤 H (𝓣 .C) (𝓣 .Λ) code.function) (λ κs. (slice-vals, (slice-vals, (slice-vals, (slice-vals, (uint-vals w64, tt))))))
       (λ κs. (shr-slice-tells (named 0) (κs .0) u8, (shr-slice-tells (named 1) (κs .1 .0) u8, (mut-slice-tells (named 2) (κs .1 .1 .0) R, (mut-slice-tells (named 3) (κs .1 .1 .1 .0) u8, (uint-tells w64, tt))))))
@@ -321,8 +323,8 @@ pub read-slots-spec : {M : Type 1} → stated.statement M
 unfolding code.routine tablesOf
 read-slots-spec 𝓤 H 𝓜 𝓖 𝓡 =
     entered 𝓤 H (tripleOf 𝓤 H (𝓖 .A) rs.signature (rs.spec 𝓤 H (𝓖 .A) (𝓜 .mem) (𝓡 .run)))
-    (tables 𝓤 H 𝓜 𝓡 code.env .C) (tables 𝓤 H 𝓜 𝓡 code.env .Λ) #slots·read-slots code.function (code.unfolded 𝓤 H 𝓜 𝓡)
+    (tables 𝓤 H 𝓜 𝓡 code.env .C) (tables 𝓤 H 𝓜 𝓡 code.env .Λ) #slots-read·read-slots code.function (code.unfolded 𝓤 H 𝓜 𝓡)
     (meets 𝓤 H (𝓖 .A) (givenOf 𝓤 H 𝓜 𝓖) (𝓜 .mem) (𝓡 .run) (tablesOf 𝓤 H 𝓜 (tables 𝓤 H 𝓜 𝓡 code.env))
     (cited 𝓤 H (Load 𝓤 H (𝓖 .A) (𝓜 .mem) (𝓡 .run)) 𝓜 𝓡 code.env #slots·load ld-def.routine code.calls-slots·load (ld-thm.met 𝓤 H 𝓜 𝓖 𝓡))
-    (cited 𝓤 H (ReadFirst 𝓤 H (𝓖 .A) (𝓜 .mem) (𝓡 .run)) 𝓜 𝓡 code.env #slots·read-first rf-def.routine code.calls-slots·read-first (rf-thm.met 𝓤 H 𝓜 𝓖 𝓡))
+    (cited 𝓤 H (ReadFirst 𝓤 H (𝓖 .A) (𝓜 .mem) (𝓡 .run)) 𝓜 𝓡 code.env #slots-read·read-first rf-def.routine code.calls-slots-read·read-first (rf-thm.met 𝓤 H 𝓜 𝓖 𝓡))
     (cited 𝓤 H (Save 𝓤 H (𝓖 .A) (𝓜 .mem) (𝓡 .run)) 𝓜 𝓡 code.env #slots·save sv-def.routine code.calls-slots·save (sv-thm.met 𝓤 H 𝓜 𝓖 𝓡)))

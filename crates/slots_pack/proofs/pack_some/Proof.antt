@@ -1,7 +1,7 @@
 -- The count that is passed on is the smaller of the two.
 use borrow.Author.Needs.{needs}
-use Rattle.slots.proofs.pack_some.Statement.{statement}
-use Rattle.slots.proofs.pack_some.Tie as tie
+use Rattle.slots_pack.proofs.pack_some.Statement.{statement}
+use Rattle.slots_pack.proofs.pack_some.Tie as tie
 
 least-requires : tie.Need-least-requires
 least-requires c κs = search needs
