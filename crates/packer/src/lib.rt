@@ -58,9 +58,9 @@ pub fn pack_short(layout: &[u8], slots: &[u32], area: &[u8], output: &mut [u8]) 
     if !record::lengths_fit(layout.len(), slots.len(), output.len(), area.len()) {
         return Answer::refused(Refusal::BadSize, 0);
     }
-    let mut words: [u32; layout::SHORT_LAYOUT] = [0; layout::SHORT_LAYOUT];
-    let p = parser::parse(layout, true, &mut words);
-    packed(p, &words, slots, area, output)
+    let mut few: [u32; layout::SHORT_LAYOUT] = [0; layout::SHORT_LAYOUT];
+    let p = parser::parse(layout, true, &mut few);
+    packed(p, &few, slots, area, output)
 }
 
 // Packs the arguments into the output by the layout. A refusal changes nothing.

@@ -44,7 +44,7 @@ refused-requires-2 c κs = search needs
 returns : tie.Need-returns
 returns c layout j =
     let l = learnt (c .before .before .before) layout j in
-    rw (c .refused2 .ensures) (pack-slots _ _ _ _ (j .fine) _ (l .fields) (other-slots _ _ _ (l .taken) (c .before .if1 .taken)))
+    rw (c .refused2 .ensures) (pack-slots _ _ _ _ (j .fine) _ (l .fields) (other-slots _ _ _ (l .taken) (λ e. omega (arith, c .before .if1 .taken))))
 
 finish-requires : tie.Need-finish-requires
 finish-requires c κs =
@@ -52,7 +52,7 @@ finish-requires c κs =
     let (layout, j) = i .before .before .before .before .before .before .before .before .pre in
     let l = learnt (i .before .before) layout j in
     let m = read-sized j in
-    (record { few = l .few; room = l .room; slots = sym (l .taken) ∙ sym (i .if1 .left); limit = m .lent .table }, m .whole)
+    (record { few = l .few; room = l .room; slots = omega (arith, l .taken, i .if1 .left); limit = m .lent .table }, m .whole)
 
 returns-2 : tie.Need-returns-2
 returns-2 c layout j = rw (c .refused .ensures) (pack-refused _ _ _ _ (j .fine) _ _ (bad (c .before .before) layout j))
@@ -65,7 +65,7 @@ returns-3 c layout j =
     let f = c .before .before in
     let i = f .before .before in
     let l = learnt (i .before .before) layout j in
-    f .finish .ensures ∙ pack-finish _ _ _ _ (j .fine) _ (l .fields) (same-slots _ _ _ (l .taken) (i .if1 .left))
+    f .finish .ensures ∙ pack-finish _ _ _ _ (j .fine) _ (l .fields) (same-slots _ _ _ (l .taken) (omega (arith, i .if1 .left)))
 
 pub packed-spec : {M : Type 1} → statement M
 packed-spec =
