@@ -22,7 +22,6 @@ use Rattle.record.specs.Table.{Value, areaBytes, valueBytes}
 use Rattle.record.specs.Geometry.{bytesFor, itemsOf, movedIn}
 use Rattle.record.specs.Reading.{isBlank, trimmed, loaded, valueAt, valuesFrom}
 use Rattle.values.proofs.Loads.{text-bytes, digits-bytes, items-few, integers-eight, reals-eight, eights-size}
-use Rattle.reading.specs.Tables.{valuesOf}
 
 -- ---- one value
 
@@ -96,7 +95,7 @@ words-room bs at (w ∷ ws) =
     omega (arith, step-room bs at (f .code) (f .unsigned) (f .count) (map fieldOf ws) (8 * (length ws * length bs)) (word-fits w) (λ to. words-room bs to ws))
 
 -- the values of n fields take no more than eight bytes each for every byte of the record
-pub values-room : (n : ℕ) (ws bs : List ℕ) → length (valueBytes (valuesOf n ws bs)) ≤ 8 * (n * length bs)
+pub values-room : (n : ℕ) (ws bs : List ℕ) → length (valueBytes (valuesFrom bs 0 (decoded n ws))) ≤ 8 * (n * length bs)
 unfolding decoded
 values-room n ws bs =
     let few : length (take n ws) ≤ n = simp length-take (omega arith) in
