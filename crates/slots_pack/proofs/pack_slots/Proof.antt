@@ -1,4 +1,4 @@
--- `slots::pack_slots` meets its contract: a walk of its MIR, by hand, with two calls. A local array of zeros is lent by `&mut` to `load` and by `&` to `pack_first`; all else is passed on.
+-- `slots_pack::pack_slots` meets its contract: a walk of its MIR, by hand, with two calls. A local array of zeros is lent by `&mut` to `load` and by `&` to `pack_first`; all else is passed on.
 use mathlib.Core.Path.{_≡_, refl, sym, subst, _∙_}
 use Prim.Native.Nat.{ℕ, _<_, _≤_}
 use mathlib.Core.List.{List, [], _∷_}

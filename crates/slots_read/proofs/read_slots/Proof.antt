@@ -1,4 +1,4 @@
--- `slots::read_slots` meets its contract: a walk of its MIR, by hand, with three calls. A local array of zeros is lent by `&mut` to `load` and to `read_first`, and by `&` to `save`; the slots are lent by `&` to `load` and come back, and `save` has them last.
+-- `slots_read::read_slots` meets its contract: a walk of its MIR, by hand, with three calls. A local array of zeros is lent by `&mut` to `load` and to `read_first`, and by `&` to `save`; the slots are lent by `&` to `load` and come back, and `save` has them last.
 use mathlib.Core.Path.{_≡_, refl, sym, ap, subst, _∙_}
 use Prim.Native.Nat.{ℕ, _+_, _*_, _<_, _≤_, _^_}
 use mathlib.Core.List.{List, [], _∷_, _++_}
