@@ -5,7 +5,7 @@ use native.Mathlib.Omega.{arith}
 use mathlib.Core.Path.{_≡_, refl, sym, ap, _∙_, subst}
 use mathlib.Core.Bool.{Bool, true, false}
 use mathlib.Core.List.{List, _++_}
-use borrow.Author.Tests.{eq-eqb, ne-eqb}
+use borrow.Author.Tests.{eq-eqb, ne-eqb, eqb-true, eqb-false}
 use lib.Dec.{eqb}
 use lib.ListN.{length, take, drop, take-append-drop}
 use lib.Seq.{take-at, length-take-le}
@@ -31,6 +31,7 @@ use Rattle.host.specs.Host.{numberSize, slotSize, replySize, numbersIn, bytesOf
 use Rattle.host.proofs.NumberLaws.{length-numbersIn, length-bytesOf, bytes-stored}
 use Rattle.host.proofs.Guards.{Fit, too-many}
 use Rattle.host_compare.specs.Calls.{rowSize, wholeSlots, comparesLent, compareCall, curlewCompare}
+use Rattle.compare_write.specs.Back.{Fits, putBack}
 use Rattle.host_compare.specs.Steps.{secondCut}
 
 -- ---- slots that are not served
@@ -138,7 +139,7 @@ module _ (layout first second fslots farea sslots sarea report reply : List ℕ)
 
 -- ---- what the call on numbers left, written back
 
-pub fields-lent : {n : ℕ} (slots : List ℕ) {after : List ℕ} → Kept n (numbersIn slots) after → (length after * numberSize ≤ length slots) × (n * slotWidth ≤ length after)
+fields-lent : {n : ℕ} (slots : List ℕ) {after : List ℕ} → Kept n (numbersIn slots) after → (length after * numberSize ≤ length slots) × (n * slotWidth ≤ length after)
 fields-lent slots k = (omega (arith, k .long, length-numbersIn slots), omega (arith, k .lent, k .long))
 
 -- the slots of the fields are written, and the others stay
@@ -173,22 +174,22 @@ module _ (layout first second fslots farea sslots sarea report rows : List ℕ) 
       let room : length rows ≡ min (length (numbersIn report)) (reportWidth * maxSlots) = rw length-numbersIn short in
       report-over layout first second (numbersIn fslots) farea (numbersIn sslots) sarea (numbersIn report) rows room ∙ ap (reportOver (numbersIn report)) (sym p)
 
-  pub left : {r : ℕ} {reply′ : List ℕ} → (r ≡ a .number) × (reply′ ≡ replyOf a) → (a .number ≡ 0 → ⊥)
+  left : {r : ℕ} {reply′ : List ℕ} → (r ≡ a .number) × (reply′ ≡ replyOf a) → (a .number ≡ 0 → ⊥)
       → record { returned = r; firstSlots = fslots; firstArea = farea′; secondSlots = sslots; secondArea = sarea′; report = report; reply = reply′ }
       ≡ compareCall fslots sslots report (compare layout first second (numbersIn fslots) farea (numbersIn sslots) sarea (numbersIn report))
   unfolding compareCall
   left q h = rw (over, ne-eqb (a .number) 0 h, q .0, q .1)
 
   module _ (z : a .number ≡ 0) where
-    pub settles : Settled (numbersIn fslots) (numbersIn sslots) rows (record { answer = a; firstSlots = ns′; firstArea = farea′; secondSlots = ms′; secondArea = sarea′; report = rows′ })
+    settles : Settled (numbersIn fslots) (numbersIn sslots) rows (record { answer = a; firstSlots = ns′; firstArea = farea′; secondSlots = ms′; secondArea = sarea′; report = rows′ })
     settles =
         let accepted : compare layout first second (numbersIn fslots) farea (numbersIn sslots) sarea rows .answer .number ≡ 0 = rw (← p) z in
         subst (Settled (numbersIn fslots) (numbersIn sslots) rows) (sym p) (settled layout first second (numbersIn fslots) farea (numbersIn sslots) sarea rows accepted)
 
-    pub rows-lent : (length rows′ * numberSize ≤ length report) × (0 + reportWidth * a .first ≤ length rows′)
+    rows-lent : (length rows′ * numberSize ≤ length report) × (0 + reportWidth * a .first ≤ length rows′)
     rows-lent = (omega (arith, settles .long, short), omega (arith, settles .rows, settles .long))
 
-    pub written : {fslots′ sslots′ report′ reply′ : List ℕ} {r : ℕ} → (r ≡ a .number) × (reply′ ≡ replyOf a) → length fslots % numberSize ≡ 0 → All (λ b. b < 256) fslots → length sslots % numberSize ≡ 0 → All (λ b. b < 256) sslots
+    written : {fslots′ sslots′ report′ reply′ : List ℕ} {r : ℕ} → (r ≡ a .number) × (reply′ ≡ replyOf a) → length fslots % numberSize ≡ 0 → All (λ b. b < 256) fslots → length sslots % numberSize ≡ 0 → All (λ b. b < 256) sslots
         → fslots′ ≡ storeAt fslots 0 (bytesOf (take (a .first * slotWidth) ns′)) → sslots′ ≡ storeAt sslots 0 (bytesOf (take (a .first * slotWidth) ms′)) → report′ ≡ storeAt report 0 (bytesOf (part rows′ 0 (reportWidth * a .first)))
         → record { returned = r; firstSlots = fslots′; firstArea = farea′; secondSlots = sslots′; secondArea = sarea′; report = report′; reply = reply′ }
         ≡ compareCall fslots sslots report (compare layout first second (numbersIn fslots) farea (numbersIn sslots) sarea (numbersIn report))
@@ -198,3 +199,24 @@ module _ (layout first second fslots farea sslots sarea report rows : List ℕ) 
         let n : ℕ = a .first in
         let rest : reportWidth * n ≤ length rows′ = omega (arith, s .rows, s .long) in
         rw (over, eq-eqb (a .number) 0 z, q .0, q .1, kept-bytes n fslots ns′ (s .first) w b f, kept-bytes n sslots ms′ (s .second) w′ b′ g, rows-bytes n rows′ (numbersIn report) report rest h)
+
+  pub fits : a .number ≡ 0 → Fits (a .first) fslots sslots report ns′ ms′ rows′
+  fits z =
+      let s = settles z in
+      record { first = fields-lent fslots (s .first); second = fields-lent sslots (s .second); rows = rows-lent z }
+
+  module _ {fslots′ sslots′ report′ reply′ : List ℕ} {r : ℕ} (q : (r ≡ a .number) × (reply′ ≡ replyOf a)) (w : length fslots % numberSize ≡ 0) (b : All (λ b. b < 256) fslots) (w′ : length sslots % numberSize ≡ 0)
+      (b′ : All (λ b. b < 256) sslots) where
+    by-answer : (t : Bool) → eqb (a .number) 0 ≡ t → fslots′ ≡ (if t then storeAt fslots 0 (bytesOf (take (a .first * slotWidth) ns′)) else fslots)
+        → sslots′ ≡ (if t then storeAt sslots 0 (bytesOf (take (a .first * slotWidth) ms′)) else sslots) → report′ ≡ (if t then storeAt report 0 (bytesOf (part rows′ 0 (reportWidth * a .first))) else report)
+        → record { returned = r; firstSlots = fslots′; firstArea = farea′; secondSlots = sslots′; secondArea = sarea′; report = report′; reply = reply′ }
+        ≡ compareCall fslots sslots report (compare layout first second (numbersIn fslots) farea (numbersIn sslots) sarea (numbersIn report))
+    by-answer true e f g h = written (eqb-true (a .number) 0 e) q w b w′ b′ f g h
+    by-answer false e f g h = rw (f, g, h) (left q (eqb-false (a .number) 0 e))
+
+    pub left-by : fslots′ ≡ putBack a fslots (bytesOf (take (a .first * slotWidth) ns′)) → sslots′ ≡ putBack a sslots (bytesOf (take (a .first * slotWidth) ms′))
+        → report′ ≡ putBack a report (bytesOf (part rows′ 0 (reportWidth * a .first)))
+        → record { returned = r; firstSlots = fslots′; firstArea = farea′; secondSlots = sslots′; secondArea = sarea′; report = report′; reply = reply′ }
+        ≡ compareCall fslots sslots report (compare layout first second (numbersIn fslots) farea (numbersIn sslots) sarea (numbersIn report))
+    unfolding putBack
+    left-by f g h = by-answer (eqb (a .number) 0) refl f g h

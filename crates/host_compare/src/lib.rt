@@ -26,7 +26,7 @@ fn refuse_second(layout: &[u8], first: &[u8], slots: &[u32], area: &[u8], reply:
     host::reply_with(reply, Answer::refused(Refusal::BadSize, 0))
 }
 
-// Compares, with room lent for the numbers of both tables and of the report. An accepted call writes back the slots of its fields; those after them are not set.
+// Compares, with room lent for the numbers of both tables and of the report. What it left is written back.
 fn compare_by(
     layout: &[u8],
     first: &[u8],
@@ -58,14 +58,16 @@ fn compare_by(
         second_area,
         rows,
     );
-    if a.number != 0 {
-        return host::reply_with(reply, a);
-    }
-    let fields = a.first as usize;
-    numbers::encode(first_slots, first_room, fields);
-    numbers::encode(second_slots, second_room, fields);
-    numbers::encode_run(report, rows, 0, compare::REPORT_WIDTH * fields);
-    host::reply_with(reply, a)
+    compare_write::write_back(
+        first_slots,
+        second_slots,
+        report,
+        reply,
+        first_room,
+        second_room,
+        rows,
+        a,
+    )
 }
 
 // Reads two copies of a record by their layout, each into its own table and area, and says for each value field what differs.

@@ -1,0 +1,2 @@
+-- Laws of writing back a comparison.
+mod Laws

@@ -1,0 +1,2 @@
+-- What writing back a comparison means.
+pub mod Back
