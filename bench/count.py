@@ -1,4 +1,4 @@
-"""Instructions and taken jumps of one call, counted by valgrind's callgrind: figures that do not depend on what else the
+"""Instructions of one call, and the jumps that the library takes in it, counted by valgrind's callgrind: figures that do not depend on what else the
 machine does, so that a kit that compiles worse is seen."""
 import os
 import re
@@ -9,12 +9,29 @@ import tempfile
 CALLS = 10
 FUNCTIONS = {"pack": "curlew_pack", "read": "curlew_read"}
 TOTAL = re.compile(r"^(?:summary|totals): (\d+)", re.M)
-ALWAYS = re.compile(r"^jump=(\d+) ", re.M)
-TAKEN = re.compile(r"^jcnd=(\d+)/\d+ ", re.M)
+NAMED = re.compile(r"^(c?fn)=\((\d+)\)(?: (.*))?")
+JUMP = re.compile(r"^(?:jump=(\d+)|jcnd=(\d+)/)")
+OURS = re.compile(r"^curlew_|::")
 
 
 def available():
     return shutil.which("valgrind") is not None
+
+
+def taken_jumps(lines):
+    """The jumps taken in the library's functions. (Callgrind counts those of all others too, also outside of a call.)"""
+    names, here, jumps = {}, "", 0
+    for line in lines:
+        named = NAMED.match(line)
+        if named:
+            if named[3]:
+                names[named[2]] = named[3]
+            if named[1] == "fn":
+                here = names[named[2]]
+        jump = JUMP.match(line)
+        if jump and OURS.search(here):
+            jumps += int(jump[1] or jump[2])
+    return jumps
 
 
 def count(program, work, call):
@@ -28,5 +45,4 @@ def count(program, work, call):
                        env={**os.environ, "LD_BIND_NOW": "1"})
         with open(kept, encoding="utf-8") as file:
             text = file.read()
-    jumps = sum(map(int, ALWAYS.findall(text))) + sum(map(int, TAKEN.findall(text)))
-    return int(TOTAL.search(text).group(1)) // CALLS, jumps // CALLS
+    return int(TOTAL.search(text).group(1)) // CALLS, taken_jumps(text.splitlines()) // CALLS
