@@ -10,7 +10,9 @@ use Rattle.layout.specs.declared.Refusal.the-variants.{WrongSlots, NoRoom}
 use Rattle.layout.specs.Refusals.{if_then_else_, Result, ok, refused, _>>=_}
 use Rattle.layout.specs.Layout.{maxLayout, fieldsOf, slotCount}
 use Rattle.layout.specs.Words.{decoded}
+use Rattle.layout.specs.Lent.{Lent, before, after}
 use Rattle.record.specs.declared.Answer.{Answer}
+use Rattle.record.specs.declared.ReadAnswer.{ReadAnswer}
 use Rattle.record.specs.Table.{slotWidth, maxSlots, maxRecord, maxArea, valueBytes}
 use Rattle.record.specs.Packing.{accepted, refusal}
 use Rattle.record.specs.Reading.{reads, ReadAll}
@@ -52,3 +54,8 @@ unfoldable pub readWords : ℕ → ℕ → List ℕ → List ℕ → List ℕ �
 unfolding fitting
 readWords n taken words bs slots area mark =
     readFitting (fitting (length slots) taken (length area - mark) (length (valueBytes (valuesOf n words bs)))) (putAll n words bs slots area mark) slots area
+
+-- the answer r, the slots and the area are what it leaves
+abbrev pub ReadsWords : ℕ → ℕ → Lent → Lent → Lent → Lent → ℕ → ReadAnswer → Type 0
+ReadsWords n taken words bytes slots area mark r =
+    record { answer = r; slots = after slots; area = after area } ≡ readWords n taken (before words) (before bytes) (before slots) (before area) mark

@@ -10,7 +10,7 @@ ghost use Rattle.record.specs.Table.{slotWidth, maxSlots, maxRecord, valueBytes
 ghost use Rattle.record.specs.Reading.{readAll};
 ghost use Rattle.reader.specs.Sizes.{lentFits, surelyFits};
 ghost use Rattle.reading.specs.Tables.{valuesOf};
-ghost use Rattle.reader.specs.Checks.{checked, fitting, Ready, readWords};
+ghost use Rattle.reader.specs.Checks.{checked, fitting, Ready, ReadsWords};
 use layout::Parsed;
 use layout::Refusal;
 use record::Answer;
@@ -80,7 +80,7 @@ fn read_words(
     mark: usize,
 ) -> ReadAnswer
     requires { ⌜ Ready n taken (now words) (now bytes) (now slots) (now area) mark ⌝ }
-    ensures { λ r. ⌜ record { answer = r; slots = after slots; area = after area } ≡ readWords n taken (before words) (before bytes) (before slots) (before area) mark ⌝ }
+    ensures { λ r. ⌜ ReadsWords n taken words bytes slots area mark r ⌝ }
 {
     if surely_fits(n, taken, bytes.len(), slots.len(), area.len() - mark) {
         return reading::table::fill(words, n, bytes, slots, area, mark);
