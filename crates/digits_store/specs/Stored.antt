@@ -21,5 +21,6 @@ bytesOf hex n = ceilDiv n (perByte hex)
 abbrev pub FirstDigits : Bool → ℕ → List ℕ → ℕ → ℕ → Type 0
 FirstDigits hex n area start len = allDigits hex (take n (part area start len)) ≡ true
 
+-- the same of binary digits
 abbrev pub FirstBits : ℕ → List ℕ → ℕ → ℕ → Type 0
 FirstBits n area start len = FirstDigits false n area start len

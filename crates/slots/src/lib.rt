@@ -8,7 +8,7 @@ ghost use Rattle.layout.specs.Lent.{before, after};
 ghost use Rattle.record.specs.Table.{slotWidth};
 ghost use Rattle.slots.specs.Slots.{maxNumbers, numbersOf, slotsFrom, slotFrom, putAt, taken};
 
-// A slot as a caller lends it: 12 bytes, three numbers of 32 bits. (`record::slots::Slot` holds the same three as numbers that code counts with; it is
+// A slot as a caller lends it: 16 bytes, four numbers of 32 bits. (`record::slots::Slot` holds the same four as numbers that code counts with; it is
 // read out of a run of numbers and never lent.)
 pub struct Slot {
     pub kind: u32,
