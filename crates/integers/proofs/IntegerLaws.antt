@@ -1,47 +1,18 @@
--- Laws of integers in fields: the bytes of one, stored and read, and those of many, one after the other.
+-- Laws of bytes in their order or turned round, and of runs of bytes, one after the other.
 use Prim.Native.Nat.{ℕ, zero, suc, _+_, _-_, _*_, _/_, _%_, _≤_, _<_}
-use native.Mathlib.Nat.{add-zero, suc-mul, zero-mul, add-sub-cancel, not-suc-le-zero}
+use native.Mathlib.Nat.{add-zero, suc-mul, zero-mul, add-sub-cancel}
 use native.Mathlib.Omega.{arith}
 use mathlib.Core.Path.{_≡_, refl, sym, ap, _∙_}
-use mathlib.Core.Bool.{Bool, true, false, not}
-use mathlib.Core.List.{List, [], _∷_, _++_, map, map-id, map-map, append-assoc, append-nil, reverse, reverse-cons, reverse-append, reverse-reverse}
-use lib.ListN.{length, take, drop, getD, set, replicate, length-drop, length-reverse, length-map, length-replicate, take-append-drop}
-use lib.Seq.{take-at, take-all, take-take, drop-drop}
-use Rattle.layout.specs.declared.Shape.the-variants.{Integers}
-use Rattle.record.specs.Bytes.{part, storeAt, pieces, join, digits, number, ordered, numberBytes, numberAt, bigEndian, bigEndianIn}
-use Rattle.record.specs.Table.{integerBytes, integersIn}
-use Rattle.record.specs.Packing.{stored, lowBytes}
-use Rattle.record.specs.Reading.{loaded, widened}
-use Rattle.record.proofs.Bytes.{All, all-take, all-drop, all-ordered, all-below, length-pieces, length-digits, length-ordered, digits-number, join-pieces, part-at, drop-take}
-use Rattle.record.proofs.Fields.{item}
+use mathlib.Core.Bool.{Bool, true, false}
+use mathlib.Core.List.{List, _++_, map, map-id, map-map, append-assoc, append-nil, reverse}
+use lib.ListN.{length, take, drop, getD, set, length-reverse}
+use lib.Seq.{take-take, drop-drop}
+use Rattle.record.specs.Bytes.{part, storeAt, pieces, join, digits, number, ordered, numberAt}
+use Rattle.record.proofs.Bytes.{All, all-take, all-drop, all-ordered, all-below, length-digits, length-ordered, digits-number, join-pieces, drop-take}
 use Rattle.record.proofs.Stores.{runs, runs-first, length-runs, length-part, getD-reverse, Put, put-none, put-more, put-done, Wrote, wrote-next, store-next, length-storeAt}
-use Rattle.record.proofs.Widening.{low-digits, filler, widened-digits, sign-test}
-use Rattle.integers.specs.Items.{itemBytes, fillerOf, eights}
-use Rattle.text.proofs.ByteLaws.{store-both}
+use Rattle.integers.specs.Eights.{eights}
 
--- ---- order and parts
-
-turned-ordered : (big : Bool) (xs : List ℕ) → ordered big (reverse xs) ≡ ordered (not big) xs
-turned-ordered true xs = reverse-reverse xs
-turned-ordered false xs = refl
-
-ordered-turned : (big : Bool) (xs : List ℕ) → reverse (ordered big xs) ≡ ordered (not big) xs
-ordered-turned true xs = reverse-reverse xs
-ordered-turned false xs = refl
-
--- what a run begins with when it is turned round is its end
-take-reverse : (k : ℕ) (xs : List ℕ) → k ≤ length xs → take (length xs - k) (reverse xs) ≡ reverse (drop k xs)
-take-reverse k xs h =
-    let whole : reverse xs ≡ reverse (drop k xs) ++ reverse (take k xs) = ap reverse (sym (take-append-drop k xs)) ∙ reverse-append (take k xs) (drop k xs) in
-    ap (take (length xs - k)) whole ∙ take-at (reverse (drop k xs)) (reverse (take k xs)) (length xs - k) (length-reverse (drop k xs) ∙ length-drop k xs)
-
-replicate-snoc : (k x : ℕ) → replicate k x ++ (x ∷ []) ≡ x ∷ replicate k x
-replicate-snoc zero x = refl
-replicate-snoc (suc k) x = ap (λ (r : List ℕ). x ∷ r) (replicate-snoc k x)
-
-reverse-replicate : (k x : ℕ) → reverse (replicate k x) ≡ replicate k x
-reverse-replicate zero x = refl
-reverse-replicate (suc k) x = reverse-cons x (replicate k x) ∙ rw (reverse-replicate k x) (replicate-snoc k x)
+-- ---- bytes
 
 pub turned-at : (xs : List ℕ) (n j : ℕ) → j < n → length xs ≡ n → getD (ordered true xs) j 0 ≡ getD xs (n - 1 - j) 0
 turned-at xs n j h e = rw (← e) (getD-reverse xs j (omega arith))
@@ -49,66 +20,9 @@ turned-at xs n j h e = rw (← e) (getD-reverse xs j (omega arith))
 pub part-bytes : (xs : List ℕ) (start n : ℕ) → ((i : ℕ) → getD xs i 0 < 256) → All (λ d. d < 256) (part xs start n)
 part-bytes xs start n small = all-take (λ d. d < 256) n (drop start xs) (all-drop (λ d. d < 256) start xs (all-below xs small))
 
--- ---- one integer
+-- ---- runs
 
--- stored: the last w bytes of its eight, in the field's order
-pub stored-item : (area : List ℕ) (at w : ℕ) (big : Bool) → ((i : ℕ) → getD area i 0 < 256) → w ≤ 8 → at + 8 ≤ length area
-    → ordered (not big) (part area (at + (8 - w)) w) ≡ item w big (number 256 (ordered true (part area at 8)))
-unfolding item
-stored-item area at w big small narrow inside =
-    let p : List ℕ = part area at 8 in
-    let long : length p ≡ 8 = length-part 8 at area inside in
-    let low : digits 256 w (number 256 (reverse p)) ≡ take w (reverse p) =
-    low-digits 256 w (reverse p) (rw (length-reverse, long) narrow) (all-ordered (λ d. d < 256) true p (part-bytes area at 8 small)) in
-    let left : w ≡ length p - (8 - w) = omega arith in
-    let end : take w (reverse p) ≡ reverse (drop (8 - w) p) = ap (λ (k : ℕ). take k (reverse p)) left ∙ take-reverse (8 - w) p (omega arith) in
-    let count : 8 - (8 - w) ≡ w = omega arith in
-    let last : drop (8 - w) p ≡ part area (at + (8 - w)) w = drop-take (8 - w) 8 (drop at area) ∙ rw (count, drop-drop (8 - w) at area) in
-    sym (ap (ordered big) (low ∙ end ∙ ap reverse last) ∙ turned-ordered big (part area (at + (8 - w)) w))
-
--- read: the filler goes by the highest byte
-filler-of-top : (w : ℕ) (unsigned : Bool) (hs : List ℕ) → length hs ≡ w → 0 < w → All (λ d. d < 256) hs → filler w unsigned (reverse hs) ≡ fillerOf unsigned (getD hs 0 0)
-unfolding filler fillerOf
-filler-of-top w unsigned [] e h all = absurd (not-suc-le-zero (rw (← e) at h))
-filler-of-top w unsigned (top ∷ low) e h all =
-    let size : w ≡ suc (length (reverse low)) = rw length-reverse (sym e) in
-    rw (reverse-cons, size, sign-test (reverse low) top (all-ordered (λ d. d < 256) true low (all .1)) (all .0))
-
--- read: the filler, and then the field's bytes, the highest first
-loaded-item : (w : ℕ) (big unsigned : Bool) (bs : List ℕ) → length bs ≡ w → 0 < w → w ≤ 8 → All (λ d. d < 256) bs
-    → replicate (8 - w) (fillerOf unsigned (getD (ordered (not big) bs) 0 0)) ++ ordered (not big) bs ≡ itemBytes w big unsigned bs
-unfolding itemBytes
-loaded-item w big unsigned bs len some narrow all =
-    let ds : List ℕ = ordered big bs in
-    let hs : List ℕ = ordered (not big) bs in
-    let back : ds ≡ reverse hs = sym (reverse-reverse ds) ∙ ap reverse (ordered-turned big bs) in
-    let fill : filler w unsigned ds ≡ fillerOf unsigned (getD hs 0 0) =
-    ap (filler w unsigned) back ∙ filler-of-top w unsigned hs (length-ordered (not big) bs ∙ len) some (all-ordered (λ d. d < 256) (not big) bs all) in
-    let wide : digits 256 8 (widened w unsigned (number 256 ds)) ≡ ds ++ replicate (8 - w) (fillerOf unsigned (getD hs 0 0)) =
-    rw (← fill) (widened-digits w unsigned ds (length-ordered big bs ∙ len) narrow (all-ordered (λ d. d < 256) big bs all)) in
-    sym (ap reverse wide ∙ reverse-append ds (replicate (8 - w) (fillerOf unsigned (getD hs 0 0))) ∙ rw (reverse-replicate, ordered-turned big bs))
-
--- the same of a record's bytes, stored in two steps
-pub store-widened : (d : List ℕ) (to : ℕ) (input : List ℕ) (at w : ℕ) (big unsigned : Bool) (top fill : ℕ) {d₁ d₂ : List ℕ}
-    → ((i : ℕ) → getD input i 0 < 256) → 0 < w → w ≤ 8 → to + 8 ≤ length d → at + w ≤ length input
-    → ((xs : List ℕ) → length xs ≡ w → getD (ordered (not big) xs) 0 0 ≡ getD xs top 0) → top < w → fill ≡ fillerOf unsigned (getD input (at + top) 0)
-    → d₁ ≡ storeAt d to (replicate (8 - w) fill) → d₂ ≡ storeAt d₁ (to + (8 - w)) (ordered (not big) (part input at w))
-    → d₂ ≡ storeAt d to (itemBytes w big unsigned (part input at w))
-store-widened d to input at w big unsigned top fill small some narrow room inside first lower is one two =
-    let bs : List ℕ = part input at w in
-    let long : length bs ≡ w = length-part w at input inside in
-    let highest : fill ≡ fillerOf unsigned (getD (ordered (not big) bs) 0 0) = is ∙ ap (fillerOf unsigned) (sym (first bs long ∙ part-at input at w top lower)) in
-    let size : length (ordered (not big) bs) ≡ w = length-ordered (not big) bs ∙ long in
-    store-both d to (8 - w) (replicate (8 - w) fill) (ordered (not big) bs) (length-replicate (8 - w) fill) (omega arith) one two
-    ∙ ap (storeAt d to) (rw highest (loaded-item w big unsigned bs long some narrow (part-bytes input at w small)))
-
-pub length-itemBytes : (w : ℕ) (big unsigned : Bool) (bs : List ℕ) → length (itemBytes w big unsigned bs) ≡ 8
-unfolding itemBytes
-length-itemBytes w big unsigned bs = simp (length-reverse, length-digits)
-
--- ---- n integers
-
-runs-same : (n : ℕ) (f g : ℕ → List ℕ) → ((i : ℕ) → i < n → f i ≡ g i) → runs n f ≡ runs n g
+pub runs-same : (n : ℕ) (f g : ℕ → List ℕ) → ((i : ℕ) → i < n → f i ≡ g i) → runs n f ≡ runs n g
 unfolding runs
 runs-same zero f g h = refl
 runs-same (suc n) f g h = rw (runs-same n f g (λ i l. h i (omega arith)), h n (omega arith))
@@ -140,52 +54,6 @@ pieces-take k zero xs = refl
 pieces-take k (suc n) xs =
     let less : k ≤ n * k + k = omega arith in
     rw (suc-mul, take-take k (n * k + k) xs, drop-take k (n * k + k) xs, add-sub-cancel, pieces-take k n (drop k xs))
-
--- integer i of those that stand in the area, in its field; and of those in a record, in the area
-abbrev pub storedAt : List ℕ → ℕ → ℕ → Bool → ℕ → List ℕ
-storedAt area start w big i = item w big (number 256 (ordered true (part area (start + i * 8) 8)))
-
-abbrev pub loadedAt : List ℕ → ℕ → ℕ → Bool → Bool → ℕ → List ℕ
-loadedAt input at w big unsigned i = itemBytes w big unsigned (part input (at + i * w) w)
-
-pub stored-runs : (area : List ℕ) (start w : ℕ) (big : Bool) (n : ℕ) → runs n (storedAt area start w big) ≡ stored (Integers w big) n (integersIn n (drop start area))
-unfolding stored lowBytes bigEndianIn item
-stored-runs area start w big n =
-    let h : List ℕ → ℕ = λ p. number 256 (reverse p) in
-    let xs : List ℕ = map h (pieces 8 n (drop start area)) in
-    let long : length xs ≡ n = length-map (pieces 8 n (drop start area)) h ∙ length-pieces 8 n (drop start area) in
-    let all : length xs ≤ n = omega arith in
-    sym (ap (λ (ys : List ℕ). join (map (λ x. ordered big (digits 256 w x)) ys)) (take-all n xs all) ∙ joined (λ x. ordered big (digits 256 w x)) h 8 area n start)
-
--- one integer alone
-pub stored-one : (area : List ℕ) (start w : ℕ) (big : Bool) → ((i : ℕ) → getD area i 0 < 256) → w ≤ 8 → start + 8 ≤ length area
-    → ordered (not big) (part area (start + (8 - w)) w) ≡ stored (Integers w big) 1 (integersIn 1 (drop start area))
-unfolding runs
-stored-one area start w big small narrow inside =
-    let here : start ≡ start + 0 * 8 = omega arith in
-    stored-item area start w big small narrow inside ∙ ap (λ (p : ℕ). item w big (number 256 (ordered true (part area p 8)))) here ∙ stored-runs area start w big 1
-
-pub loaded-runs : (input : List ℕ) (at w : ℕ) (big unsigned : Bool) (n : ℕ)
-    → runs n (loadedAt input at w big unsigned) ≡ integerBytes (loaded (Integers w big) unsigned n (part input at (n * w)) .items)
-unfolding bigEndian numberBytes loaded itemBytes
-loaded-runs input at w big unsigned n =
-    rw (pieces-take w n (drop at input)) (sym (joined (λ x. reverse (digits 256 8 x)) (λ p. widened w unsigned (number 256 (ordered big p))) w input n at))
-
--- ---- integers of two bytes, as numbers
-
-pub pair-low-number : (v : ℕ) → v < 65536 → v ≡ number 256 (ordered false (digits 256 2 v))
-unfolding digits number
-pair-low-number v h = omega arith
-
-pub pair-high-number : (v : ℕ) → v < 65536 → v % 256 * 256 + v / 256 ≡ number 256 (ordered true (digits 256 2 v))
-unfolding digits number
-pair-high-number v h = omega arith
-
--- the item of a pair that was read as a number
-pub pair-item : (input : List ℕ) (at v x y : ℕ) (big unsigned : Bool) → digits 256 2 v ≡ part input at 2 → x ≡ number 256 (ordered big (digits 256 2 v)) → y ≡ widened 2 unsigned x
-    → numberBytes 8 y ≡ itemBytes 2 big unsigned (part input at 2)
-unfolding itemBytes numberBytes
-pair-item input at v x y big unsigned two is wide = rw (wide, is, two)
 
 -- ---- runs of eight bytes
 
@@ -255,18 +123,3 @@ eights-more {d₀} {d} {d′} {at} {i} {n} xs start m w h room inside e =
     let is : d′ ≡ storeAt d₀ at (runs (i + m) f) =
     store-next {to = at + i * 8} d₀ at (runs i f) (runs m (λ k. f (i + k))) (w .is) (omega arith) (e ∙ ap (storeAt d (at + i * 8)) some) (runs-add i m f) (omega arith) in
     record { long = ap length is ∙ length-storeAt d₀ at (runs (i + m) f) (omega arith); is = is }
-
--- as integers of the area, stored; and read
-pub eights-stored : (area : List ℕ) (start : ℕ) (big : Bool) (n : ℕ) → ((i : ℕ) → getD area i 0 < 256) → start + n * 8 ≤ length area
-    → eights (not big) n (drop start area) ≡ stored (Integers 8 big) n (integersIn n (drop start area))
-eights-stored area start big n small inside =
-    let one : (i : ℕ) → i < n → eightAt (not big) area start i ≡ storedAt area start 8 big i =
-    λ i h. rw add-zero at (stored-item area (start + i * 8) 8 big small (omega arith) (omega arith)) in
-    eights-runs (not big) area start n ∙ runs-same n _ _ one ∙ stored-runs area start 8 big n
-
-pub eights-loaded : (input : List ℕ) (at : ℕ) (big unsigned : Bool) (n : ℕ) → ((i : ℕ) → getD input i 0 < 256) → at + n * 8 ≤ length input
-    → eights (not big) n (drop at input) ≡ integerBytes (loaded (Integers 8 big) unsigned n (part input at (n * 8)) .items)
-eights-loaded input at big unsigned n small inside =
-    let one : (i : ℕ) → i < n → eightAt (not big) input at i ≡ loadedAt input at 8 big unsigned i =
-    λ i h. loaded-item 8 big unsigned (part input (at + i * 8) 8) (length-part 8 (at + i * 8) input (omega arith)) (omega arith) (omega arith) (part-bytes input (at + i * 8) 8 small) in
-    eights-runs (not big) input at n ∙ runs-same n _ _ one ∙ loaded-runs input at 8 big unsigned n

@@ -1,2 +1,2 @@
--- What contracts between the functions of this crate cite.
-pub mod Items
+-- What contracts between functions of this crate and of those above cite.
+pub mod Eights

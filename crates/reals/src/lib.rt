@@ -133,7 +133,7 @@ pub fn store(
     if single {
         return store_singles(out, at, area, start, n, big);
     }
-    integers::store(out, at, area, start, n, DOUBLE, big)
+    integers_store::store(out, at, area, start, n, DOUBLE, big)
 }
 
 // Reads the double of one single.
@@ -166,5 +166,5 @@ pub fn load(area: &mut [u8], to: usize, input: &[u8], at: usize, n: usize, singl
     if single {
         return load_singles(area, to, input, at, n, big);
     }
-    integers::load(area, to, input, at, n, DOUBLE, big, true)
+    integers_load::load(area, to, input, at, n, DOUBLE, big, true)
 }

@@ -65,7 +65,7 @@ fn store_integers(
     requires { ⌜ Storable (now area) (Integers w big) n a at (length (now out)) ⌝ }
     ensures { λ r. ⌜ StoredAs (now (area .entry)) (Integers w big) n a at (now (out .entry)) r (now (out .exit)) ⌝ }
 {
-    integers::store(out, at, area, a.start, n, w, big);
+    integers_store::store(out, at, area, a.start, n, w, big);
     n * w
 }
 

@@ -119,7 +119,7 @@ fn integers(
     requires { ⌜ to + n * 8 ≤ length (now area) ⌝ }
     ensures { λ r. ⌜ LoadedAs (valueAt (now (bytes .entry)) at (Integers w big) u n) (now (area .entry)) to r (now (area .exit)) ⌝ }
 {
-    integers::load(area, to, bytes, at, n, w, big, u);
+    integers_load::load(area, to, bytes, at, n, w, big, u);
     Loaded {
         kind: integer_kind(u),
         items: n,

@@ -1,0 +1,111 @@
+-- Laws of integers that are read: the bytes of one, and those of many, one after the other.
+use Prim.Native.Nat.{ℕ, zero, suc, _+_, _-_, _*_, _/_, _%_, _≤_, _<_}
+use native.Mathlib.Nat.{not-suc-le-zero}
+use native.Mathlib.Omega.{arith}
+use mathlib.Core.Path.{_≡_, refl, sym, ap, _∙_}
+use mathlib.Core.Bool.{Bool, true, false, not}
+use mathlib.Core.List.{List, [], _∷_, _++_, reverse, reverse-cons, reverse-append, reverse-reverse}
+use lib.ListN.{length, drop, getD, replicate, length-reverse, length-replicate}
+use Rattle.layout.specs.declared.Shape.the-variants.{Integers}
+use Rattle.record.specs.Bytes.{part, storeAt, digits, number, ordered, numberBytes, bigEndian}
+use Rattle.record.specs.Table.{integerBytes}
+use Rattle.record.specs.Reading.{loaded, widened}
+use Rattle.record.proofs.Bytes.{All, all-ordered, length-digits, length-ordered, part-at}
+use Rattle.record.proofs.Stores.{runs, length-part}
+use Rattle.record.proofs.Widening.{filler, widened-digits, sign-test}
+use Rattle.integers.specs.Eights.{eights}
+use Rattle.integers_load.specs.Items.{itemBytes, fillerOf}
+use Rattle.integers.proofs.IntegerLaws.{part-bytes, runs-same, joined, pieces-take, eightAt, eights-runs}
+use Rattle.text.proofs.ByteLaws.{store-both}
+
+-- ---- order and parts
+
+ordered-turned : (big : Bool) (xs : List ℕ) → reverse (ordered big xs) ≡ ordered (not big) xs
+ordered-turned true xs = reverse-reverse xs
+ordered-turned false xs = refl
+
+replicate-snoc : (k x : ℕ) → replicate k x ++ (x ∷ []) ≡ x ∷ replicate k x
+replicate-snoc zero x = refl
+replicate-snoc (suc k) x = ap (λ (r : List ℕ). x ∷ r) (replicate-snoc k x)
+
+reverse-replicate : (k x : ℕ) → reverse (replicate k x) ≡ replicate k x
+reverse-replicate zero x = refl
+reverse-replicate (suc k) x = reverse-cons x (replicate k x) ∙ rw (reverse-replicate k x) (replicate-snoc k x)
+
+-- ---- one integer
+
+-- read: the filler goes by the highest byte
+filler-of-top : (w : ℕ) (unsigned : Bool) (hs : List ℕ) → length hs ≡ w → 0 < w → All (λ d. d < 256) hs → filler w unsigned (reverse hs) ≡ fillerOf unsigned (getD hs 0 0)
+unfolding filler fillerOf
+filler-of-top w unsigned [] e h all = absurd (not-suc-le-zero (rw (← e) at h))
+filler-of-top w unsigned (top ∷ low) e h all =
+    let size : w ≡ suc (length (reverse low)) = rw length-reverse (sym e) in
+    rw (reverse-cons, size, sign-test (reverse low) top (all-ordered (λ d. d < 256) true low (all .1)) (all .0))
+
+-- read: the filler, and then the field's bytes, the highest first
+loaded-item : (w : ℕ) (big unsigned : Bool) (bs : List ℕ) → length bs ≡ w → 0 < w → w ≤ 8 → All (λ d. d < 256) bs
+    → replicate (8 - w) (fillerOf unsigned (getD (ordered (not big) bs) 0 0)) ++ ordered (not big) bs ≡ itemBytes w big unsigned bs
+unfolding itemBytes
+loaded-item w big unsigned bs len some narrow all =
+    let ds : List ℕ = ordered big bs in
+    let hs : List ℕ = ordered (not big) bs in
+    let back : ds ≡ reverse hs = sym (reverse-reverse ds) ∙ ap reverse (ordered-turned big bs) in
+    let fill : filler w unsigned ds ≡ fillerOf unsigned (getD hs 0 0) =
+    ap (filler w unsigned) back ∙ filler-of-top w unsigned hs (length-ordered (not big) bs ∙ len) some (all-ordered (λ d. d < 256) (not big) bs all) in
+    let wide : digits 256 8 (widened w unsigned (number 256 ds)) ≡ ds ++ replicate (8 - w) (fillerOf unsigned (getD hs 0 0)) =
+    rw (← fill) (widened-digits w unsigned ds (length-ordered big bs ∙ len) narrow (all-ordered (λ d. d < 256) big bs all)) in
+    sym (ap reverse wide ∙ reverse-append ds (replicate (8 - w) (fillerOf unsigned (getD hs 0 0))) ∙ rw (reverse-replicate, ordered-turned big bs))
+
+-- the same of a record's bytes, stored in two steps
+pub store-widened : (d : List ℕ) (to : ℕ) (input : List ℕ) (at w : ℕ) (big unsigned : Bool) (top fill : ℕ) {d₁ d₂ : List ℕ}
+    → ((i : ℕ) → getD input i 0 < 256) → 0 < w → w ≤ 8 → to + 8 ≤ length d → at + w ≤ length input
+    → ((xs : List ℕ) → length xs ≡ w → getD (ordered (not big) xs) 0 0 ≡ getD xs top 0) → top < w → fill ≡ fillerOf unsigned (getD input (at + top) 0)
+    → d₁ ≡ storeAt d to (replicate (8 - w) fill) → d₂ ≡ storeAt d₁ (to + (8 - w)) (ordered (not big) (part input at w))
+    → d₂ ≡ storeAt d to (itemBytes w big unsigned (part input at w))
+store-widened d to input at w big unsigned top fill small some narrow room inside first lower is one two =
+    let bs : List ℕ = part input at w in
+    let long : length bs ≡ w = length-part w at input inside in
+    let highest : fill ≡ fillerOf unsigned (getD (ordered (not big) bs) 0 0) = is ∙ ap (fillerOf unsigned) (sym (first bs long ∙ part-at input at w top lower)) in
+    let size : length (ordered (not big) bs) ≡ w = length-ordered (not big) bs ∙ long in
+    store-both d to (8 - w) (replicate (8 - w) fill) (ordered (not big) bs) (length-replicate (8 - w) fill) (omega arith) one two
+    ∙ ap (storeAt d to) (rw highest (loaded-item w big unsigned bs long some narrow (part-bytes input at w small)))
+
+pub length-itemBytes : (w : ℕ) (big unsigned : Bool) (bs : List ℕ) → length (itemBytes w big unsigned bs) ≡ 8
+unfolding itemBytes
+length-itemBytes w big unsigned bs = simp (length-reverse, length-digits)
+
+-- ---- n integers
+
+-- integer i of those that stand in a record, in the area
+abbrev pub loadedAt : List ℕ → ℕ → ℕ → Bool → Bool → ℕ → List ℕ
+loadedAt input at w big unsigned i = itemBytes w big unsigned (part input (at + i * w) w)
+
+pub loaded-runs : (input : List ℕ) (at w : ℕ) (big unsigned : Bool) (n : ℕ)
+    → runs n (loadedAt input at w big unsigned) ≡ integerBytes (loaded (Integers w big) unsigned n (part input at (n * w)) .items)
+unfolding bigEndian numberBytes loaded itemBytes
+loaded-runs input at w big unsigned n =
+    rw (pieces-take w n (drop at input)) (sym (joined (λ x. reverse (digits 256 8 x)) (λ p. widened w unsigned (number 256 (ordered big p))) w input n at))
+
+-- runs of eight bytes, as integers that are read
+pub eights-loaded : (input : List ℕ) (at : ℕ) (big unsigned : Bool) (n : ℕ) → ((i : ℕ) → getD input i 0 < 256) → at + n * 8 ≤ length input
+    → eights (not big) n (drop at input) ≡ integerBytes (loaded (Integers 8 big) unsigned n (part input at (n * 8)) .items)
+eights-loaded input at big unsigned n small inside =
+    let one : (i : ℕ) → i < n → eightAt (not big) input at i ≡ loadedAt input at 8 big unsigned i =
+    λ i h. loaded-item 8 big unsigned (part input (at + i * 8) 8) (length-part 8 (at + i * 8) input (omega arith)) (omega arith) (omega arith) (part-bytes input (at + i * 8) 8 small) in
+    eights-runs (not big) input at n ∙ runs-same n _ _ one ∙ loaded-runs input at 8 big unsigned n
+
+-- ---- integers of two bytes, as numbers
+
+pub pair-low-number : (v : ℕ) → v < 65536 → v ≡ number 256 (ordered false (digits 256 2 v))
+unfolding digits number
+pair-low-number v h = omega arith
+
+pub pair-high-number : (v : ℕ) → v < 65536 → v % 256 * 256 + v / 256 ≡ number 256 (ordered true (digits 256 2 v))
+unfolding digits number
+pair-high-number v h = omega arith
+
+-- the item of a pair that was read as a number
+pub pair-item : (input : List ℕ) (at v x y : ℕ) (big unsigned : Bool) → digits 256 2 v ≡ part input at 2 → x ≡ number 256 (ordered big (digits 256 2 v)) → y ≡ widened 2 unsigned x
+    → numberBytes 8 y ≡ itemBytes 2 big unsigned (part input at 2)
+unfolding itemBytes numberBytes
+pair-item input at v x y big unsigned two is wide = rw (wide, is, two)

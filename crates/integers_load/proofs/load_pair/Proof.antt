@@ -1,0 +1,43 @@
+-- The pair's number, widened, has the item's eight bytes.
+use mathlib.Core.Path.{ap, _∙_}
+use Rattle.record.specs.Bytes.{storeAt}
+use Rattle.integers_load.proofs.LoadedLaws.{pair-item}
+use borrow.Author.Needs.{needs}
+use Rattle.integers_load.proofs.load_pair.Statement.{statement}
+use Rattle.integers_load.proofs.load_pair.Tie as tie
+
+pair-at-requires : tie.Need-pair-at-requires
+pair-at-requires c κs = search needs
+
+pair-number-requires : tie.Need-pair-number-requires
+pair-number-requires c κs = search needs
+
+widen-pair-requires : tie.Need-widen-pair-requires
+widen-pair-requires c κs = search needs
+
+put-number-requires : tie.Need-put-number-requires
+put-number-requires c κs = search needs
+
+same-length : tie.Need-same-length
+same-length c = search needs
+
+returns : tie.Need-returns
+returns c =
+    let put = c .before .before in
+    let wide = put .before in
+    let number = wide .before .before in
+    let pair = number .before in
+    let a = pair .before .before .before .args in
+    put .put-number .ensures
+    ∙ ap (storeAt (a .area .now) (a .to)) (pair-item (a .input .now) (a .at) _ _ _ (a .big) (a .unsigned) (pair .pair-at .ensures) (number .pair-number .ensures) (wide .widen-pair .ensures))
+
+pub load-pair-spec : {M : Type 1} → statement M
+load-pair-spec =
+    tie.close
+    (tie.spec
+    pair-at-requires
+    pair-number-requires
+    widen-pair-requires
+    put-number-requires
+    same-length
+    returns)

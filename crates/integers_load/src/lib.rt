@@ -1,0 +1,138 @@
+// `c s S i I w W`, read: from fields of 1 to 8 bytes into integers of eight big-endian bytes in the area. A field's bytes are the last ones of an
+// item, in their order where the field is big-endian, else turned round.
+ghost use mathlib.Core.Path.{_≡_};
+ghost use Prim.Native.Nat.{_+_, _*_, _≤_, _<_};
+ghost use lib.ListN.{length};
+ghost use Rattle.layout.specs.declared.Shape.the-variants.{Integers};
+ghost use Rattle.layout.specs.Lent.{before, after};
+ghost use Rattle.record.specs.Bytes.{part, storeAt, digits, number, ordered};
+ghost use Rattle.record.specs.Table.{integerBytes};
+ghost use Rattle.record.specs.Reading.{loaded, widened};
+ghost use Rattle.integers_load.specs.Items.{itemBytes, fillerOf};
+
+// The byte that widens an integer whose highest byte is `top`.
+fn filler(unsigned: bool, top: u8) -> u8
+    ensures { λ r. ⌜ r ≡ fillerOf unsigned top ⌝ }
+{
+    if unsigned {
+        return 0;
+    }
+    if top < 128 { 0 } else { 255 }
+}
+
+// Reads one integer of w bytes.
+fn load_item(
+    area: &mut [u8],
+    to: usize,
+    input: &[u8],
+    at: usize,
+    w: usize,
+    big: bool,
+    unsigned: bool,
+)
+    requires { ⌜ (0 < w) × (w ≤ 8) × (to + 8 ≤ length (now area)) × (at + w ≤ length (now input)) ⌝ }
+    ensures { λ _. ⌜ after area ≡ storeAt (before area) to (itemBytes w big unsigned (part (before input) at w)) ⌝ }
+{
+    let top = integers::place(!big, w, 0);
+    let fill = filler(unsigned, input[at + top]);
+    text::bytes::fill(area, to, 8 - w, fill);
+    integers::copy_ordered(area, to + (8 - w), input, at, w, !big);
+}
+
+// The number that two bytes make, the low one first or, where `big` says so, last.
+fn pair_number(v: u16, big: bool) -> u16
+    ensures { λ r. ⌜ r ≡ number 256 (ordered big (digits 256 2 v)) ⌝ }
+{
+    if big {
+        return v % 256 * 256 + v / 256;
+    }
+    v
+}
+
+// An integer of two bytes with eight: its sign goes on.
+fn widen_pair(v: u16, unsigned: bool) -> u64
+    ensures { λ r. ⌜ r ≡ widened 2 unsigned v ⌝ }
+{
+    let x = v as u64;
+    if unsigned {
+        return x;
+    }
+    if x < 32768 {
+        x
+    } else {
+        x + 18446744073709486080
+    }
+}
+
+// Reads one integer of two bytes, as a number: its eight bytes become one store.
+fn load_pair(area: &mut [u8], to: usize, input: &[u8], at: usize, big: bool, unsigned: bool)
+    requires { ⌜ (to + 8 ≤ length (now area)) × (at + 2 ≤ length (now input)) ⌝ }
+    ensures { λ _. ⌜ after area ≡ storeAt (before area) to (itemBytes 2 big unsigned (part (before input) at 2)) ⌝ }
+{
+    let x = pair_number(integers::pair_at(input, at), big);
+    big_endian::put_number(area, to, record::INTEGER_SIZE, widen_pair(x, unsigned));
+}
+
+// Reads n integers of two bytes each.
+fn load_pairs(
+    area: &mut [u8],
+    to: usize,
+    input: &[u8],
+    at: usize,
+    n: usize,
+    big: bool,
+    unsigned: bool,
+)
+    requires { ⌜ (to + n * 8 ≤ length (now area)) × (at + n * 2 ≤ length (now input)) ⌝ }
+    ensures { λ _. ⌜ after area ≡ storeAt (before area) to (integerBytes (loaded (Integers 2 big) unsigned n (part (before input) at (n * 2)) .items)) ⌝ }
+{
+    let mut i = 0;
+    while i < n {
+        load_pair(area, to + i * 8, input, at + i * 2, big, unsigned);
+        i += 1;
+    }
+}
+
+// Reads n integers of w bytes each, by their bytes.
+fn load_each(
+    area: &mut [u8],
+    to: usize,
+    input: &[u8],
+    at: usize,
+    n: usize,
+    w: usize,
+    big: bool,
+    unsigned: bool,
+)
+    requires { ⌜ (0 < w) × (w ≤ 8) × (to + n * 8 ≤ length (now area)) × (at + n * w ≤ length (now input)) ⌝ }
+    ensures { λ _. ⌜ after area ≡ storeAt (before area) to (integerBytes (loaded (Integers w big) unsigned n (part (before input) at (n * w)) .items)) ⌝ }
+{
+    let mut i = 0;
+    while i < n {
+        load_item(area, to + i * 8, input, at + i * w, w, big, unsigned);
+        i += 1;
+    }
+}
+
+// Reads n integers of w bytes each.
+pub fn load(
+    area: &mut [u8],
+    to: usize,
+    input: &[u8],
+    at: usize,
+    n: usize,
+    w: usize,
+    big: bool,
+    unsigned: bool,
+)
+    requires { ⌜ (0 < w) × (w ≤ 8) × (to + n * 8 ≤ length (now area)) × (at + n * w ≤ length (now input)) ⌝ }
+    ensures { λ _. ⌜ after area ≡ storeAt (before area) to (integerBytes (loaded (Integers w big) unsigned n (part (before input) at (n * w)) .items)) ⌝ }
+{
+    if w == 2 {
+        return load_pairs(area, to, input, at, n, big, unsigned);
+    }
+    if w == 8 {
+        return integers::copy_eights(area, to, input, at, n, !big);
+    }
+    load_each(area, to, input, at, n, w, big, unsigned)
+}
