@@ -1,4 +1,3 @@
 -- The laws that belong to no one function.
-mod DigitBytes
-mod DigitEights
+mod FieldBytes
 mod StripLaws

@@ -8,21 +8,22 @@ use native.Mathlib.Numerals.{add-one}
 use mathlib.Core.Path.{_≡_, refl, sym, ap, _∙_}
 use mathlib.Core.Bool.{Bool, true, false}
 use mathlib.Core.List.{List, [], _∷_, _++_, map, reverse, reverse-cons, reverse-append, append-assoc}
-use lib.ListN.{length, take, drop, getD, set, replicate, length-append, length-take, length-map, length-replicate, length-reverse, length-set, List·getD-append, List·getD-eq-default, getD-replicate}
+use lib.ListN.{length, take, drop, getD, set, replicate, length-append, length-take, length-replicate, length-reverse, length-set, List·getD-append, List·getD-eq-default, getD-replicate}
 use lib.Seq.{drop-drop, take-suc, take-take, length-take-le, ext-getD, getD-take, getD-append-add, set-set}
 use Rattle.layout.specs.declared.Shape.the-variants.{Digits}
 use Rattle.record.specs.Bytes.{part, storeAt, fit, ceilDiv, number, ordered}
 use Rattle.record.specs.Packing.{digitValue, digitBytes, stored}
 use Rattle.record.proofs.Bytes.{length-fit, length-ordered, drop-take, all-below}
-use Rattle.record.proofs.Stores.{Put, put-none, put-more, put-done, store-none, length-storeAt}
+use Rattle.record.proofs.Stores.{Put, put-none, put-more, put-done, store-none}
 use Rattle.record.proofs.Widening.{number-append, number-below}
 use Rattle.record.proofs.Fields.{split}
 use Rattle.digits.specs.Numerals.{placeOf, DigitsAt, valuesAt}
-use Rattle.digits_store.specs.Stored.{byteOf}
+use Rattle.digit_bytes.specs.Made.{byteOf}
 use Rattle.text.proofs.ByteLaws.{store-both, part-take, part-rest}
 use Rattle.digits.proofs.DigitLaws.{ordered-at, place-lt, take-min}
-use Rattle.digits_store.proofs.DigitEights.{bit}
-use Rattle.digits_store.proofs.DigitBytes.{fit-zero, zero-byte, map-take, value-low, value-high, stored-at, length-stored}
+use Rattle.digit_bytes.proofs.DigitEights.{bit}
+use Rattle.digit_bytes.proofs.DigitBytes.{fit-zero, zero-byte, value-low, value-high}
+use Rattle.digits_store.proofs.FieldBytes.{map-take, stored-at, length-stored}
 
 -- ---- a field cut after whole bytes
 

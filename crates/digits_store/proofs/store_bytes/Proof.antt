@@ -8,7 +8,7 @@ use Rattle.record.specs.Geometry.{perByte}
 use Rattle.record.specs.Packing.{stored}
 use Rattle.record.proofs.Stores.{Put, put-none, put-more, put-done, add-run}
 use Rattle.digits.proofs.DigitLaws.{more-bytes, no-more-bytes, per-byte, digits-at}
-use Rattle.digits_store.proofs.DigitBytes.{length-stored, byte-turn}
+use Rattle.digits_store.proofs.FieldBytes.{length-stored, byte-turn}
 use native.Mathlib.Nat.{zero-mul}
 use borrow.Author.Needs.{needs}
 use Rattle.digits_store.proofs.store_bytes.Statement.{statement}

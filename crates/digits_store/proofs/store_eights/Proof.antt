@@ -8,8 +8,7 @@ use Rattle.record.specs.Bytes.{part}
 use Rattle.record.specs.Packing.{stored}
 use Rattle.record.proofs.Stores.{Put, put-none, put-more, put-done}
 use Rattle.digits.proofs.DigitLaws.{digits-part}
-use Rattle.digits_store.proofs.DigitBytes.{length-stored}
-use Rattle.digits_store.proofs.DigitEights.{stored-byte}
+use Rattle.digits_store.proofs.FieldBytes.{length-stored, stored-byte}
 use Rattle.digits_store.proofs.store_eights.Statement.{statement}
 use Rattle.digits_store.proofs.store_eights.Tie as tie
 

@@ -5,10 +5,10 @@ use mathlib.Core.List.{map}
 use native.Mathlib.Omega.{arith}
 use Rattle.record.specs.Bytes.{number}
 use Rattle.record.specs.Packing.{digitValue}
-use Rattle.digits_store.proofs.DigitEights.{four-of, eight-low, eight-high}
+use Rattle.digit_bytes.proofs.DigitEights.{four-of, eight-low, eight-high}
 use borrow.Author.Needs.{needs}
-use Rattle.digits_store.proofs.eight_at.Statement.{statement}
-use Rattle.digits_store.proofs.eight_at.Tie as tie
+use Rattle.digit_bytes.proofs.eight_at.Statement.{statement}
+use Rattle.digit_bytes.proofs.eight_at.Tie as tie
 
 four-at-requires : tie.Need-four-at-requires
 four-at-requires c κs = search needs

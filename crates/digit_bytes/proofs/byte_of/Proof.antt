@@ -1,6 +1,6 @@
 -- The base decides which of the two makes the byte.
-use Rattle.digits_store.proofs.byte_of.Statement.{statement}
-use Rattle.digits_store.proofs.byte_of.Tie as tie
+use Rattle.digit_bytes.proofs.byte_of.Statement.{statement}
+use Rattle.digit_bytes.proofs.byte_of.Tie as tie
 
 hex-byte-requires : tie.Need-hex-byte-requires
 hex-byte-requires c κs = rw (c .if1 .taken) at (c .before .before .pre)

@@ -1,10 +1,10 @@
 -- The four digits are those of the byte's half.
 use native.Mathlib.Omega.{arith}
 use Rattle.digits.specs.Numerals.{valuesAt}
-use Rattle.digits_store.proofs.DigitBytes.{half-low, half-high}
+use Rattle.digit_bytes.proofs.DigitBytes.{half-low, half-high}
 use borrow.Author.Needs.{needs}
-use Rattle.digits_store.proofs.half_of.Statement.{statement}
-use Rattle.digits_store.proofs.half_of.Tie as tie
+use Rattle.digit_bytes.proofs.half_of.Statement.{statement}
+use Rattle.digit_bytes.proofs.half_of.Tie as tie
 
 digit-at-requires : tie.Need-digit-at-requires
 digit-at-requires c κs = search needs

@@ -1,9 +1,9 @@
 -- Two halves make the byte.
 use Rattle.digits.specs.Numerals.{valuesAt}
-use Rattle.digits_store.proofs.DigitBytes.{binary-low, binary-high}
+use Rattle.digit_bytes.proofs.DigitBytes.{binary-low, binary-high}
 use borrow.Author.Needs.{needs}
-use Rattle.digits_store.proofs.binary_byte.Statement.{statement}
-use Rattle.digits_store.proofs.binary_byte.Tie as tie
+use Rattle.digit_bytes.proofs.binary_byte.Statement.{statement}
+use Rattle.digit_bytes.proofs.binary_byte.Tie as tie
 
 half-of-requires : tie.Need-half-of-requires
 half-of-requires c κs = search needs

@@ -1,10 +1,10 @@
 -- A digit that is there is the one of that number, and past them the value is 0.
 use mathlib.Core.Path.{sym, _∙_}
-use Rattle.digits_store.proofs.DigitBytes.{value-low, value-high}
+use Rattle.digit_bytes.proofs.DigitBytes.{value-low, value-high}
 use Rattle.digits.proofs.DigitLaws.{base-pos}
 use borrow.Author.Needs.{needs}
-use Rattle.digits_store.proofs.digit_at.Statement.{statement}
-use Rattle.digits_store.proofs.digit_at.Tie as tie
+use Rattle.digit_bytes.proofs.digit_at.Statement.{statement}
+use Rattle.digit_bytes.proofs.digit_at.Tie as tie
 
 add-value : tie.Need-add-value
 add-value c = search needs

@@ -1,9 +1,9 @@
 -- The subtraction leaves the four digits, and one product gathers them.
 use native.Mathlib.Omega.{arith}
-use Rattle.digits_store.proofs.DigitEights.{gathered-four}
+use Rattle.digit_bytes.proofs.DigitEights.{gathered-four}
 use borrow.Author.Needs.{needs}
-use Rattle.digits_store.proofs.gathered.Statement.{statement}
-use Rattle.digits_store.proofs.gathered.Tie as tie
+use Rattle.digit_bytes.proofs.gathered.Statement.{statement}
+use Rattle.digit_bytes.proofs.gathered.Tie as tie
 
 sub-result : tie.Need-sub-result
 sub-result c = omega (arith, gathered-four (c .args .x) (c .pre .0) (c .pre .1))

@@ -1,9 +1,9 @@
 -- Two digits make the byte.
 use Rattle.digits.specs.Numerals.{valuesAt}
-use Rattle.digits_store.proofs.DigitBytes.{hex-low, hex-high}
+use Rattle.digit_bytes.proofs.DigitBytes.{hex-low, hex-high}
 use borrow.Author.Needs.{needs}
-use Rattle.digits_store.proofs.hex_byte.Statement.{statement}
-use Rattle.digits_store.proofs.hex_byte.Tie as tie
+use Rattle.digit_bytes.proofs.hex_byte.Statement.{statement}
+use Rattle.digit_bytes.proofs.hex_byte.Tie as tie
 
 digit-at-requires : tie.Need-digit-at-requires
 digit-at-requires c κs = search needs

@@ -1,8 +1,8 @@
 -- The laws of a digit's value say so for each base.
 use Rattle.digits.proofs.DigitLaws.{hex-value, binary-value}
 use borrow.Author.Needs.{needs}
-use Rattle.digits_store.proofs.value.Statement.{statement}
-use Rattle.digits_store.proofs.value.Tie as tie
+use Rattle.digit_bytes.proofs.value.Statement.{statement}
+use Rattle.digit_bytes.proofs.value.Tie as tie
 
 wide-requires : tie.Need-wide-requires
 wide-requires c κs = search needs

@@ -1,23 +1,20 @@
--- Laws of storing binary digits eight at a time: the number that four of them make, the byte of eight, and the bytes of a field.
-use Prim.Native.Nat.{ℕ, zero, suc, _+_, _-_, _*_, _/_, _%_, _≤_, _<_, min}
-use native.Mathlib.Nat.{zero-add, add-assoc}
+-- Laws of eight binary digits at a time: the number that four of them make, and the byte of eight.
+use Prim.Native.Nat.{ℕ, zero, suc, _+_, _-_, _*_, _/_, _%_, _≤_, _<_}
+use native.Mathlib.Nat.{zero-add}
 use native.Mathlib.Omega.{arith}
-use mathlib.Core.Path.{_≡_, refl, sym, ap, _∙_}
+use mathlib.Core.Path.{_≡_, refl, ap, _∙_}
 use mathlib.Core.Bool.{Bool, true, false}
 use mathlib.Core.List.{List, [], _∷_, _++_, map, map-append, reverse, append-nil}
-use lib.ListN.{length, drop, getD, length-append, length-map, List·getD-append}
-use lib.Seq.{drop-drop, take-add, take-all, ext-getD, getD-append-add}
-use Rattle.layout.specs.declared.Shape.the-variants.{Digits}
-use Rattle.record.specs.Bytes.{part, storeAt, fit, ceilDiv, digits, number, ordered}
-use Rattle.record.specs.Packing.{digitValue, stored}
+use lib.ListN.{length, drop, getD, length-map}
+use lib.Seq.{drop-drop, take-add, take-all}
+use Rattle.record.specs.Bytes.{part, fit, digits, number, ordered}
+use Rattle.record.specs.Packing.{digitValue}
 use Rattle.record.proofs.Bytes.{part-at}
 use Rattle.record.proofs.Stores.{length-part}
-use Rattle.record.proofs.Fields.{split}
 use Rattle.digits.specs.Numerals.{placeOf, DigitsAt, valuesAt}
-use Rattle.digits_store.specs.Stored.{byteOf}
-use Rattle.text.proofs.ByteLaws.{store-both}
-use Rattle.digits.proofs.DigitLaws.{digit-cases, ordered-at, place-lt, map-turned, take-min}
-use Rattle.digits_store.proofs.DigitBytes.{number-low, number-high, byte-part, stored-at, length-stored}
+use Rattle.digit_bytes.specs.Made.{byteOf}
+use Rattle.digits.proofs.DigitLaws.{digit-cases, ordered-at, place-lt, map-turned}
+use Rattle.digit_bytes.proofs.DigitBytes.{number-low, number-high}
 
 -- ---- the number that four binary digits make
 
@@ -103,11 +100,3 @@ module _ (area : List ℕ) (at : ℕ) (fits : at + 8 ≤ length area) where
       let fa : a ≡ number 2 (reverse first) = ea ∙ ap (number 2) (map-turned digitValue (part area at 4)) in
       let fb : b ≡ number 2 (reverse second) = eb ∙ ap (number 2) (map-turned digitValue (part area (at + 4) 4)) in
       rw (eight-values, number-high first second first-long second-long, fa, fb)
-
--- ---- the bytes of a field
-
--- the byte number k is that of the characters from its first one on
-pub stored-byte : (high : Bool) (area : List ℕ) (start len n k : ℕ) {j count : ℕ} → start + len ≤ length area → k < ceilDiv n 8 → j ≡ min (k * 8) (min n len) → count ≡ min 8 (min n len - j)
-    → getD (stored (Digits false high) n (part area start len)) k 0 ≡ byteOf false high (valuesAt area (start + j) count)
-stored-byte high area start len n k {j} {count} fits h ej ec =
-    stored-at false high n (part area start len) k h ∙ rw (take-min n len (drop start area)) (sym (byte-part false high area start (min n len) (k * 8) j count (omega arith) ej (omega arith) (omega arith)))

@@ -3,10 +3,10 @@ use Prim.Native.Nat.{_-_}
 use mathlib.Core.Path.{sym, _∙_}
 use native.Mathlib.Omega.{arith}
 use Rattle.digits.proofs.DigitLaws.{per-byte, digits-part}
-use Rattle.digits_store.proofs.DigitBytes.{byte-part, byte-none}
+use Rattle.digit_bytes.proofs.DigitBytes.{byte-part, byte-none}
 use borrow.Author.Needs.{needs}
-use Rattle.digits_store.proofs.next_byte.Statement.{statement}
-use Rattle.digits_store.proofs.next_byte.Tie as tie
+use Rattle.digit_bytes.proofs.next_byte.Statement.{statement}
+use Rattle.digit_bytes.proofs.next_byte.Tie as tie
 
 per-byte-requires : tie.Need-per-byte-requires
 per-byte-requires c κs = search needs
