@@ -1,5 +1,5 @@
 -- What the two passes keep: the values so far, their bytes, and the table and area that hold them.
-use Prim.Native.Nat.{ℕ, suc, _+_, _*_, _≤_}
+use Prim.Native.Nat.{ℕ, suc, _+_, _-_, _*_, _/_, _%_, _≤_, _<_}
 use native.Mathlib.Nat.{add-assoc, add-zero, zero-add}
 use native.Mathlib.Omega.{arith}
 use mathlib.Core.Path.{_≡_, refl, sym, ap, _∙_}
@@ -7,18 +7,21 @@ use mathlib.Core.List.{List, [], _∷_, _++_, append-assoc, append-nil}
 use lib.ListN.{length, getD, drop, length-append}
 use lib.Seq.{drop-drop}
 use Rattle.layout.specs.declared.Field.{Field}
+use Rattle.layout.specs.Words.{lastData, shapeNumbered, countFrom, decoded, flagUnit, countUnit}
+use Rattle.layout.proofs.Numbered.{shape-fits}
 use Rattle.record.specs.Bytes.{storeAt, join}
 use Rattle.record.specs.Slots.{slotSet}
 use Rattle.record.specs.Table.{slotWidth, maxSlots, maxRecord, maxArea, noPosition, Value, areaBytes, slotNumbers, valueBytes}
+use Rattle.record.specs.Geometry.{bytesFor, itemsOf}
 use Rattle.record.specs.Packing.{accepted}
 use Rattle.record.specs.Reading.{valuesFrom, positionsFrom, stepsFrom, putInto, withSteps}
 use Rattle.record.proofs.Stores.{length-storeAt, store-none, store-next}
 use Rattle.record.proofs.Readings.{length-slot-numbers}
 use Rattle.record.specs.declared.ReadAnswer.{ReadAnswer}
 use Rattle.values.specs.declared.value.Loaded.{Loaded}
-use Rattle.values.specs.Values.{LoadedAs}
+use Rattle.values.specs.Values.{Inside, LoadedAs}
 use Rattle.reading.specs.Tables.{TableRoom, PutRoom, PutAs}
-use Rattle.values.proofs.Turns.{Ran, Ended, ran-start, Found}
+use Rattle.positions.proofs.Turns.{Ran, Ended, ran-start, Found}
 
 -- ---- values one after the other
 
@@ -54,6 +57,13 @@ pub put-as : {v : Value} {slots slots′ area area′ : List ℕ} {k to at : ℕ
     → slots′ ≡ slotSet slots k (record { kind = r .kind; start = to; len = r .items; position = at }) → PutAs v at slots k area to (to + r .size) slots′ area′
 unfolding slotNumbers
 put-as {to} l e = record { next = ap (λ (n : ℕ). to + n) (l .size); table = e ∙ rw (l .kind, l .items); values = l .area }
+
+-- ---- the bytes of a field that is found lie in the record
+
+module _ {bs : List ℕ} (n : ℕ) (ws : List ℕ) {i at : ℕ} {vs : List Value} (few : n ≤ length ws) (ran : Ran bs (decoded n ws) i at vs) (l : i < n) (slot : getD ws i 0 % flagUnit ≤ lastData) {k b : ℕ}
+    (items : k ≡ itemsOf (shapeNumbered (getD ws i 0 % flagUnit)) (countFrom (getD ws i 0 / countUnit)) (length bs - at)) (bytes : b ≡ bytesFor (shapeNumbered (getD ws i 0 % flagUnit)) k) (h : b ≤ length bs - at) where
+  pub found-inside : length bs ≤ maxRecord → Inside bs at (shapeNumbered (getD ws i 0 % flagUnit)) k
+  found-inside m = record { form = shape-fits _ slot; within = omega (arith, ran .inside); limit = m }
 
 -- ---- the first pass
 

@@ -6,7 +6,6 @@ ghost use Rattle.layout.specs.Layout.{maxLayout};
 ghost use Rattle.layout.specs.Lent.{before};
 ghost use Rattle.record.specs.Table.{maxRecord, valueBytes};
 ghost use Rattle.reading.specs.Tables.{valuesOf};
-use values::run;
 use values::value;
 
 pub fn measure(words: &[u32], n: usize, bytes: &[u8]) -> usize
@@ -21,10 +20,10 @@ pub fn measure(words: &[u32], n: usize, bytes: &[u8]) -> usize
         let d = word % layout::FLAG_UNIT;
         i += 1;
         if layout::LAST_DATA < d {
-            at = run::position(word, at, bytes.len());
+            at = positions::position(word, at, bytes.len());
         } else {
             let left = bytes.len() - at;
-            let items = run::items(d, word / layout::COUNT_UNIT, left);
+            let items = positions::items(d, word / layout::COUNT_UNIT, left);
             let need = record::bytes_numbered(d, items);
             if left < need {
                 return size;

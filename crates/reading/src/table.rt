@@ -12,7 +12,6 @@ ghost use Rattle.values.specs.Values.{Inside};
 ghost use Rattle.reading.specs.Tables.{valuesOf, putAll, PutRoom, PutAs, TableRoom};
 use record::Answer;
 use record::ReadAnswer;
-use values::run;
 use values::value;
 
 // A value of type d that was found goes into slot k and into the area from the place `to` on; hands back the place after it.
@@ -67,10 +66,10 @@ pub fn fill(
         let d = word % layout::FLAG_UNIT;
         i += 1;
         if layout::LAST_DATA < d {
-            at = run::position(word, at, bytes.len());
+            at = positions::position(word, at, bytes.len());
         } else {
             let left = bytes.len() - at;
-            let items = run::items(d, word / layout::COUNT_UNIT, left);
+            let items = positions::items(d, word / layout::COUNT_UNIT, left);
             let need = record::bytes_numbered(d, items);
             if left < need {
                 return answer(set, place, i);

@@ -1,3 +1,2 @@
 -- What the code's steps promise of one field.
-pub mod Turns
 pub mod Values

@@ -1,3 +1,2 @@
-// The fields of a record, one at a time: how many items a field has, where a move takes the cursor, and a value put into an area.
-pub mod run;
+// The value of a field, put into an area.
 pub mod value;

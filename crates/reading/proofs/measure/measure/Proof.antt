@@ -2,8 +2,8 @@
 use Prim.Native.Nat.{_-_, _≤_}
 use native.Mathlib.Omega.{arith}
 use Rattle.layout.specs.Words.{decoded}
-use Rattle.values.proofs.Turns.{ran-end, ran-short, ran-moved, ran-found, found-inside}
-use Rattle.reading.proofs.Tables.{Measured, measured-start, measured-moved, measured-more, measured-done}
+use Rattle.positions.proofs.Turns.{ran-end, ran-short, ran-moved, ran-found}
+use Rattle.reading.proofs.Tables.{found-inside, Measured, measured-start, measured-moved, measured-more, measured-done}
 use Rattle.reading.proofs.measure.measure.Statement.{statement}
 use Rattle.reading.proofs.measure.measure.Tie as tie
 

@@ -2,8 +2,8 @@
 use Prim.Native.Nat.{_-_, _≤_}
 use native.Mathlib.Omega.{arith}
 use Rattle.layout.specs.Words.{decoded}
-use Rattle.values.proofs.Turns.{ran-end, ran-short, ran-moved, ran-found, found-inside}
-use Rattle.reading.proofs.Tables.{Written, written-start, written-bounds, written-moved, written-room, written-more, written-done}
+use Rattle.positions.proofs.Turns.{ran-end, ran-short, ran-moved, ran-found}
+use Rattle.reading.proofs.Tables.{found-inside, Written, written-start, written-bounds, written-moved, written-room, written-more, written-done}
 use Rattle.reading.proofs.table.fill.Statement.{statement}
 use Rattle.reading.proofs.table.fill.Tie as tie
 

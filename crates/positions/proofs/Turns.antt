@@ -25,9 +25,8 @@ use Rattle.record.specs.Table.{maxRecord, noPosition, Value}
 use Rattle.record.specs.Geometry.{perByte, bytesFor, itemsIn, movedIn, itemsOf}
 use Rattle.record.specs.Reading.{valuesFrom, positionsFrom, stepsFrom, valueAt}
 use Rattle.record.proofs.Bounds.{per-byte-small, product-small}
-use Rattle.values.specs.Turns.{movedBy}
-use Rattle.values.specs.Values.{Inside}
-use Rattle.layout.proofs.Numbered.{data-code, move-code, shape-fits}
+use Rattle.positions.specs.Turns.{movedBy}
+use Rattle.layout.proofs.Numbered.{data-code, move-code}
 
 -- ---- sizes
 
@@ -191,6 +190,3 @@ module _ {bs : List ℕ} (n : ℕ) (ws : List ℕ) {i at : ℕ} {vs : List Value
               };
               begins = rw placed;
             }
-
-        pub found-inside : length bs ≤ maxRecord → Inside bs at (shapeNumbered (getD ws i 0 % flagUnit)) k
-        found-inside m = record { form = shape-fits _ slot; within = omega (arith, ran .inside); limit = m }

@@ -5,7 +5,7 @@ ghost use Prim.Native.Nat.{_≤_, _<_};
 ghost use Rattle.layout.specs.Words.{lastData, FitCount, shapeNumbered, countFrom, fieldOf};
 ghost use Rattle.record.specs.Table.{maxRecord};
 ghost use Rattle.record.specs.Geometry.{itemsIn, movedIn, itemsOf};
-ghost use Rattle.values.specs.Turns.{movedBy};
+ghost use Rattle.positions.specs.Turns.{movedBy};
 use layout::Code;
 use layout::Count;
 use layout::Motion;

@@ -3,8 +3,8 @@ use Rattle.layout.proofs.Numbered.{shape-text, shape-binary, shape-hex}
 use Rattle.record.proofs.Bounds.{sized-items}
 use native.Mathlib.Omega.{arith}
 use borrow.Author.Needs.{needs}
-use Rattle.values.proofs.run.items_in.Statement.{statement}
-use Rattle.values.proofs.run.items_in.Tie as tie
+use Rattle.positions.proofs.items_in.Statement.{statement}
+use Rattle.positions.proofs.items_in.Tie as tie
 
 width-power-requires : tie.Need-width-power-requires
 width-power-requires c κs = search needs

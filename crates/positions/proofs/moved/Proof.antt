@@ -1,7 +1,7 @@
 -- The three moves are the cursor's own.
 use borrow.Author.Needs.{needs}
-use Rattle.values.proofs.run.moved.Statement.{statement}
-use Rattle.values.proofs.run.moved.Tie as tie
+use Rattle.positions.proofs.moved.Statement.{statement}
+use Rattle.positions.proofs.moved.Tie as tie
 
 enum-told : tie.Need-enum-told
 enum-told c = search needs

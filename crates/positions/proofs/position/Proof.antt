@@ -1,9 +1,9 @@
 -- The move is the cursor's; what takes a slot leaves it where it is.
-use Rattle.values.specs.Turns.{movedBy}
-use Rattle.values.proofs.Turns.{moved-as}
+use Rattle.positions.specs.Turns.{movedBy}
+use Rattle.positions.proofs.Turns.{moved-as}
 use borrow.Author.Needs.{needs}
-use Rattle.values.proofs.run.position.Statement.{statement}
-use Rattle.values.proofs.run.position.Tie as tie
+use Rattle.positions.proofs.position.Statement.{statement}
+use Rattle.positions.proofs.position.Tie as tie
 
 field-of-requires : tie.Need-field-of-requires
 field-of-requires c κs = search needs

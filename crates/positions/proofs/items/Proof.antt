@@ -1,10 +1,10 @@
 -- The numbers of a count are those of `countFrom`.
 use native.Mathlib.Omega.{arith}
 use Rattle.layout.specs.Words.{shapeNumbered}
-use Rattle.values.proofs.Turns.{items-in-small, count-times}
+use Rattle.positions.proofs.Turns.{items-in-small, count-times}
 use borrow.Author.Needs.{needs}
-use Rattle.values.proofs.run.items.Statement.{statement}
-use Rattle.values.proofs.run.items.Tie as tie
+use Rattle.positions.proofs.items.Statement.{statement}
+use Rattle.positions.proofs.items.Tie as tie
 
 items-in-requires : tie.Need-items-in-requires
 items-in-requires c κs = search needs
