@@ -1,22 +1,18 @@
-// `r R q Q`: reals. The area has a double of eight bytes for each, the highest byte first. A field of `q Q` has these bytes, in its order; one of `r R` has
-// the four bytes of the nearest single, whose double is read again.
+// `r R q Q`: reals. The area has a double of eight bytes for each, the highest byte first. Here are a double of the area as a number, whether one of
+// many is a NaN, and the four bytes of a single in the order of a field.
 ghost use mathlib.Core.Path.{_≡_};
-ghost use mathlib.Core.Bool.{Bool, true};
 ghost use mathlib.Core.List.{reverse};
 ghost use Prim.Native.Nat.{_+_, _*_, _≤_, _<_};
 ghost use lib.ListN.{length, drop};
-ghost use Rattle.layout.specs.declared.Shape.the-variants.{Reals};
-ghost use Rattle.layout.specs.Lent.{before, after};
-ghost use Rattle.layout.specs.Words.{realSize};
-ghost use Rattle.record.specs.Bytes.{part, storeAt, digits, number, ordered, numberBytes, numberAt};
+ghost use Rattle.layout.specs.Lent.{before};
+ghost use Rattle.record.specs.Bytes.{part, digits, number, ordered, numberBytes, numberAt};
 ghost use Rattle.record.specs.Table.{integersIn};
-ghost use Rattle.record.specs.Packing.{stored, noNaN};
-ghost use Rattle.reals.specs.Items.{singleBytes, doubleBytes, realsAt};
+ghost use Rattle.record.specs.Packing.{noNaN};
 
 // The bytes of a single and of a double.
-const SINGLE: usize = 4;
+pub const SINGLE: usize = 4;
 
-const DOUBLE: usize = 8;
+pub const DOUBLE: usize = 8;
 
 // Eight bytes as a number, the first in the lowest place. In a function of their own the compiler loads them at once.
 fn low_first(area: &[u8], at: usize) -> u64
@@ -55,7 +51,7 @@ fn turned(x: u64) -> u64
 }
 
 // A double of the area.
-fn double_at(area: &[u8], at: usize) -> u64
+pub fn double_at(area: &[u8], at: usize) -> u64
     requires { ⌜ at + 8 ≤ length (now area) ⌝ }
     ensures { λ r. ⌜ r ≡ numberAt 8 (before area) at ⌝ }
 {
@@ -89,82 +85,8 @@ fn swapped(s: u32) -> u32
 }
 
 // The number whose big-endian bytes are a single's in the order of a field.
-fn in_order(big: bool, s: u32) -> u32
+pub fn in_order(big: bool, s: u32) -> u32
     ensures { λ r. ⌜ (numberBytes 4 r ≡ ordered big (digits 256 4 s)) × (r < 4294967296) ⌝ }
 {
     if big { s } else { swapped(s) }
-}
-
-// Stores the single nearest to a double of the area.
-fn store_single(out: &mut [u8], at: usize, area: &[u8], from: usize, big: bool)
-    requires { ⌜ (at + 4 ≤ length (now out)) × (from + 8 ≤ length (now area)) ⌝ }
-    ensures { λ _. ⌜ after out ≡ storeAt (before out) at (singleBytes big (numberAt 8 (before area) from)) ⌝ }
-{
-    let d = double_at(area, from);
-    let s = in_order(big, real::narrow(d));
-    big_endian::put_number(out, at, SINGLE, s as u64);
-}
-
-// Stores n doubles of the area as singles.
-fn store_singles(out: &mut [u8], at: usize, area: &[u8], start: usize, n: usize, big: bool)
-    requires { ⌜ (at + n * 4 ≤ length (now out)) × (start + n * 8 ≤ length (now area)) ⌝ }
-    ensures { λ _. ⌜ after out ≡ storeAt (before out) at (stored (Reals true big) n (integersIn n (drop start (before area)))) ⌝ }
-{
-    let mut i = 0;
-    while i < n {
-        store_single(out, at + i * SINGLE, area, start + i * DOUBLE, big);
-        i += 1;
-    }
-}
-
-// Stores n doubles of the area as a field has them.
-pub fn store(
-    out: &mut [u8],
-    at: usize,
-    area: &[u8],
-    start: usize,
-    n: usize,
-    single: bool,
-    big: bool,
-)
-    requires { ⌜ (at + n * realSize single ≤ length (now out)) × (start + n * 8 ≤ length (now area)) ⌝ }
-    ensures { λ _. ⌜ after out ≡ storeAt (before out) at (stored (Reals single big) n (integersIn n (drop start (before area)))) ⌝ }
-{
-    if single {
-        return store_singles(out, at, area, start, n, big);
-    }
-    integers_store::store(out, at, area, start, n, DOUBLE, big)
-}
-
-// Reads the double of one single.
-fn load_single(area: &mut [u8], to: usize, input: &[u8], at: usize, big: bool)
-    requires { ⌜ (to + 8 ≤ length (now area)) × (at + 4 ≤ length (now input)) ⌝ }
-    ensures { λ _. ⌜ after area ≡ storeAt (before area) to (doubleBytes big (part (before input) at 4)) ⌝ }
-{
-    let s = big_endian::number_at(input, at, SINGLE) as u32;
-    let d = real::widen(in_order(big, s));
-    big_endian::put_number(area, to, DOUBLE, d);
-}
-
-// Reads the doubles of n singles.
-fn load_singles(area: &mut [u8], to: usize, input: &[u8], at: usize, n: usize, big: bool)
-    requires { ⌜ (to + n * 8 ≤ length (now area)) × (at + n * 4 ≤ length (now input)) ⌝ }
-    ensures { λ _. ⌜ ((u : Bool) → after area ≡ storeAt (before area) to (realsAt true big u n (before input) at)) ⌝ }
-{
-    let mut i = 0;
-    while i < n {
-        load_single(area, to + i * DOUBLE, input, at + i * SINGLE, big);
-        i += 1;
-    }
-}
-
-// Reads n reals, with the flag or without.
-pub fn load(area: &mut [u8], to: usize, input: &[u8], at: usize, n: usize, single: bool, big: bool)
-    requires { ⌜ (to + n * 8 ≤ length (now area)) × (at + n * realSize single ≤ length (now input)) ⌝ }
-    ensures { λ _. ⌜ ((u : Bool) → after area ≡ storeAt (before area) to (realsAt single big u n (before input) at)) ⌝ }
-{
-    if single {
-        return load_singles(area, to, input, at, n, big);
-    }
-    integers_load::load(area, to, input, at, n, DOUBLE, big, true)
 }

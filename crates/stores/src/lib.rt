@@ -83,7 +83,7 @@ fn store_reals(
     ensures { λ r. ⌜ StoredAs (now (area .entry)) (Reals single big) n a at (now (out .entry)) r (now (out .exit)) ⌝ }
 {
     let bytes = n * record::real_size(single);
-    reals::store(out, at, area, a.start, n, single, big);
+    reals_store::store(out, at, area, a.start, n, single, big);
     bytes
 }
 

@@ -141,7 +141,7 @@ fn reals(
     requires { ⌜ to + n * 8 ≤ length (now area) ⌝ }
     ensures { λ r. ⌜ ((u : Bool) → LoadedAs (valueAt (now (bytes .entry)) at (Reals single big) u n) (now (area .entry)) to r (now (area .exit))) ⌝ }
 {
-    reals::load(area, to, bytes, at, n, single, big);
+    reals_load::load(area, to, bytes, at, n, single, big);
     Loaded {
         kind: 4,
         items: n,

@@ -4,9 +4,9 @@ use native.Mathlib.Omega.{arith}
 use mathlib.Core.Path.{refl, ap, _∙_}
 use Rattle.record.specs.Bytes.{storeAt}
 use Rattle.record.proofs.Stores.{Wrote, wrote-none, wrote-more, wrote-done}
-use Rattle.reals.proofs.RealLaws.{loadedAt, length-doubleBytes, loaded-singles}
-use Rattle.reals.proofs.load_singles.Statement.{statement}
-use Rattle.reals.proofs.load_singles.Tie as tie
+use Rattle.reals_load.proofs.LoadLaws.{loadedAt, length-doubleBytes, loaded-singles}
+use Rattle.reals_load.proofs.load_singles.Statement.{statement}
+use Rattle.reals_load.proofs.load_singles.Tie as tie
 
 abbrev Inv-loop : tie.InvT-loop
 Inv-loop area₀ to input at n big i₀ area i = (i ≤ n) × Wrote area₀ to (loadedAt input at big) area i

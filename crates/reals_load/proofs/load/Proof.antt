@@ -1,9 +1,9 @@
 -- Singles have a loop of their own; doubles are read as unsigned integers of eight bytes.
 use native.Mathlib.Omega.{arith}
-use Rattle.reals.proofs.RealLaws.{loaded-doubles}
+use Rattle.reals_load.proofs.LoadLaws.{loaded-doubles}
 use borrow.Author.Needs.{needs}
-use Rattle.reals.proofs.load.Statement.{statement}
-use Rattle.reals.proofs.load.Tie as tie
+use Rattle.reals_load.proofs.load.Statement.{statement}
+use Rattle.reals_load.proofs.load.Tie as tie
 
 load-singles-requires : tie.Need-load-singles-requires
 load-singles-requires c κs = rw (c .before .if1 .taken) at (c .before .before .before .before .pre)

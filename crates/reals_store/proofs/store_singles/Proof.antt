@@ -4,9 +4,9 @@ use native.Mathlib.Omega.{arith}
 use mathlib.Core.Path.{refl, ap, _∙_}
 use Rattle.record.specs.Bytes.{storeAt}
 use Rattle.record.proofs.Stores.{Wrote, wrote-none, wrote-more, wrote-done}
-use Rattle.reals.proofs.RealLaws.{storedAt, length-singleBytes, stored-singles}
-use Rattle.reals.proofs.store_singles.Statement.{statement}
-use Rattle.reals.proofs.store_singles.Tie as tie
+use Rattle.reals_store.proofs.StoreLaws.{storedAt, length-singleBytes, stored-singles}
+use Rattle.reals_store.proofs.store_singles.Statement.{statement}
+use Rattle.reals_store.proofs.store_singles.Tie as tie
 
 abbrev Inv-loop : tie.InvT-loop
 Inv-loop out₀ at area start n big i₀ out i = (i ≤ n) × Wrote out₀ at (storedAt area start big) out i

@@ -1,9 +1,9 @@
 -- Singles have a loop of their own; doubles are stored as integers of eight bytes.
 use native.Mathlib.Omega.{arith}
-use Rattle.reals.proofs.RealLaws.{stored-doubles}
+use Rattle.reals_store.proofs.StoreLaws.{stored-doubles}
 use borrow.Author.Needs.{needs}
-use Rattle.reals.proofs.store.Statement.{statement}
-use Rattle.reals.proofs.store.Tie as tie
+use Rattle.reals_store.proofs.store.Statement.{statement}
+use Rattle.reals_store.proofs.store.Tie as tie
 
 store-singles-requires : tie.Need-store-singles-requires
 store-singles-requires c κs = rw (c .before .if1 .taken) at (c .before .before .before .before .pre)

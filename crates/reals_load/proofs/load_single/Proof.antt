@@ -2,10 +2,10 @@
 use native.Mathlib.Omega.{arith}
 use mathlib.Core.Path.{ap, _∙_}
 use Rattle.record.specs.Bytes.{storeAt}
-use Rattle.reals.proofs.RealLaws.{single-in, loaded-single}
+use Rattle.reals_load.proofs.LoadLaws.{single-in, loaded-single}
 use borrow.Author.Needs.{needs}
-use Rattle.reals.proofs.load_single.Statement.{statement}
-use Rattle.reals.proofs.load_single.Tie as tie
+use Rattle.reals_load.proofs.load_single.Statement.{statement}
+use Rattle.reals_load.proofs.load_single.Tie as tie
 
 number-at-requires : tie.Need-number-at-requires
 number-at-requires c κs = search needs

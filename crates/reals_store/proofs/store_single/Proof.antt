@@ -2,10 +2,10 @@
 use mathlib.Core.Path.{ap, _∙_}
 use Rattle.real.specs.Narrowing.{singleOf}
 use Rattle.record.specs.Bytes.{storeAt}
-use Rattle.reals.proofs.RealLaws.{stored-single}
+use Rattle.reals_store.proofs.StoreLaws.{stored-single}
 use borrow.Author.Needs.{needs}
-use Rattle.reals.proofs.store_single.Statement.{statement}
-use Rattle.reals.proofs.store_single.Tie as tie
+use Rattle.reals_store.proofs.store_single.Statement.{statement}
+use Rattle.reals_store.proofs.store_single.Tie as tie
 
 double-at-requires : tie.Need-double-at-requires
 double-at-requires c κs = search needs

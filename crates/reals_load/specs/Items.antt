@@ -1,18 +1,13 @@
--- One real that is a single in its field: as it is stored, and as it is read. And many reals, as they are read.
+-- One real that is a single in its field, as it is read. And many reals, as they are read.
 use Prim.Native.Nat.{ℕ, _*_}
 use mathlib.Core.Bool.{Bool}
 use mathlib.Core.List.{List}
-use Rattle.real.specs.Narrowing.{singleOf}
 use Rattle.real.specs.Widening.{doubleOf}
 use Rattle.layout.specs.declared.Shape.the-variants.{Reals}
 use Rattle.layout.specs.Words.{realSize}
-use Rattle.record.specs.Bytes.{part, digits, number, ordered, numberBytes}
+use Rattle.record.specs.Bytes.{part, number, ordered, numberBytes}
 use Rattle.record.specs.Table.{integerBytes}
 use Rattle.record.specs.Reading.{loaded}
-
--- the four bytes of the single nearest to the double d
-unfoldable pub singleBytes : Bool → ℕ → List ℕ
-singleBytes big d = ordered big (digits 256 4 (singleOf d))
 
 -- the eight bytes in the area of the double of the single that a field's four bytes make
 unfoldable pub doubleBytes : Bool → List ℕ → List ℕ

@@ -1,0 +1,2 @@
+-- Laws of reals read from fields.
+mod LoadLaws

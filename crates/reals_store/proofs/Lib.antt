@@ -1,0 +1,2 @@
+-- Laws of reals stored in fields.
+mod StoreLaws

@@ -1,0 +1,2 @@
+-- What contracts between the functions of this crate cite.
+pub mod Items
