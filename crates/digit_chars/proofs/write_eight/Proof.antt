@@ -1,9 +1,9 @@
 -- The two halves' characters, stored one after the other, are the byte's.
 use mathlib.Core.Bool.{true, false}
-use Rattle.digits_load.proofs.DigitChars.{two-fours, low-first, high-first}
+use Rattle.digit_chars.proofs.CharLaws.{two-fours, low-first, high-first}
 use borrow.Author.Needs.{needs}
-use Rattle.digits_load.proofs.write_eight.Statement.{statement}
-use Rattle.digits_load.proofs.write_eight.Tie as tie
+use Rattle.digit_chars.proofs.write_eight.Statement.{statement}
+use Rattle.digit_chars.proofs.write_eight.Tie as tie
 
 four-requires : tie.Need-four-requires
 four-requires c κs = search needs

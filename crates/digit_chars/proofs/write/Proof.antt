@@ -4,11 +4,11 @@ use mathlib.Core.Path.{_≡_, _∙_}
 use native.Mathlib.Omega.{arith}
 use lib.ListN.{take}
 use Rattle.record.proofs.Stores.{Put, put-none, put-more, put-done}
-use Rattle.digits_load.specs.Shown.{charsOf}
-use Rattle.digits_load.proofs.DigitChars.{length-first, char-turn}
+use Rattle.digit_chars.specs.Shown.{charsOf}
+use Rattle.digit_chars.proofs.CharLaws.{length-first, char-turn}
 use borrow.Author.Needs.{needs}
-use Rattle.digits_load.proofs.write.Statement.{statement}
-use Rattle.digits_load.proofs.write.Tie as tie
+use Rattle.digit_chars.proofs.write.Statement.{statement}
+use Rattle.digit_chars.proofs.write.Tie as tie
 
 abbrev Inv-loop : tie.InvT-loop
 Inv-loop area₀ to b count hex high budget x per left₀ j₀ area left j = (j ≤ count) × (j + left ≡ budget) × Put area₀ to (take count (charsOf hex high b)) area j

@@ -1,9 +1,9 @@
 -- A shift divides by a power of two, and the laws of shifted digits say so for each base.
 use Prim.Native.Nat.{_-_, _<_}
 use native.Mathlib.Omega.{arith}
-use Rattle.digits_load.proofs.DigitChars.{hex-shifted, binary-shifted}
-use Rattle.digits_load.proofs.digit_of.Statement.{statement}
-use Rattle.digits_load.proofs.digit_of.Tie as tie
+use Rattle.digit_chars.proofs.CharLaws.{hex-shifted, binary-shifted}
+use Rattle.digit_chars.proofs.digit_of.Statement.{statement}
+use Rattle.digit_chars.proofs.digit_of.Tie as tie
 
 mul-result : tie.Need-mul-result
 mul-result c =

@@ -3,9 +3,9 @@ use Prim.Native.Nat.{ℕ, _+_, _≤_, _<_}
 use native.Mathlib.Omega.{arith}
 use mathlib.Core.Path.{_≡_, sym, ap}
 use Rattle.record.specs.Bytes.{digits}
-use Rattle.digits_load.specs.Shown.{fourChars}
-use Rattle.digits_load.proofs.four.Statement.{statement}
-use Rattle.digits_load.proofs.four.Tie as tie
+use Rattle.digit_chars.specs.Shown.{fourChars}
+use Rattle.digit_chars.proofs.four.Statement.{statement}
+use Rattle.digit_chars.proofs.four.Tie as tie
 
 least : (n : ℕ) → 0 ≤ n
 least n = omega arith

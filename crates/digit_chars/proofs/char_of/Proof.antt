@@ -2,8 +2,8 @@
 use borrow.Author.Tests.{lt-ltb, le-ltb}
 use Rattle.record.specs.Reading.{digitChar}
 use borrow.Author.Needs.{needs}
-use Rattle.digits_load.proofs.char_of.Statement.{statement}
-use Rattle.digits_load.proofs.char_of.Tie as tie
+use Rattle.digit_chars.proofs.char_of.Statement.{statement}
+use Rattle.digit_chars.proofs.char_of.Tie as tie
 
 add-result : tie.Need-add-result
 add-result c = search needs

@@ -3,8 +3,8 @@ use native.Mathlib.Omega.{arith}
 use lib.ListN.{length-set}
 use Rattle.text.proofs.WordLaws.{put-low, put-high}
 use borrow.Author.Needs.{needs}
-use Rattle.digits_load.proofs.put_four.Statement.{statement}
-use Rattle.digits_load.proofs.put_four.Tie as tie
+use Rattle.digit_chars.proofs.put_four.Statement.{statement}
+use Rattle.digit_chars.proofs.put_four.Tie as tie
 
 cast-area : tie.Need-cast-area
 cast-area c = search needs
