@@ -16,11 +16,12 @@ use Rattle.record.specs.Reading.{Read}
 use Rattle.record.proofs.Bytes.{and-true}
 use Rattle.record.proofs.Stores.{store-none}
 use Rattle.record.proofs.Tables.{length-slots}
-use Rattle.sheet_read.specs.declared.load.Extent.{Extent}
+use Rattle.sheet_check.specs.declared.Extent.{Extent}
 use Rattle.sheet.specs.Entries.{Entry, valueBytes, entriesIn}
 use Rattle.sheet.specs.Sheet.{widthOf, headerSize, versionOf, versionKnown, widthIn, entriesAt, slotNumbers, putInto}
 use Rattle.sheet.specs.Steps.{lentFits}
-use Rattle.sheet_read.specs.Steps.{frontOf, ExtentOf, Room}
+use Rattle.sheet_check.specs.Steps.{frontOf, ExtentOf}
+use Rattle.sheet_read.specs.Steps.{Room}
 use Rattle.sheet.proofs.Calls.{Lent, lent}
 use Rattle.rescue.specs.declared.Rescued.{Rescued}
 use Rattle.rescue.specs.Rescue.{keptIn, droppedOf, filledUp, saved, Outcome, keeping, rescue}

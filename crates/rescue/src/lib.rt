@@ -106,7 +106,7 @@ fn rescue_entries(
     requires { ⌜ Ready (now sheet) legs (now slots) (now area) mark × (w ≡ widthIn (now sheet)) × (w ≤ integerSize) × (headerSize w ≤ length (now sheet)) ⌝ }
     ensures { λ r. ⌜ record { answer = r; slots = after slots; area = after area } ≡ rescue (before sheet) legs (before slots) (before area) mark ⌝ }
 {
-    let x = load::measure(sheet, w, legs);
+    let x = sheet_check::measure(sheet, w, legs);
     if area.len() - mark < x.values {
         return Rescued::refused(Refusal::NoRoom);
     }
@@ -123,8 +123,8 @@ pub fn rescue(sheet: &[u8], legs: usize, slots: &mut [u32], area: &mut [u8], mar
     if !sizes_fit(slots.len(), area.len(), sheet.len(), mark, legs) {
         return Rescued::refused(Refusal::BadSize);
     }
-    let v = load::version_of(sheet);
-    if !load::version_known(v) {
+    let v = sheet_check::version_of(sheet);
+    if !sheet_check::version_known(v) {
         return Rescued::refused(Refusal::BadVersion);
     }
     if slots.len() / record::SLOT_WIDTH < legs {

@@ -1,4 +1,3 @@
 -- The laws that the reader goes by.
-mod Leaves
 mod Reading
 mod Runs

@@ -17,8 +17,9 @@ use Rattle.sheet.specs.Steps.{lentFits}
 use Rattle.sheet.proofs.Entries.{entries-few}
 use Rattle.sheet.proofs.Sheets.{length-body}
 use Rattle.sheet.proofs.Calls.{refuses, Lent, lent, header-there, read-version, read-header, read-wrong, read-needless, read-slots, read-room, read-put}
-use Rattle.sheet_read.specs.declared.load.Extent.{Extent}
-use Rattle.sheet_read.specs.Steps.{OpenedAs, neededBy, frontOf, ExtentOf, Room}
+use Rattle.sheet_check.specs.declared.Extent.{Extent}
+use Rattle.sheet_check.specs.Steps.{neededBy, frontOf, ExtentOf}
+use Rattle.sheet_read.specs.Steps.{OpenedAs, Room}
 
 -- ---- the tests before the entries
 

@@ -22,11 +22,11 @@ fn read_entries(
     requires { ⌜ OpenedAs v w (now sheet) (now slots) (now area) mark ⌝ }
     ensures { λ r. ⌜ record { answer = r; slots = after slots; area = after area } ≡ read (before sheet) (before slots) (before area) mark ⌝ }
 {
-    let x = load::measure(sheet, w, sheet.len());
+    let x = sheet_check::measure(sheet, w, sheet.len());
     if x.end != sheet.len() {
         return Answer::refused(Refusal::BadSheet, x.end as u32);
     }
-    if !load::version_needed(v, x.entries, x.values) {
+    if !sheet_check::version_needed(v, x.entries, x.values) {
         return Answer::refused(Refusal::BadSheet, 0);
     }
     if slots.len() / record::SLOT_WIDTH < x.entries {
@@ -45,12 +45,12 @@ pub fn read(sheet: &[u8], slots: &mut [u32], area: &mut [u8], mark: usize) -> An
     if !sheet::lent_fits(slots.len(), area.len(), sheet.len(), mark) {
         return Answer::refused(Refusal::BadSize, 0);
     }
-    let v = load::version_of(sheet);
-    if !load::version_known(v) {
+    let v = sheet_check::version_of(sheet);
+    if !sheet_check::version_known(v) {
         return Answer::refused(Refusal::BadVersion, 0);
     }
     let w = lengths::width_of(v);
-    if !load::header_fits(sheet, w) {
+    if !sheet_check::header_fits(sheet, w) {
         return Answer::refused(Refusal::BadSheet, 0);
     }
     read_entries(sheet, v, w, slots, area, mark)

@@ -1,6 +1,6 @@
 -- The size of an item is not 0.
 use native.Mathlib.Omega.{arith}
-use Rattle.sheet_read.proofs.Leaves.{item-some}
+use Rattle.sheet_check.proofs.Leaves.{item-some}
 use borrow.Author.Needs.{needs}
 use Rattle.sheet_read.proofs.load.items_of.Statement.{statement}
 use Rattle.sheet_read.proofs.load.items_of.Tie as tie

@@ -5,7 +5,8 @@ use mathlib.Core.Path.{refl, ap}
 use Prim.Native.Nat.{_+_, _-_}
 use lib.ListN.{getD}
 use Rattle.record.specs.Table.{maxArea}
-use Rattle.sheet_read.proofs.Reading.{there, put-as, start-small, items-small}
+use Rattle.sheet_check.proofs.Walks.{there}
+use Rattle.sheet_read.proofs.Reading.{put-as, start-small, items-small}
 use borrow.Author.Needs.{needs}
 use Rattle.sheet_read.proofs.load.put.Statement.{statement}
 use Rattle.sheet_read.proofs.load.put.Tie as tie

@@ -1,0 +1,3 @@
+-- The laws that the check goes by.
+pub mod Leaves
+pub mod Walks

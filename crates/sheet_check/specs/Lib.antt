@@ -1,0 +1,2 @@
+-- What the functions of the check promise.
+pub mod Steps
