@@ -21,7 +21,7 @@ use Rattle.sheet.specs.Entries.{Entry, valueBytes, entriesIn}
 use Rattle.sheet.specs.Sheet.{widthOf, headerSize, versionOf, versionKnown, widthIn, entriesAt, slotNumbers, putInto}
 use Rattle.sheet.specs.Steps.{lentFits}
 use Rattle.sheet_check.specs.Steps.{frontOf, ExtentOf}
-use Rattle.sheet_read.specs.Steps.{Room}
+use Rattle.sheet_fill.specs.Steps.{Room}
 use Rattle.sheet.proofs.Calls.{Lent, lent}
 use Rattle.rescue.specs.declared.Rescued.{Rescued}
 use Rattle.rescue.specs.Rescue.{keptIn, droppedOf, filledUp, saved, Outcome, keeping, rescue}

@@ -13,7 +13,6 @@ ghost use Rattle.rescue.specs.Steps.{sizesFit, Ready, blanks, Blankable}
 use layout::Refusal;
 use record::Answer;
 use sheet::lengths;
-use sheet_read::load;
 
 // What a rescue answers: 0, entries kept, slots blanked and bytes dropped; or the number of a refusal, its place, 0 and 0.
 pub struct Rescued {
@@ -110,7 +109,7 @@ fn rescue_entries(
     if area.len() - mark < x.values {
         return Rescued::refused(Refusal::NoRoom);
     }
-    load::fill(sheet, w, legs, slots, area, mark);
+    sheet_fill::fill(sheet, w, legs, slots, area, mark);
     blank(slots, x.entries, legs - x.entries);
     Rescued::saved(x.entries, legs - x.entries, sheet.len() - x.end)
 }

@@ -1,3 +1,2 @@
 -- The laws that the reader goes by.
-mod Reading
 mod Runs

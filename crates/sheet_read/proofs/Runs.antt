@@ -19,7 +19,8 @@ use Rattle.sheet.proofs.Sheets.{length-body}
 use Rattle.sheet.proofs.Calls.{refuses, Lent, lent, header-there, read-version, read-header, read-wrong, read-needless, read-slots, read-room, read-put}
 use Rattle.sheet_check.specs.declared.Extent.{Extent}
 use Rattle.sheet_check.specs.Steps.{neededBy, frontOf, ExtentOf}
-use Rattle.sheet_read.specs.Steps.{OpenedAs, Room}
+use Rattle.sheet_fill.specs.Steps.{Room}
+use Rattle.sheet_read.specs.Steps.{OpenedAs}
 
 -- ---- the tests before the entries
 

@@ -8,8 +8,6 @@ use layout::Refusal;
 use record::Answer;
 use sheet::lengths;
 
-pub mod load;
-
 // What is left once version and header are sound: v is the version, and w the width of its lengths.
 fn read_entries(
     sheet: &[u8],
@@ -35,7 +33,7 @@ fn read_entries(
     if area.len() - mark < x.values {
         return Answer::refused(Refusal::NoRoom, 0);
     }
-    load::fill(sheet, w, sheet.len(), slots, area, mark)
+    sheet_fill::fill(sheet, w, sheet.len(), slots, area, mark)
 }
 
 // Reads a sheet: sets slots from the first on, and puts their values into the area from the mark on. A refusal changes nothing.

@@ -17,7 +17,7 @@ use Rattle.sheet.specs.Entries.{Entry, valueBytes, beginsEntry, entryIn}
 use Rattle.sheet.specs.Sheet.{headerSize, entryNumbers, slotNumbers, putInto}
 use Rattle.sheet_check.specs.Steps.{frontOf, entryDue}
 use Rattle.sheet_check.proofs.Walks.{values-more, There, Walked, walked-start, walked-within, walked-done, walked-there, walked-more, due-more, due-begins}
-use Rattle.sheet_read.specs.Steps.{Room, PutRoom, PutAs}
+use Rattle.sheet_fill.specs.Steps.{Room, PutRoom, PutAs}
 use Rattle.sheet.proofs.Tables.{length-slot-numbers, store-next, front-few}
 
 -- ---- entries one after the other

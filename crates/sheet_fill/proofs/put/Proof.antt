@@ -6,10 +6,10 @@ use Prim.Native.Nat.{_+_, _-_}
 use lib.ListN.{getD}
 use Rattle.record.specs.Table.{maxArea}
 use Rattle.sheet_check.proofs.Walks.{there}
-use Rattle.sheet_read.proofs.Reading.{put-as, start-small, items-small}
+use Rattle.sheet_fill.proofs.Filling.{put-as, start-small, items-small}
 use borrow.Author.Needs.{needs}
-use Rattle.sheet_read.proofs.load.put.Statement.{statement}
-use Rattle.sheet_read.proofs.load.put.Tie as tie
+use Rattle.sheet_fill.proofs.put.Statement.{statement}
+use Rattle.sheet_fill.proofs.put.Tie as tie
 
 length-at-requires : tie.Need-length-at-requires
 length-at-requires c κs = let s = c .before .before .before in let t = there (s .args .w) (s .args .sheet .now) (s .args .at) (s .pre .0 .2) (s .pre .0 .1) in omega (arith, t .inside)

@@ -4,9 +4,9 @@ use mathlib.Core.Path.{sym, _∙_}
 use lib.ListN.{length}
 use native.Mathlib.Omega.{arith}
 use native.Mathlib.Numerals.{add-one}
-use Rattle.sheet_read.proofs.Reading.{Filling, filling-start, filling-bounds, filling-done, filling-begins, filling-room, filling-more}
-use Rattle.sheet_read.proofs.load.fill.Statement.{statement}
-use Rattle.sheet_read.proofs.load.fill.Tie as tie
+use Rattle.sheet_fill.proofs.Filling.{Filling, filling-start, filling-bounds, filling-done, filling-begins, filling-room, filling-more}
+use Rattle.sheet_fill.proofs.fill.Statement.{statement}
+use Rattle.sheet_fill.proofs.fill.Tie as tie
 
 abbrev Inv-loop : tie.InvT-loop
 Inv-loop sheet w most slots₀ area₀ mark at₀ set₀ place₀ slots area at set place = Filling w sheet most slots₀ area₀ mark at set place slots area

@@ -1,7 +1,7 @@
 -- The test of the code is the definition's.
 use borrow.Author.Tests.{eq-eqb, ne-eqb}
-use Rattle.sheet_read.proofs.load.start_of.Statement.{statement}
-use Rattle.sheet_read.proofs.load.start_of.Tie as tie
+use Rattle.sheet_fill.proofs.start_of.Statement.{statement}
+use Rattle.sheet_fill.proofs.start_of.Tie as tie
 
 returns : tie.Need-returns
 returns c = simp (eq-eqb _ _ (c .if1 .taken))

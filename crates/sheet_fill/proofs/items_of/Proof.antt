@@ -2,8 +2,8 @@
 use native.Mathlib.Omega.{arith}
 use Rattle.sheet_check.proofs.Leaves.{item-some}
 use borrow.Author.Needs.{needs}
-use Rattle.sheet_read.proofs.load.items_of.Statement.{statement}
-use Rattle.sheet_read.proofs.load.items_of.Tie as tie
+use Rattle.sheet_fill.proofs.items_of.Statement.{statement}
+use Rattle.sheet_fill.proofs.items_of.Tie as tie
 
 item-size-requires : tie.Need-item-size-requires
 item-size-requires c κs = search needs

@@ -1,4 +1,4 @@
-// The entries of a sheet into a table and its area, of which at most so many are taken. w is the width of a length.
+// The entries of a sheet put into a table and its area (document 02, M-100 and M-111), of which at most so many are taken. w is the width of a length.
 ghost use mathlib.Core.Path.{_≡_};
 ghost use mathlib.Core.Bool.{true};
 ghost use Prim.Native.Nat.{_+_, _/_, _≤_};
@@ -11,7 +11,7 @@ ghost use Rattle.record.specs.Packing.{accepted};
 ghost use Rattle.sheet.specs.Entries.{beginsEntry, entryIn};
 ghost use Rattle.sheet.specs.Sheet.{headerSize};
 ghost use Rattle.sheet_check.specs.Steps.{frontOf};
-ghost use Rattle.sheet_read.specs.Steps.{putFront, Room, PutRoom, PutAs};
+ghost use Rattle.sheet_fill.specs.Steps.{putFront, Room, PutRoom, PutAs};
 use record::Answer;
 use sheet::lengths;
 

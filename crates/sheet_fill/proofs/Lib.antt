@@ -1,0 +1,2 @@
+-- The laws that the writing goes by.
+mod Filling

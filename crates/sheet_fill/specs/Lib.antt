@@ -1,0 +1,2 @@
+-- What the functions of the writing promise each other.
+pub mod Steps
