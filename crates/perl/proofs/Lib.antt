@@ -1,7 +1,4 @@
--- Laws of Perl templates. Texts and Readings are laws of the definitions; Blocks and Turns serve the readers of the code, and Whole the
--- call.
-pub mod Texts
+-- Laws of Perl templates. Readings are laws of the definitions; Turns serves the readers of the code, and Whole the call.
 pub mod Readings
-mod Blocks
 mod Turns
 mod Whole

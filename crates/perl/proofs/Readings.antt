@@ -13,8 +13,8 @@ use Rattle.layout.specs.Refusals.{if_then_else_}
 use Rattle.perl_tokens.specs.declared.Letter.{Letter}
 use Rattle.perl_tokens.specs.declared.Letter.the-variants.{Taken, Unknown}
 use Rattle.perl_tokens.specs.Tokens.{maxTemplateCount, maxDepth, maxRepeat, letterOf, numberIn, digitsIn, repeatOf}
-use Rattle.perl.specs.Template.{Template, Item, done, group, Reading, read, stray, letterAt, groupAt, itemAt, Step, space, close, item, bad, stepFrom, stepAt, extra, fills, andThen, before, sequence}
-use Rattle.perl.specs.Readers.{itemsFrom, itemFrom}
+use Rattle.perl_items.specs.Template.{Template, Item, done, group, Reading, read, stray, letterAt, groupAt, itemAt, Step, space, close, item, bad, stepFrom, stepAt, extra, fills, andThen, before, sequence}
+use Rattle.perl_items.specs.Readers.{itemsFrom, itemFrom}
 use Rattle.perl_tokens.proofs.Numbers.{digits-within}
 
 -- ---- where a reading ends: not before its start, inside the text, and inside a group before its end

@@ -1,79 +1,24 @@
 -- The readers on plain values: a letter, a group, and the turns of the loop over the items.
-use Prim.Native.Nat.{ℕ, suc, _+_, _-_, _≤_, _<_, min}
+use Prim.Native.Nat.{ℕ, suc, _+_, _≤_, _<_}
 use native.Mathlib.Numerals.{add-one}
 use native.Mathlib.Omega.{arith}
 use mathlib.Core.Path.{_≡_, refl, sym, ap, _∙_, subst}
 use mathlib.Core.Bool.{Bool, true, false}
-use mathlib.Core.List.{List, [], _∷_, _++_, append-nil, append-assoc}
-use lib.ListN.{length, getD, take, drop, length-drop}
+use mathlib.Core.List.{List, [], _++_, append-nil, append-assoc}
+use lib.ListN.{length, getD, drop}
 use Rattle.layout.specs.Layout.{maxLayout}
-use Rattle.record.specs.Bytes.{part, storeAt}
-use Rattle.perl_tokens.specs.declared.Letter.{Letter}
-use Rattle.perl_tokens.specs.declared.Letter.the-variants.{Taken, Unknown}
-use Rattle.perl.specs.declared.Span.{Span}
-use Rattle.perl.specs.declared.Span.the-variants.{Read, Stray}
-use Rattle.perl_tokens.specs.Tokens.{maxTemplateCount, maxRepeat, maxDepth, letterOf, numberIn, digitsIn, repeatOf}
-use Rattle.perl.specs.Template.{Template, Item, done, next, single, group, Reading, read, stray, letterAt, groupAt, andThen}
-use Rattle.perl.specs.Conversion.{flagText, repeated}
-use Rattle.perl.specs.Readers.{itemsFrom, itemFrom, templateText, itemText, Stored, Again, spanFrom, Written}
-use Rattle.perl_tokens.proofs.Numbers.{digits-within}
-use Rattle.perl.proofs.Texts.{text-done, text-next, text-single, text-group}
-use Rattle.perl.proofs.Blocks.{stored-none, stored-append}
+use Rattle.perl_tokens.specs.Tokens.{maxRepeat, maxDepth, letterOf, numberIn, digitsIn, repeatOf}
+use Rattle.perl_items.specs.declared.Span.{Span}
+use Rattle.perl_items.specs.declared.Span.the-variants.{Read, Stray}
+use Rattle.perl_items.specs.Template.{Template, Item, done, next, group, Reading, read, stray, letterAt, groupAt, andThen}
+use Rattle.perl_items.specs.Writing.{repeated}
+use Rattle.perl_items.specs.Readers.{itemsFrom, itemFrom, templateText, itemText, Stored, Again, Written}
+use Rattle.perl_items.proofs.Texts.{text-done, text-next, text-group}
+use Rattle.perl_items.proofs.Blocks.{stored-none, stored-append}
+use Rattle.perl_items.proofs.Letters.{was-read, was-stray, writes, strays}
 use Rattle.perl.proofs.Readings.{ItemEnds, item-end, from-end-top, from-end-open, from-space, from-close, from-unopened, from-empty, from-item, from-stray, item-letter, item-deep, item-group, close-inside, group-is}
 
--- ---- what was read, by what the reader says
-
-module _ {A : Type 0} {text : A → List ℕ} {to : ℕ} {old : List ℕ} {r : Span} {new : List ℕ} where
-  pub was-read : (o : Reading A) → Written text o to old r new → (e end : ℕ) → r ≡ Read e end → (a : A) × (o ≡ read a e) × Stored (text a) to old end new
-  unfolding spanFrom
-  was-read (read a e′) w e end q =
-      let s : Read e end ≡ Read e′ (min (suc maxLayout) (to + length (text a))) = sym q ∙ w .says in
-      let same : e′ ≡ e = cc in
-      let last : end ≡ min (suc maxLayout) (to + length (text a)) = cc in
-      (a, ap (read a) same, record { place = last; long = w .long; bytes = w .bytes a e′ refl })
-  was-read (stray p) w e end q = let s : Read e end ≡ Stray p = sym q ∙ w .says in let z : _≡_ {A = ℕ} 0 1 = cc in absurd (omega arith)
-
-  pub was-stray : (o : Reading A) → Written text o to old r new → (p : ℕ) → r ≡ Stray p → o ≡ stray p
-  unfolding spanFrom
-  was-stray (read a e) w p q = let s : Stray p ≡ Read e (min (suc maxLayout) (to + length (text a))) = sym q ∙ w .says in let z : _≡_ {A = ℕ} 0 1 = cc in absurd (omega arith)
-  was-stray (stray p′) w p q = let s : Stray p ≡ Stray p′ = sym q ∙ w .says in let same : p′ ≡ p = cc in ap stray same
-
-module _ {A : Type 0} {text : A → List ℕ} {o : Reading A} {to : ℕ} {old new : List ℕ} where
-  writes : {a : A} {e end : ℕ} → o ≡ read a e → Stored (text a) to old end new → Written text o to old (Read e end) new
-  unfolding spanFrom
-  writes {a} {e} {end} q s =
-      let again : (b : A) (n : ℕ) → read b n ≡ read a e → a ≡ b = λ b n k. cc in
-      rw q (record { says = ap (Read e) (s .place); long = s .long; bytes = λ b n k. subst (λ (x : A). to + length (text x) ≤ maxLayout → new ≡ storeAt old to (text x)) (again b n (sym k)) (s .bytes) })
-
-  strays : {p : ℕ} → o ≡ stray p → length new ≡ length old → Written text o to old (Stray p) new
-  unfolding spanFrom
-  strays {p} q l = rw q (record { says = refl; long = l; bytes = λ a n k. (let z : _≡_ {A = ℕ} 0 1 = cc in absurd (omega arith)) })
-
 -- ---- a letter
-
-pub count-inside : (text : List ℕ) (p end : ℕ) → p < length text → end ≡ p + 1 + digitsIn maxTemplateCount 0 (drop (p + 1) text) → p + 1 + (end - (p + 1)) ≤ length text
-count-inside text p end h after =
-    let w : digitsIn maxTemplateCount 0 (drop (p + 1) text) ≤ length text - (p + 1) = rw (← length-drop) (digits-within maxTemplateCount 0 (drop (p + 1) text)) in
-    omega arith
-
-module _ (text : List ℕ) (p to : ℕ) (d : List ℕ) (l : Letter) where
-  pub letter-unknown : l ≡ Unknown → Written itemText (letterAt p l (drop (suc p) text)) to d (Stray p) d
-  unfolding letterAt
-  letter-unknown e = strays (rw e) refl
-
-  module _ (b : ℕ) (u : Bool) (taken : l ≡ Taken b u) (next : ℕ) (after : next ≡ p + 1 + digitsIn maxTemplateCount 0 (drop (p + 1) text)) where
-    pub letter-written : {end : ℕ} {d′ : List ℕ} → Stored ((b ∷ flagText u) ++ part text (p + 1) (next - (p + 1))) to d end d′
-        → Written itemText (letterAt p l (drop (suc p) text)) to d (Read next end) d′
-    unfolding letterAt
-    letter-written {end} {d′} s =
-        let n : ℕ = digitsIn maxTemplateCount 0 (drop (suc p) text) in
-        let place : p + 1 ≡ suc p = omega arith in
-        let same : digitsIn maxTemplateCount 0 (drop (p + 1) text) ≡ n = ap (λ (i : ℕ). digitsIn maxTemplateCount 0 (drop i text)) place in
-        let digits : next - (p + 1) ≡ n = omega arith in
-        let e : next ≡ suc p + n = omega arith in
-        let item : Item = single (record { letter = b; unsigned = u; count = take n (drop (suc p) text) }) in
-        let is : itemText item ≡ (b ∷ flagText u) ++ part text (p + 1) (next - (p + 1)) = text-single _ ∙ (rw (digits, place)) in
-        writes {a = item} (rw (taken, e)) (subst (λ (x : List ℕ). Stored x to d end d′) (sym is) s)
 
 pub letter-item : (depth : ℕ) (text : List ℕ) (p : ℕ) {to : ℕ} {d d′ : List ℕ} {r : Span} → (getD text p 0 ≡ 40 → ⊥) → Written itemText (letterAt p (letterOf (getD text p 0)) (drop (suc p) text)) to d r d′
     → Written itemText (itemFrom depth text p) to d r d′

@@ -14,13 +14,13 @@ use Rattle.layout.specs.Layout.{maxLayout}
 use Rattle.record.specs.Bytes.{part, storeAt}
 use Rattle.record.specs.Packing.{accepted, refusal}
 use Rattle.record.proofs.Fields.{split}
-use Rattle.perl.specs.declared.Span.{Span}
-use Rattle.perl.specs.declared.Span.the-variants.{Read, Stray}
-use Rattle.perl.specs.Template.{Template, Reading, read, stray, templateOf}
+use Rattle.perl_items.specs.declared.Span.{Span}
+use Rattle.perl_items.specs.declared.Span.the-variants.{Read, Stray}
+use Rattle.perl_items.specs.Template.{Template, Reading, read, stray, templateOf}
 use Rattle.perl.specs.Conversion.{layoutFrom, fromPerl}
-use Rattle.perl.specs.Readers.{itemsFrom, templateText, Stored, Written}
+use Rattle.perl_items.specs.Readers.{itemsFrom, templateText, Stored, Written}
 use Rattle.perl.proofs.Readings.{Ends, items-end}
-use Rattle.perl.proofs.Turns.{was-read, was-stray}
+use Rattle.perl_items.proofs.Letters.{was-read, was-stray}
 
 no-room : (n m : ℕ) → min maxLayout m < n → (leb n maxLayout && leb n m) ≡ false
 no-room n m h = split n maxLayout (λ k. rw (lt-leb n m (omega arith), and-false)) (λ k. rw (lt-leb n maxLayout k))

@@ -4,17 +4,12 @@ ghost use mathlib.Core.Path.{_≡_};
 ghost use Rattle.perl.specs.Conversion.{fromPerl};
 use layout::MAX_LAYOUT;
 use layout::Refusal;
+use perl_items::Span;
 use record::Answer;
 use record::least;
 use text::bytes;
 
 pub mod readers;
-// What a reader of a template finds: the place after what it read, and the place after the layout text that it put into the block, held at one
-// byte more than the block has; or the place of the stray byte.
-pub enum Span {
-    Read(usize, usize),
-    Stray(usize),
-}
 
 // Writes the layout that a Perl template stands for. A refusal changes nothing.
 pub fn from_perl(template: &[u8], layout: &mut [u8]) -> Answer

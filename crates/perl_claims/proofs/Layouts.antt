@@ -22,8 +22,8 @@ use Rattle.layout.specs.Layout.{maxCount, isDecimal, typeOf, takesSlot, toNat, 
 use Rattle.perl_tokens.specs.declared.Letter.{Letter}
 use Rattle.perl_tokens.specs.declared.Letter.the-variants.{Taken, Unknown}
 use Rattle.perl_tokens.specs.Tokens.{maxTemplateCount, continues, withDigit, numberIn, digitsIn, letterOf}
-use Rattle.perl.specs.Template.{Single}
-use Rattle.perl.specs.Conversion.{flagText, textOf}
+use Rattle.perl_items.specs.Template.{Single}
+use Rattle.perl_items.specs.Writing.{flagText, textOf}
 use Rattle.perl_claims.specs.Claim.{countFor, fieldFor, valued}
 use Rattle.perl_tokens.proofs.Numbers.{number-limit}
 

@@ -10,7 +10,7 @@ use Rattle.layout.specs.Refusals.{if_then_else_}
 use Rattle.perl_tokens.specs.declared.Letter.{Letter}
 use Rattle.perl_tokens.specs.declared.Letter.the-variants.{Taken, Unknown}
 use Rattle.perl_tokens.specs.Tokens.{maxTemplateCount, maxDepth, maxRepeat, letterOf, continues, withDigit, numberIn, digitsIn}
-use Rattle.perl.specs.Template.{Template, Item, done, Reading, read, stray, letterAt, groupAt, itemAt, Step, space, close, item, bad, stepFrom, stepAt, extra, fills, andThen, before, sequence}
+use Rattle.perl_items.specs.Template.{Template, Item, done, Reading, read, stray, letterAt, groupAt, itemAt, Step, space, close, item, bad, stepFrom, stepAt, extra, fills, andThen, before, sequence}
 use Rattle.perl.proofs.Readings.{Ends, StepEnds, ends, step-from, extra-within}
 
 -- the place after what was read, or of the stray byte

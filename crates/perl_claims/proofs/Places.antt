@@ -16,8 +16,8 @@ use Rattle.layout.proofs.Laws.{no-refusal}
 use Rattle.perl_tokens.specs.declared.Letter.{Letter}
 use Rattle.perl_tokens.specs.declared.Letter.the-variants.{Taken, Unknown}
 use Rattle.perl_tokens.specs.Tokens.{maxTemplateCount, maxDepth, maxRepeat, letterOf, continues, withDigit, numberIn, digitsIn, repeatOf}
-use Rattle.perl.specs.Template.{Template, Item, done, next, single, group, Reading, read, stray, letterAt, groupAt, andThen, sequence, orRefused, templateOf}
-use Rattle.perl.specs.Readers.{itemsFrom, itemFrom}
+use Rattle.perl_items.specs.Template.{Template, Item, done, next, single, group, Reading, read, stray, letterAt, groupAt, andThen, sequence, orRefused, templateOf}
+use Rattle.perl_items.specs.Readers.{itemsFrom, itemFrom}
 use Rattle.perl_claims.specs.Claim.{FirstBad, Places}
 use Rattle.perl.proofs.Readings.{Ends, ItemEnds, items-end, item-end, from-end-top, from-space, from-close, from-unopened, from-empty, from-item, from-stray, item-letter, item-deep, item-group, close-inside, group-is}
 use Rattle.perl_claims.proofs.Local.{readEnd, starts, Agree, agree-take, agree-less, SameNumber, same-cons, local}

@@ -16,11 +16,12 @@ use Rattle.layout.proofs.Laws.{bound, demanded, ok-inj, no-refusal, no-number-z
 use Rattle.perl_tokens.specs.declared.Letter.{Letter}
 use Rattle.perl_tokens.specs.declared.Letter.the-variants.{Taken, Unknown}
 use Rattle.perl_tokens.specs.Tokens.{maxDepth, letterOf}
-use Rattle.perl.specs.Template.{Single, Template, Item, done, next, single, group, Reading, read, stray, letterAt, groupAt, itemAt, Step, space, close, item, bad, stepFrom, stepAt, extra, fills, before, sequence, orRefused, templateOf}
-use Rattle.perl.specs.Conversion.{repeated, writtenOut, writtenOutItem, textOf, Converted, layoutFrom, convertEffect, fromPerl}
+use Rattle.perl_items.specs.Template.{Single, Template, Item, done, next, single, group, Reading, read, stray, letterAt, groupAt, itemAt, Step, space, close, item, bad, stepFrom, stepAt, extra, fills, before, sequence, orRefused, templateOf}
+use Rattle.perl_items.specs.Writing.{repeated, writtenOut, writtenOutItem, textOf}
+use Rattle.perl.specs.Conversion.{Converted, layoutFrom, convertEffect, fromPerl}
 use Rattle.perl_claims.specs.Claim.{result, TakenOver, Claim, Blank, Groups}
-use Rattle.perl.specs.Readers.{templateText, itemText}
-use Rattle.perl.proofs.Texts.{text-group}
+use Rattle.perl_items.specs.Readers.{templateText, itemText}
+use Rattle.perl_items.proofs.Texts.{text-group}
 use Rattle.perl_claims.proofs.Layouts.{OurLetter, our-letter, counts, SoundSingle, Every, text-fields, slots-valued}
 
 unfoldable mutual

@@ -15,8 +15,9 @@ use Rattle.layout.specs.declared.Refusal.the-variants.{BadTemplate}
 use Rattle.layout.specs.Refusals.{if_then_else_, ok, refused}
 use Rattle.layout.specs.Layout.{maxLayout, typeOf, decimal, fieldsOf, slotCount}
 use Rattle.layout.specs.Words.{known}
-use Rattle.perl.specs.Template.{Single, Template, done, group, templateOf}
-use Rattle.perl.specs.Conversion.{repeated, writtenOut, writtenOutItem, textOf, Converted, fromPerl}
+use Rattle.perl_items.specs.Template.{Single, Template, done, group, templateOf}
+use Rattle.perl_items.specs.Writing.{repeated, writtenOut, writtenOutItem, textOf}
+use Rattle.perl.specs.Conversion.{Converted, fromPerl}
 
 -- the field of one written-out item: its letter's type, its flag, and its count, omitted where it was
 unfoldable pub countFor : List ℕ → Count

@@ -14,8 +14,8 @@ use Rattle.perl.proofs.readers.+item+sequence.Lts-item as item-lts
 use Rattle.perl.proofs.readers.sequence.Reads as sequence
 use Rattle.perl.proofs.readers.sequence.Kinds as sequence-kinds
 use Rattle.perl.proofs.readers.+item+sequence.Lts-sequence as sequence-lts
-use Rattle.perl.proofs.readers.again.Reads as again-reads
-use Rattle.perl.proofs.readers.single.Reads as single-reads
+use Rattle.perl_items.proofs.again.Reads as again-reads
+use Rattle.perl_items.proofs.single.Reads as single-reads
 use Rattle.perl_tokens.proofs.number.Reads as number-reads
 use Rattle.perl_tokens.proofs.repeat_of.Reads as repeat-of-reads
 use Rattle.perl.proofs.readers.+item+sequence.{statement}

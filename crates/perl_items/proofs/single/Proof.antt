@@ -1,9 +1,9 @@
 -- The letter, the flag and the digits make the item's text.
 use mathlib.Core.Path.{sym, _∙_}
 use borrow.Author.Needs.{needs}
-use Rattle.perl.proofs.Turns.{letter-unknown, count-inside, letter-written}
-use Rattle.perl.proofs.readers.single.Statement.{statement}
-use Rattle.perl.proofs.readers.single.Tie as tie
+use Rattle.perl_items.proofs.Letters.{letter-unknown, count-inside, letter-written}
+use Rattle.perl_items.proofs.single.Statement.{statement}
+use Rattle.perl_items.proofs.single.Tie as tie
 
 shared-slice-read-c : tie.Need-shared-slice-read-c
 shared-slice-read-c c = search needs

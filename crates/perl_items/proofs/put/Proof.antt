@@ -1,9 +1,9 @@
 -- Letter and flag, and after them the digits, are one run; where it would not fit, nothing is put.
 use native.Mathlib.Omega.{arith}
 use borrow.Author.Needs.{needs}
-use Rattle.perl.proofs.Blocks.{flag-short, put-over, put-whole}
-use Rattle.perl.proofs.readers.put.Statement.{statement}
-use Rattle.perl.proofs.readers.put.Tie as tie
+use Rattle.perl_items.proofs.Blocks.{flag-short, put-over, put-whole}
+use Rattle.perl_items.proofs.put.Statement.{statement}
+use Rattle.perl_items.proofs.put.Tie as tie
 
 letter-size-requires : tie.Need-letter-size-requires
 letter-size-requires c κs = search needs

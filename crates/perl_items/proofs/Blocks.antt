@@ -10,9 +10,9 @@ use lib.Seq.{length-take-le, length-paste-head, take-append-le, take-length, get
 use Rattle.layout.specs.Layout.{maxLayout}
 use Rattle.record.specs.Bytes.{part, storeAt}
 use Rattle.record.proofs.Stores.{Put, put-none, put-more, put-done, store-none, store-store, length-storeAt, length-part}
-use Rattle.perl.specs.Conversion.{repeated, flagText}
-use Rattle.perl.specs.Readers.{Stored}
-use Rattle.perl.proofs.Texts.{length-repeated, repeated-last}
+use Rattle.perl_items.specs.Writing.{repeated, flagText}
+use Rattle.perl_items.specs.Readers.{Stored}
+use Rattle.perl_items.proofs.Texts.{length-repeated, repeated-last}
 
 pub stored-none : (d : List ℕ) (to : ℕ) → to ≤ suc maxLayout → Stored [] to d to d
 stored-none d to h = record { place = omega arith; long = refl; bytes = λ k. sym (store-none d to) }

@@ -9,11 +9,11 @@ use Rattle.layout.specs.Layout.{maxLayout}
 use Rattle.record.proofs.Bounds.{product-small}
 use Rattle.record.proofs.Stores.{Put}
 use Rattle.perl_tokens.specs.Tokens.{maxRepeat}
-use Rattle.perl.specs.Conversion.{repeated}
-use Rattle.perl.specs.Readers.{Stored}
-use Rattle.perl.proofs.Blocks.{at-least-one, again-over, again-none, again-more, again-done}
-use Rattle.perl.proofs.readers.again.Statement.{statement}
-use Rattle.perl.proofs.readers.again.Tie as tie
+use Rattle.perl_items.specs.Writing.{repeated}
+use Rattle.perl_items.specs.Readers.{Stored}
+use Rattle.perl_items.proofs.Blocks.{at-least-one, again-over, again-none, again-more, again-done}
+use Rattle.perl_items.proofs.again.Statement.{statement}
+use Rattle.perl_items.proofs.again.Tie as tie
 
 abbrev Inv-loop : tie.InvT-loop
 Inv-loop out₀ to end times size all j₀ out j = (size ≤ j) × (j ≤ all) × (length out ≡ length out₀) × ((s d : List ℕ) → Stored s to d end out₀ → Put d to (repeated times s) out j)

@@ -1,6 +1,6 @@
 -- The flag is one byte.
-use Rattle.perl.proofs.readers.letter_size.Statement.{statement}
-use Rattle.perl.proofs.readers.letter_size.Tie as tie
+use Rattle.perl_items.proofs.letter_size.Statement.{statement}
+use Rattle.perl_items.proofs.letter_size.Tie as tie
 
 returns : tie.Need-returns
 returns c = rw (c .if1 .taken)

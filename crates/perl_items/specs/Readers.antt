@@ -6,10 +6,10 @@ use mathlib.Core.List.{List}
 use lib.ListN.{length, drop, getD}
 use Rattle.layout.specs.Layout.{maxLayout}
 use Rattle.record.specs.Bytes.{storeAt}
-use Rattle.perl.specs.declared.Span.{Span}
-use Rattle.perl.specs.declared.Span.the-variants.{Read, Stray}
-use Rattle.perl.specs.Template.{Template, Item, Reading, read, stray, itemAt, sequence}
-use Rattle.perl.specs.Conversion.{repeated, writtenOut, writtenOutItem, textOf}
+use Rattle.perl_items.specs.declared.Span.{Span}
+use Rattle.perl_items.specs.declared.Span.the-variants.{Read, Stray}
+use Rattle.perl_items.specs.Template.{Template, Item, Reading, read, stray, itemAt, sequence}
+use Rattle.perl_items.specs.Writing.{repeated, writtenOut, writtenOutItem, textOf}
 
 -- the items of a text from the place `at` on, inside so many groups
 unfoldable pub itemsFrom : ℕ → Bool → List ℕ → ℕ → Reading Template

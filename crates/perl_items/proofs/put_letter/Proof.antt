@@ -3,9 +3,9 @@ use borrow.Author.Needs.{needs}
 use Prim.Native.Nat.{_+_, _≤_}
 use native.Mathlib.Omega.{arith}
 use lib.ListN.{length, length-set}
-use Rattle.perl.proofs.Blocks.{one-byte, two-bytes}
-use Rattle.perl.proofs.readers.put_letter.Statement.{statement}
-use Rattle.perl.proofs.readers.put_letter.Tie as tie
+use Rattle.perl_items.proofs.Blocks.{one-byte, two-bytes}
+use Rattle.perl_items.proofs.put_letter.Statement.{statement}
+use Rattle.perl_items.proofs.put_letter.Tie as tie
 
 -- with the flag there is room for two bytes
 room : (c : tie.Then1) → c .before .args .to + 2 ≤ length (c .before .args .out .now)
