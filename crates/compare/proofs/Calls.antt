@@ -26,9 +26,11 @@ use Rattle.reading.specs.Tables.{TableRoom}
 use Rattle.reader.proofs.Calls.{Fit, fit}
 use Rattle.record.proofs.Readings.{values-few}
 use Rattle.difference.specs.Rows.{reportWidth}
-use Rattle.compare.specs.Comparing.{rows, Shown, compares, compareEffect, compare}
-use Rattle.compare.specs.Shown.{shownBytes, Holds}
-use Rattle.compare.proofs.Shown.{length-rows, put-shows, put-holds}
+use Rattle.compare_report.specs.Report.{rows}
+use Rattle.compare.specs.Comparing.{Shown, compares, compareEffect, compare}
+use Rattle.compare_report.specs.Shown.{shownBytes, Holds}
+use Rattle.compare_report.proofs.Rows.{length-rows}
+use Rattle.compare.proofs.Shown.{put-shows, put-holds}
 
 -- ---- a reading that is accepted
 

@@ -1,8 +1,8 @@
 -- Two copies of one record compared, value field by value field (02, M-102): THE EFFECT OF A CALL is `compare`, at the end.
-use Prim.Native.Nat.{ℕ, zero, suc, _*_}
+use Prim.Native.Nat.{ℕ, _*_}
 use mathlib.Core.Path.{_≡_}
 use mathlib.Core.Bool.{false}
-use mathlib.Core.List.{List, [], _∷_, _++_, map}
+use mathlib.Core.List.{List, _++_, map}
 use lib.ListN.{length, drop}
 use lib.Dec.{leb}
 use Rattle.layout.specs.declared.Refusal.the-variants.{NoRoom}
@@ -13,26 +13,8 @@ use Rattle.record.specs.declared.Answer.{Answer}
 use Rattle.record.specs.Table.{Value, areaBytes}
 use Rattle.record.specs.Packing.{accepted, refusal}
 use Rattle.record.specs.Reading.{reads, positionsFrom, putInto}
-use Rattle.difference.specs.Rows.{reportWidth, onlyFirst, onlySecond, inNeither, plainRow, bothRow}
-
--- ---- the report: a row for each value field (the row of two values is in the crate `difference`)
-
--- The row of a field, from the values that each reading set for it and the fields after it.
--- (A reading sets its fields from the first on and then no more: this field is set where any value is left.)
-unfoldable pub row : List (List ℕ) → List (List ℕ) → List ℕ
-unfolding bothRow
-row [] [] = plainRow inNeither
-row (x ∷ xs) [] = plainRow onlyFirst
-row [] (y ∷ ys) = plainRow onlySecond
-row (x ∷ xs) (y ∷ ys) = bothRow x y
-
--- the rows of n value fields
-unfoldable pub rows : ℕ → List (List ℕ) → List (List ℕ) → List ℕ
-unfolding row
-rows zero xs ys = []
-rows (suc n) xs ys = row xs ys ++ rows n (drop 1 xs) (drop 1 ys)
-
--- ---- the call
+use Rattle.difference.specs.Rows.{reportWidth}
+use Rattle.compare_report.specs.Report.{rows}
 
 -- the value fields of a layout, the values that the two readings set, and the positions of their fields
 pub record Shown : Type 0 where

@@ -1,13 +1,9 @@
 // Two copies of one record compared by their layout: for each value field whether both show the same value, and if not where and how far they differ.
 // Both readings are checked before anything is written.
 ghost use Rattle.compare.specs.Comparing.{Compares};
+use compare_report::REPORT_WIDTH;
 use layout::Refusal;
 use record::Answer;
-
-mod report;
-
-// The numbers of a row of the report.
-pub const REPORT_WIDTH: usize = 3;
 
 // Reads both copies, each into its own table and area, and writes three numbers for each value field into the report. A refusal changes nothing.
 pub fn compare(
@@ -36,7 +32,7 @@ pub fn compare(
     }
     let p = reader::read(layout, first, first_slots, first_area, 0);
     let q = reader::read(layout, second, second_slots, second_area, 0);
-    report::write(
+    compare_report::write(
         report,
         fields,
         first_slots,

@@ -28,6 +28,6 @@ pub fn write_back(
     let fields = a.first as usize;
     numbers::encode(first_slots, first_room, fields);
     numbers::encode(second_slots, second_room, fields);
-    numbers::encode_run(report, rows, 0, compare::REPORT_WIDTH * fields);
+    numbers::encode_run(report, rows, 0, compare_report::REPORT_WIDTH * fields);
     host::reply_with(reply, a)
 }

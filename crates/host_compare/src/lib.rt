@@ -12,7 +12,7 @@ use layout::Refusal;
 use record::Answer;
 
 // The numbers of a report that has a row for every slot.
-const MAX_REPORT: usize = compare::REPORT_WIDTH * record::MAX_SLOTS;
+const MAX_REPORT: usize = compare_report::REPORT_WIDTH * record::MAX_SLOTS;
 
 // The second table is cut or too long: the answer to the first reading's refusals, and else 1.
 fn refuse_second(layout: &[u8], first: &[u8], slots: &[u32], area: &[u8], reply: &mut [u8]) -> u32

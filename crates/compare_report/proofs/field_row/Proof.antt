@@ -1,8 +1,8 @@
 -- Each way out is one case of the row.
-use Rattle.compare.proofs.Shown.{inside, row-both, row-first, row-second, row-neither}
+use Rattle.compare_report.proofs.Rows.{inside, row-both, row-first, row-second, row-neither}
 use borrow.Author.Needs.{needs}
-use Rattle.compare.proofs.report.field_row.Statement.{statement}
-use Rattle.compare.proofs.report.field_row.Tie as tie
+use Rattle.compare_report.proofs.field_row.Statement.{statement}
+use Rattle.compare_report.proofs.field_row.Tie as tie
 
 value-span-requires : tie.Need-value-span-requires
 value-span-requires c κs = search needs

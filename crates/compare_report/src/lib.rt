@@ -1,4 +1,4 @@
-// The report: a row for each value field, by what the two readings left in their tables and areas.
+// The report of a comparison: a row for each value field, by what the two readings left in their tables and areas.
 ghost use mathlib.Core.Path.{_≡_};
 ghost use Prim.Native.Nat.{_+_, _*_, _≤_};
 ghost use lib.ListN.{length};
@@ -6,11 +6,13 @@ ghost use Rattle.layout.specs.Lent.{before, after};
 ghost use Rattle.record.specs.Bytes.{storeAt};
 ghost use Rattle.record.specs.Table.{slotWidth};
 ghost use Rattle.difference.specs.Rows.{reportWidth};
-ghost use Rattle.compare.specs.Comparing.{rows};
+ghost use Rattle.compare_report.specs.Report.{rows};
 ghost use Rattle.difference.specs.Rows.{numbers};
-ghost use Rattle.compare.specs.Shown.{spanAt, shownBy, rowAt, Holds};
-use super::REPORT_WIDTH;
+ghost use Rattle.compare_report.specs.Shown.{spanAt, shownBy, rowAt, Holds};
 use difference::Row;
+
+// The numbers of a row of the report.
+pub const REPORT_WIDTH: usize = 3;
 
 // A value's bytes in the area: where they start, and how many there are.
 pub struct Span {

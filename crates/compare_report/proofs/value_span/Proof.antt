@@ -4,11 +4,11 @@ use mathlib.Core.Path.{ap}
 use Prim.Native.Nat.{_*_, _≤_}
 use Rattle.record.specs.declared.slots.Slot.{Slot}
 use Rattle.record.proofs.Bounds.{item-small, product-small}
-use Rattle.compare.specs.Shown.{sizeOf}
-use Rattle.compare.specs.declared.report.Span.{Span}
+use Rattle.compare_report.specs.Shown.{sizeOf}
+use Rattle.compare_report.specs.declared.Span.{Span}
 use borrow.Author.Needs.{needs}
-use Rattle.compare.proofs.report.value_span.Statement.{statement}
-use Rattle.compare.proofs.report.value_span.Tie as tie
+use Rattle.compare_report.proofs.value_span.Statement.{statement}
+use Rattle.compare_report.proofs.value_span.Tie as tie
 
 abbrev span-of : Slot → Span
 span-of s = record { start = s .start; size = sizeOf s }

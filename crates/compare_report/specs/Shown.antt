@@ -8,8 +8,8 @@ use Rattle.record.specs.declared.slots.Slot.{Slot}
 use Rattle.record.specs.Table.{slotWidth, maxArea, slotsOf, itemSize}
 use Rattle.record.specs.Packing.{nextSlot}
 use Rattle.record.specs.Slots.{slotAt, valueEnd}
-use Rattle.compare.specs.Comparing.{row}
-use Rattle.compare.specs.declared.report.Span.{Span}
+use Rattle.compare_report.specs.Report.{row}
+use Rattle.compare_report.specs.declared.Span.{Span}
 use Rattle.difference.specs.declared.Row.{Row}
 
 -- how many bytes of the area a slot's value takes, where those of slot i lie, and which they are

@@ -4,10 +4,10 @@ use native.Mathlib.Omega.{arith}
 use mathlib.Core.Path.{_∙_, ap}
 use Rattle.record.specs.Bytes.{storeAt}
 use Rattle.record.proofs.Stores.{Wrote, wrote-none, wrote-done}
-use Rattle.compare.specs.Shown.{shownBytes}
-use Rattle.compare.proofs.Shown.{rowAt, rows-runs, row-more}
-use Rattle.compare.proofs.report.write.Statement.{statement}
-use Rattle.compare.proofs.report.write.Tie as tie
+use Rattle.compare_report.specs.Shown.{shownBytes}
+use Rattle.compare_report.proofs.Rows.{rowAt, rows-runs, row-more}
+use Rattle.compare_report.proofs.write.Statement.{statement}
+use Rattle.compare_report.proofs.write.Tie as tie
 
 abbrev Inv-loop : tie.InvT-loop
 Inv-loop report₀ fields first-slots first-area n second-slots second-area m i₀ report i =

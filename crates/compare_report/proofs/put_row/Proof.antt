@@ -1,10 +1,10 @@
 -- Three stores side by side are one run of three numbers.
-use Rattle.compare.proofs.Shown.{row-stored}
+use Rattle.compare_report.proofs.Rows.{row-stored}
 use lib.ListN.{length-set}
 use native.Mathlib.Omega.{arith}
 use borrow.Author.Needs.{needs}
-use Rattle.compare.proofs.report.put_row.Statement.{statement}
-use Rattle.compare.proofs.report.put_row.Tie as tie
+use Rattle.compare_report.proofs.put_row.Statement.{statement}
+use Rattle.compare_report.proofs.put_row.Tie as tie
 
 mul-at : tie.Need-mul-at
 mul-at c = search needs
