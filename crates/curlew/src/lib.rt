@@ -1,5 +1,6 @@
 // The calls that a C host links to, each under its C name: the crates host_* hold what they do.
-ghost use Rattle.host_record.specs.Calls.{HostPacks, HostReads};
+ghost use Rattle.host_pack.specs.Calls.{HostPacks};
+ghost use Rattle.host_read.specs.Calls.{HostReads};
 ghost use Rattle.host_sheet.specs.Calls.{HostWritesSheet, HostReadsSheet};
 ghost use Rattle.host_rescue.specs.Calls.{HostRescues};
 ghost use Rattle.host_compare.specs.Calls.{HostCompares};
@@ -18,7 +19,7 @@ pub extern "C" fn curlew_pack(
 ) -> u32
     ensures { λ r. ⌜ HostPacks layout slots area out reply r ⌝ }
 {
-    host_record::pack(layout, slots, area, out, reply)
+    host_pack::pack(layout, slots, area, out, reply)
 }
 
 // Reads a record by the layout (Tcl's `binary scan`), and sets slots and area.
@@ -33,7 +34,7 @@ pub extern "C" fn curlew_read(
 ) -> u32
     ensures { λ r. ⌜ HostReads layout bytes slots area mark reply r ⌝ }
 {
-    host_record::read(layout, bytes, slots, area, mark, reply)
+    host_read::read(layout, bytes, slots, area, mark, reply)
 }
 
 // Writes a table of slots as a sheet at the front of the buffer.

@@ -1,18 +1,19 @@
 -- What the sizes of the lent runs decide, and what the guard of a call lets through.
 use Prim.Native.Nat.{ℕ, _*_, _/_, _%_, _≤_, _<_}
 use native.Mathlib.Omega.{arith}
-use mathlib.Core.Path.{_≡_, refl}
+use mathlib.Core.Path.{_≡_, refl, sym, _∙_}
 use mathlib.Core.Bool.{Bool, true, false, _&&_}
 use mathlib.Core.List.{List}
 use borrow.Author.Tests.{le-leb, leb-true, eq-eqb, eqb-true}
 use lib.Dec.{eqb, leb}
 use lib.ListN.{length, take}
 use lib.Seq.{length-take-le}
+use Rattle.layout.specs.Layout.{shortLayout}
 use Rattle.layout.specs.Refusals.{if_then_else_}
 use Rattle.record.proofs.Bytes.{and-true}
 use Rattle.record.specs.Table.{maxSlots, slotWidth}
 use Rattle.record.proofs.Fields.{split}
-use Rattle.host.specs.Host.{numberSize, slotSize, numbersIn, guarded, slotsFit}
+use Rattle.host.specs.Host.{numberSize, slotSize, numbersIn, guarded, slotsFit, fewNumbers, isSmall}
 use Rattle.host.proofs.NumberLaws.{length-numbersIn}
 
 -- ---- the sizes of the runs
@@ -47,6 +48,15 @@ too-many size bad whole =
     let z : _≡_ {A = ℕ} 0 1 = cc in
     absurd (omega arith))
     (λ over. omega (arith, eqb-true (size % slotSize) 0 whole))
+
+-- ---- small calls
+
+-- what the test for the small arrays lets through
+pub short-and-few : {b : Bool} {layout numbers : ℕ} → b ≡ isSmall layout numbers → b ≡ true → (layout ≤ shortLayout) × (numbers ≤ fewNumbers)
+unfolding isSmall
+short-and-few {b} {layout} {numbers} e h =
+    let (short, few) = and-true (leb layout shortLayout) (leb numbers fewNumbers) (sym e ∙ h) in
+    (leb-true layout shortLayout short, leb-true numbers fewNumbers few)
 
 -- ---- what the calls share
 

@@ -4,6 +4,7 @@ use mathlib.Core.Bool.{Bool, _&&_}
 use mathlib.Core.List.{List, [], _∷_}
 use lib.ListN.{length}
 use lib.Dec.{eqb, leb}
+use Rattle.layout.specs.Layout.{shortLayout}
 use Rattle.layout.specs.Refusals.{if_then_else_}
 use Rattle.record.specs.declared.Answer.{Answer}
 use Rattle.record.specs.Bytes.{bigEndian, bigEndianIn}
@@ -57,6 +58,16 @@ guarded size reply slots unwritten refused served =
 -- a run of so many slot bytes is taken apart: the slots are whole, and no more than a call may be lent
 abbrev pub slotsFit : ℕ → Bool
 slotsFit size = leb size (slotSize * maxSlots) && eqb (size % slotSize) 0
+
+-- ---- small calls
+
+-- the numbers of eight slots, which are few
+abbrev pub fewNumbers : ℕ
+fewNumbers = 8 * slotWidth
+
+-- a layout of so many bytes is short, and so many numbers are few
+unfoldable pub isSmall : ℕ → ℕ → Bool
+isSmall layout numbers = leb layout shortLayout && leb numbers fewNumbers
 
 -- ---- what a call leaves
 

@@ -2,7 +2,7 @@
 ghost use mathlib.Core.Path.{_≡_};
 ghost use lib.Dec.{eqb};
 ghost use lib.ListN.{length};
-ghost use Rattle.host.specs.Host.{replySize, longReplySize, replyOf, longReply, slotsFit};
+ghost use Rattle.host.specs.Host.{replySize, longReplySize, replyOf, longReply, slotsFit, isSmall};
 use record::Answer;
 
 pub mod numbers;
@@ -59,4 +59,17 @@ pub fn reply_long(reply: &mut [u8], a: Answer, fourth: u32) -> u32
     let four: [u32; 4] = [number, a.first, a.second, fourth];
     numbers::encode_run(reply, &four, 0, 4);
     number
+}
+
+// The numbers of eight slots, which are few.
+pub const FEW_NUMBERS: usize = 8 * record::SLOT_WIDTH;
+
+// Whether the small arrays do for a layout of so many bytes and so many numbers.
+pub fn small(layout: usize, numbers: usize) -> bool
+    ensures { λ r. ⌜ r ≡ isSmall layout numbers ⌝ }
+{
+    if layout::SHORT_LAYOUT < layout {
+        return false;
+    }
+    numbers <= FEW_NUMBERS
 }

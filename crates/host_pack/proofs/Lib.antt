@@ -1,0 +1,2 @@
+-- Laws of packing for a C host.
+mod Calls

@@ -1,0 +1,2 @@
+-- What packing for a C host means.
+pub mod Calls

@@ -1,0 +1,3 @@
+-- What reading for a C host means.
+pub mod Calls
+pub mod Claims
