@@ -3,7 +3,6 @@
 ghost use mathlib.Core.Path.{_≡_};
 ghost use Prim.Native.Nat.{_≤_};
 ghost use lib.ListN.{length};
-ghost use Rattle.layout.specs.Layout.{shortLayout};
 ghost use Rattle.layout.specs.Lent.{before, after};
 ghost use Rattle.record.specs.Table.{maxRecord};
 ghost use Rattle.record.specs.Packing.{pack};
@@ -50,19 +49,6 @@ fn packed(p: Parsed, words: &[u32], slots: &[u32], area: &[u8], output: &mut [u8
     }
 }
 
-// Packs as `pack` does, by a short layout. (The layout is read where its words stand, here and in `pack`: a call that fills them for its caller costs more.)
-pub fn pack_short(layout: &[u8], slots: &[u32], area: &[u8], output: &mut [u8]) -> Answer
-    requires { ⌜ length (now layout) ≤ shortLayout ⌝ }
-    ensures { λ r. ⌜ record { answer = r; output = after output } ≡ pack (before layout) (before slots) (before area) (before output) ⌝ }
-{
-    if !record::lengths_fit(layout.len(), slots.len(), output.len(), area.len()) {
-        return Answer::refused(Refusal::BadSize, 0);
-    }
-    let mut few: [u32; layout::SHORT_LAYOUT] = [0; layout::SHORT_LAYOUT];
-    let p = parser::parse(layout, true, &mut few);
-    packed(p, &few, slots, area, output)
-}
-
 // Packs the arguments into the output by the layout. A refusal changes nothing.
 pub fn pack(layout: &[u8], slots: &[u32], area: &[u8], output: &mut [u8]) -> Answer
     ensures { λ r. ⌜ record { answer = r; output = after output } ≡ pack (before layout) (before slots) (before area) (before output) ⌝ }
@@ -73,4 +59,19 @@ pub fn pack(layout: &[u8], slots: &[u32], area: &[u8], output: &mut [u8]) -> Ans
     let mut words: [u32; layout::MAX_LAYOUT] = [0; layout::MAX_LAYOUT];
     let p = parser::parse(layout, true, &mut words);
     packed(p, &words, slots, area, output)
+}
+
+// The same, quicker by a short layout. (The layout is read where its words stand, here and in `pack`: a call that fills them for its caller costs more.)
+pub fn pack_short(layout: &[u8], slots: &[u32], area: &[u8], output: &mut [u8]) -> Answer
+    ensures { λ r. ⌜ record { answer = r; output = after output } ≡ pack (before layout) (before slots) (before area) (before output) ⌝ }
+{
+    if layout::SHORT_LAYOUT < layout.len() {
+        return pack(layout, slots, area, output);
+    }
+    if !record::lengths_fit(layout.len(), slots.len(), output.len(), area.len()) {
+        return Answer::refused(Refusal::BadSize, 0);
+    }
+    let mut few: [u32; layout::SHORT_LAYOUT] = [0; layout::SHORT_LAYOUT];
+    let p = parser::parse(layout, true, &mut few);
+    packed(p, &few, slots, area, output)
 }

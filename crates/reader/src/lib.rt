@@ -4,7 +4,7 @@
 ghost use mathlib.Core.Path.{_≡_};
 ghost use Prim.Native.Nat.{_*_, _≤_};
 ghost use lib.ListN.{length};
-ghost use Rattle.layout.specs.Layout.{maxLayout, shortLayout};
+ghost use Rattle.layout.specs.Layout.{maxLayout};
 ghost use Rattle.layout.specs.Lent.{before, after};
 ghost use Rattle.record.specs.Table.{slotWidth, maxSlots, maxRecord, valueBytes};
 ghost use Rattle.record.specs.Reading.{readAll};
@@ -123,7 +123,7 @@ pub fn read(
     }
 }
 
-// As `read`, by a short layout: a small array is enough for its fields.
+// As `read`, quicker by a short layout: a small array is enough for its fields.
 // (The test of `read_words` stands here too: the fields are then written by a call from here, where it costs least.)
 pub fn read_short(
     layout: &[u8],
@@ -132,9 +132,11 @@ pub fn read_short(
     area: &mut [u8],
     mark: usize,
 ) -> ReadAnswer
-    requires { ⌜ length (now layout) ≤ shortLayout ⌝ }
     ensures { λ r. ⌜ record { answer = r; slots = after slots; area = after area } ≡ readAll (before layout) (before bytes) (before slots) (before area) mark ⌝ }
 {
+    if layout::SHORT_LAYOUT < layout.len() {
+        return read(layout, bytes, slots, area, mark);
+    }
     if !sizes_fit(layout.len(), slots.len(), bytes.len(), area.len(), mark) {
         return ReadAnswer {
             answer: Answer::refused(Refusal::BadSize, 0),

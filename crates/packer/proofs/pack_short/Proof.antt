@@ -1,6 +1,7 @@
--- The caller says that the layout has room in the words; the rest is as in `pack`.
+-- A long layout is left to `pack`. A short one has room in the words; the rest is as in `pack`.
 use mathlib.Core.Path.{_≡_, sym, _∙_}
 use mathlib.Core.Bool.{true}
+use native.Mathlib.Omega.{arith}
 use borrow.Author.Tests.{not-true, not-false}
 use lib.ListN.{length}
 use Rattle.record.specs.Geometry.{lengthsFit}
@@ -9,23 +10,32 @@ use borrow.Author.Needs.{needs}
 use Rattle.packer.proofs.pack_short.Statement.{statement}
 use Rattle.packer.proofs.pack_short.Tie as tie
 
+pack-requires : tie.Need-pack-requires
+pack-requires c κs = search needs
+
+same-length : tie.Need-same-length
+same-length c = search needs
+
+returns : tie.Need-returns
+returns c = c .before .before .pack .ensures
+
 lengths-fit-requires : tie.Need-lengths-fit-requires
 lengths-fit-requires c κs = search needs
 
 refused-requires : tie.Need-refused-requires
 refused-requires c κs = search needs
 
-fine : (c : tie.Else1) → lengthsFit (length (c .before .before .before .before .before .before .args .layout .now)) (length (c .before .before .before .before .before .before .args .slots .now)) (length (c .before .before .before .before .before .before .args .output .now)) (length (c .before .before .before .before .before .before .args .area .now)) ≡ true
-fine c = sym (c .before .lengths-fit .ensures) ∙ not-false _ (c .if1 .left)
+fine : (c : tie.Else2) → lengthsFit (length (c .before .before .before .before .before .before .before .args .layout .now)) (length (c .before .before .before .before .before .before .before .args .slots .now)) (length (c .before .before .before .before .before .before .before .args .output .now)) (length (c .before .before .before .before .before .before .before .args .area .now)) ≡ true
+fine c = sym (c .before .lengths-fit .ensures) ∙ not-false _ (c .if2 .left)
 
-returns : tie.Need-returns
-returns c = rw (c .refused .ensures) (pack-sizes _ _ _ _ (sym (c .before .before .lengths-fit .ensures) ∙ not-true _ (c .before .if1 .taken)))
+returns-2 : tie.Need-returns-2
+returns-2 c = rw (c .refused .ensures) (pack-sizes _ _ _ _ (sym (c .before .before .lengths-fit .ensures) ∙ not-true _ (c .before .if2 .taken)))
 
 slice-aggregate-parse : tie.Need-slice-aggregate-parse
 slice-aggregate-parse c = search needs
 
 parse-requires : tie.Need-parse-requires
-parse-requires c κs = (c .before .before .before .before .before .before .before .pre, search needs)
+parse-requires c κs = (omega (arith, c .before .before .before .if1 .left), search needs)
 
 slice-aggregate-packed : tie.Need-slice-aggregate-packed
 slice-aggregate-packed c = search needs
@@ -35,11 +45,11 @@ packed-requires c κs =
     let p = c .before .before .before in
     (_, record { fine = fine (p .before .before); parsed = p .parse .ensures })
 
-same-length : tie.Need-same-length
-same-length c = search needs
+same-length-2 : tie.Need-same-length-2
+same-length-2 c = search needs
 
-returns-2 : tie.Need-returns-2
-returns-2 c =
+returns-3 : tie.Need-returns-3
+returns-3 c =
     let r = c .before .before in
     let p = r .before .before .before .before in
     r .packed .ensures _ (record { fine = fine (p .before .before); parsed = p .parse .ensures })
@@ -48,12 +58,15 @@ pub pack-short-spec : {M : Type 1} → statement M
 pack-short-spec =
     tie.close
     (tie.spec
+    pack-requires
+    same-length
+    returns
     lengths-fit-requires
     refused-requires
-    returns
+    returns-2
     slice-aggregate-parse
     parse-requires
     slice-aggregate-packed
     packed-requires
-    same-length
-    returns-2)
+    same-length-2
+    returns-3)

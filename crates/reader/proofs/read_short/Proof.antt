@@ -1,4 +1,4 @@
--- Each way out is one law of the reading; what was tested on the way is its premise.
+-- A long layout is left to `read`. Of the rest each way out is one law of the reading; what was tested on the way is its premise.
 use lib.ListN.{length}
 use native.Mathlib.Omega.{arith}
 use mathlib.Core.Path.{sym, _∙_}
@@ -11,8 +11,20 @@ use borrow.Author.Needs.{needs}
 use Rattle.reader.proofs.read_short.Statement.{statement}
 use Rattle.reader.proofs.read_short.Tie as tie
 
-sized : (c : tie.Else1) → Fit (length (c .before .before .before .before .before .before .args .layout .now)) (length (c .before .before .before .before .before .before .args .slots .now)) (length (c .before .before .before .before .before .before .args .bytes .now)) (length (c .before .before .before .before .before .before .args .area .now)) (c .before .before .before .before .before .before .args .mark)
-sized c = fit (sym (c .before .sizes-fit .ensures) ∙ not-false _ (c .if1 .left))
+sized : (c : tie.Else2) → Fit (length (c .before .before .before .before .before .before .before .args .layout .now)) (length (c .before .before .before .before .before .before .before .args .slots .now)) (length (c .before .before .before .before .before .before .before .args .bytes .now)) (length (c .before .before .before .before .before .before .before .args .area .now)) (c .before .before .before .before .before .before .before .args .mark)
+sized c = fit (sym (c .before .sizes-fit .ensures) ∙ not-false _ (c .if2 .left))
+
+read-requires : tie.Need-read-requires
+read-requires c κs = search needs
+
+same-length : tie.Need-same-length
+same-length c = search needs
+
+same-length-2 : tie.Need-same-length-2
+same-length-2 c = search needs
+
+returns : tie.Need-returns
+returns c = c .before .before .before .before .read .ensures
 
 sizes-fit-requires : tie.Need-sizes-fit-requires
 sizes-fit-requires c κs = search needs
@@ -20,14 +32,14 @@ sizes-fit-requires c κs = search needs
 refused-requires : tie.Need-refused-requires
 refused-requires c κs = search needs
 
-returns : tie.Need-returns
-returns c = read-refused _ _ _ _ _ (sizes-refuse _ _ _ _ _ (sym (c .before .before .sizes-fit .ensures) ∙ not-true _ (c .before .if1 .taken))) (c .refused .ensures)
+returns-2 : tie.Need-returns-2
+returns-2 c = read-refused _ _ _ _ _ (sizes-refuse _ _ _ _ _ (sym (c .before .before .sizes-fit .ensures) ∙ not-true _ (c .before .if2 .taken))) (c .refused .ensures)
 
 slice-aggregate-parse : tie.Need-slice-aggregate-parse
 slice-aggregate-parse c = search needs
 
 parse-requires : tie.Need-parse-requires
-parse-requires c κs = search needs
+parse-requires c κs = (omega (arith, c .before .before .before .if1 .left), search needs)
 
 enum-known-p : tie.Need-enum-known-p
 enum-known-p c = search needs
@@ -56,28 +68,7 @@ fill-requires : tie.Need-fill-requires
 fill-requires c κs =
     let k = sized (c .before .before .before .before .before .before .before .before .before .before .before) in
     let l = parsed-fields _ _ _ _ _ (c .before .before .before .before .before .before .before .before .before .parse .ensures) (c .before .before .before .before .before .before .p2 .given .1) in
-    ((l .few, l .room, k .whole), sure-room (ready _ _ _ _ _ k l) (sym (c .before .before .before .before .surely-fits .ensures) ∙ c .before .before .before .if2 .taken))
-
-same-length : tie.Need-same-length
-same-length c = search needs
-
-same-length-2 : tie.Need-same-length-2
-same-length-2 c = search needs
-
-returns-2 : tie.Need-returns-2
-returns-2 c =
-    let k = sized (c .before .before .before .before .before .before .before .before .before .before .before .before .before .before .before .before) in
-    let l = parsed-fields _ _ _ _ _ (c .before .before .before .before .before .before .before .before .before .before .before .before .before .before .parse .ensures) (c .before .before .before .before .before .before .before .before .before .before .before .p2 .given .1) in
-    words-read _ _ _ _ _ k l (sure-put (ready _ _ _ _ _ k l) (sym (c .before .before .before .before .before .before .before .before .before .surely-fits .ensures) ∙ c .before .before .before .before .before .before .before .before .if2 .taken) (c .before .before .before .before .fill .ensures))
-
-slice-aggregate-read-words : tie.Need-slice-aggregate-read-words
-slice-aggregate-read-words c = search needs
-
-read-words-requires : tie.Need-read-words-requires
-read-words-requires c κs = ready _ _ _ _ _ (sized (c .before .before .before .before .before .before .before .before .before .before .before)) (parsed-fields _ _ _ _ _ (c .before .before .before .before .before .before .before .before .before .parse .ensures) (c .before .before .before .before .before .before .p2 .given .1))
-
-returns-3 : tie.Need-returns-3
-returns-3 c = read-refused _ _ _ _ _ (parse-refuses _ _ _ _ _ (sized (c .before .before .before .before .before .before .before)) (parsed-refused _ _ _ _ _ (c .before .before .before .before .before .parse .ensures) (c .before .before .p .given .1))) (c .refused2 .ensures)
+    ((l .few, l .room, k .whole), sure-room (ready _ _ _ _ _ k l) (sym (c .before .before .before .before .surely-fits .ensures) ∙ c .before .before .before .if3 .taken))
 
 same-length-3 : tie.Need-same-length-3
 same-length-3 c = search needs
@@ -85,16 +76,41 @@ same-length-3 c = search needs
 same-length-4 : tie.Need-same-length-4
 same-length-4 c = search needs
 
+returns-3 : tie.Need-returns-3
+returns-3 c =
+    let k = sized (c .before .before .before .before .before .before .before .before .before .before .before .before .before .before .before .before) in
+    let l = parsed-fields _ _ _ _ _ (c .before .before .before .before .before .before .before .before .before .before .before .before .before .before .parse .ensures) (c .before .before .before .before .before .before .before .before .before .before .before .p2 .given .1) in
+    words-read _ _ _ _ _ k l (sure-put (ready _ _ _ _ _ k l) (sym (c .before .before .before .before .before .before .before .before .before .surely-fits .ensures) ∙ c .before .before .before .before .before .before .before .before .if3 .taken) (c .before .before .before .before .fill .ensures))
+
+slice-aggregate-read-words : tie.Need-slice-aggregate-read-words
+slice-aggregate-read-words c = search needs
+
+read-words-requires : tie.Need-read-words-requires
+read-words-requires c κs = ready _ _ _ _ _ (sized (c .before .before .before .before .before .before .before .before .before .before .before)) (parsed-fields _ _ _ _ _ (c .before .before .before .before .before .before .before .before .before .parse .ensures) (c .before .before .before .before .before .before .p2 .given .1))
+
 returns-4 : tie.Need-returns-4
-returns-4 c = words-read _ _ _ _ _ (sized (c .before .before .before .before .before .before .before .before .before .before .before .before .before .before .before .before)) (parsed-fields _ _ _ _ _ (c .before .before .before .before .before .before .before .before .before .before .before .before .before .before .parse .ensures) (c .before .before .before .before .before .before .before .before .before .before .before .p2 .given .1)) (c .before .before .before .before .read-words .ensures)
+returns-4 c = read-refused _ _ _ _ _ (parse-refuses _ _ _ _ _ (sized (c .before .before .before .before .before .before .before)) (parsed-refused _ _ _ _ _ (c .before .before .before .before .before .parse .ensures) (c .before .before .p .given .1))) (c .refused2 .ensures)
+
+same-length-5 : tie.Need-same-length-5
+same-length-5 c = search needs
+
+same-length-6 : tie.Need-same-length-6
+same-length-6 c = search needs
+
+returns-5 : tie.Need-returns-5
+returns-5 c = words-read _ _ _ _ _ (sized (c .before .before .before .before .before .before .before .before .before .before .before .before .before .before .before .before)) (parsed-fields _ _ _ _ _ (c .before .before .before .before .before .before .before .before .before .before .before .before .before .before .parse .ensures) (c .before .before .before .before .before .before .before .before .before .before .before .p2 .given .1)) (c .before .before .before .before .read-words .ensures)
 
 pub read-short-spec : {M : Type 1} → statement M
 read-short-spec =
     tie.close
     (tie.spec
+    read-requires
+    same-length
+    same-length-2
+    returns
     sizes-fit-requires
     refused-requires
-    returns
+    returns-2
     slice-aggregate-parse
     parse-requires
     enum-known-p
@@ -105,12 +121,12 @@ read-short-spec =
     surely-fits-requires
     slice-aggregate-fill
     fill-requires
-    same-length
-    same-length-2
-    returns-2
-    slice-aggregate-read-words
-    read-words-requires
-    returns-3
     same-length-3
     same-length-4
-    returns-4)
+    returns-3
+    slice-aggregate-read-words
+    read-words-requires
+    returns-4
+    same-length-5
+    same-length-6
+    returns-5)
