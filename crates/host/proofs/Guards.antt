@@ -51,12 +51,11 @@ too-many size bad whole =
 
 -- ---- small calls
 
--- what the test for the small arrays lets through
-pub short-and-few : {b : Bool} {layout numbers : ℕ} → b ≡ isSmall layout numbers → b ≡ true → (layout ≤ shortLayout) × (numbers ≤ fewNumbers)
+-- the test for the small arrays lets through no more numbers than they hold
+pub few : {b : Bool} {layout numbers : ℕ} → b ≡ isSmall layout numbers → b ≡ true → numbers ≤ fewNumbers
 unfolding isSmall
-short-and-few {b} {layout} {numbers} e h =
-    let (short, few) = and-true (leb layout shortLayout) (leb numbers fewNumbers) (sym e ∙ h) in
-    (leb-true layout shortLayout short, leb-true numbers fewNumbers few)
+few {b} {layout} {numbers} e h =
+    leb-true numbers fewNumbers (and-true (leb layout shortLayout) (leb numbers fewNumbers) (sym e ∙ h) .1)
 
 -- ---- what the calls share
 

@@ -1,22 +1,18 @@
 // Packing for a C host. A short layout and few slots get small arrays: clearing the large ones costs more than a small record.
-ghost use mathlib.Core.Path.{_≡_};
-ghost use Prim.Native.Nat.{_≤_};
-ghost use lib.ListN.{length};
-ghost use Rattle.layout.specs.Layout.{shortLayout};
 ghost use Rattle.host_pack.specs.Calls.{RoomFor, Packs, HostPacks};
 use layout::Refusal;
 use record::Answer;
 
-// Packs by a short layout, with room lent for the slots' numbers.
+// Packs, quicker by a short layout, with room lent for the slots' numbers.
 fn pack_short(layout: &[u8], slots: &[u8], area: &[u8], out: &mut [u8], room: &mut [u32]) -> Answer
-    requires { ⌜ (length (now layout) ≤ shortLayout) × RoomFor (now slots) (now room) ⌝ }
+    requires { ⌜ RoomFor (now slots) (now room) ⌝ }
     ensures { λ a. ⌜ Packs layout slots area out a ⌝ }
 {
     host::numbers::decode(slots, room);
     packer::pack_short(layout, room, area, out)
 }
 
-// The same by any layout.
+// The same, as quick by any layout.
 fn pack_long(layout: &[u8], slots: &[u8], area: &[u8], out: &mut [u8], room: &mut [u32]) -> Answer
     requires { ⌜ RoomFor (now slots) (now room) ⌝ }
     ensures { λ a. ⌜ Packs layout slots area out a ⌝ }

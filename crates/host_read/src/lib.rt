@@ -2,7 +2,6 @@
 ghost use mathlib.Core.Path.{_≡_};
 ghost use Prim.Native.Nat.{_*_, _≤_};
 ghost use lib.ListN.{length};
-ghost use Rattle.layout.specs.Layout.{shortLayout};
 ghost use Rattle.record.specs.Table.{slotWidth};
 ghost use Rattle.host.specs.Host.{numberSize, longReplySize, longReply};
 ghost use Rattle.host_read.specs.Calls.{writtenBack, Reads, HostReads};
@@ -25,7 +24,7 @@ fn read_back(slots: &mut [u8], reply: &mut [u8], room: &[u32], r: ReadAnswer) ->
     host::reply_long(reply, a, r.steps)
 }
 
-// Reads by a short layout, with room lent for the slots' numbers: what stands there does not count.
+// Reads, quicker by a short layout, with room lent for the slots' numbers: what stands there does not count.
 fn read_short(
     layout: &[u8],
     bytes: &[u8],
@@ -35,14 +34,14 @@ fn read_short(
     reply: &mut [u8],
     room: &mut [u32],
 ) -> u32
-    requires { ⌜ (length (now layout) ≤ shortLayout) × (length (now reply) ≡ longReplySize) × (length (now slots) ≡ length (now room) * numberSize) ⌝ }
+    requires { ⌜ (length (now reply) ≡ longReplySize) × (length (now slots) ≡ length (now room) * numberSize) ⌝ }
     ensures { λ n. ⌜ Reads layout bytes slots area mark reply n ⌝ }
 {
     let r = reader::read_short(layout, bytes, room, area, mark);
     read_back(slots, reply, room, r)
 }
 
-// The same by any layout.
+// The same, as quick by any layout.
 fn read_long(
     layout: &[u8],
     bytes: &[u8],

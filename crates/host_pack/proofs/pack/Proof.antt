@@ -6,10 +6,9 @@ use borrow.Author.Tests.{not-true, not-false, eqb-true}
 use mathlib.Core.Bool.{true}
 use lib.Dec.{eqb}
 use lib.ListN.{length}
-use Rattle.layout.specs.Layout.{shortLayout}
 use Rattle.host.specs.Host.{numberSize, replySize, fewNumbers}
 use lib.Seq.{length-take-le}
-use Rattle.host.proofs.Guards.{Fit, fit, room-for, room-whole, short-and-few}
+use Rattle.host.proofs.Guards.{Fit, fit, room-for, room-whole, few}
 use Rattle.host_pack.proofs.Calls.{pack-unwritten, pack-refused, pack-served}
 use borrow.Author.Needs.{needs}
 use Rattle.host_pack.proofs.pack.Statement.{statement}
@@ -48,11 +47,8 @@ served c = fit _ (sym (c .before .slots-fit .ensures) ∙ not-false _ (c .if2 .l
 small-requires : tie.Need-small-requires
 small-requires c κs = search needs
 
-short : (c : tie.Then3) → (length (c .before .before .before .before .before .before .before .before .before .before .before .args .layout .now) ≤ shortLayout) × (length (c .before .before .before .before .before .before .before .before .before .before .before .args .slots .now) / numberSize ≤ fewNumbers)
-short c = short-and-few (c .before .small .ensures) (c .if3 .taken)
-
 array-borrow-prefix-room : tie.Need-array-borrow-prefix-room
-array-borrow-prefix-room c = short (c .before) .1
+array-borrow-prefix-room c = few (c .before .before .small .ensures) (c .before .if3 .taken)
 
 slice-aggregate-pack-short : tie.Need-slice-aggregate-pack-short
 slice-aggregate-pack-short c = sym (length-take-le _ _ (array-borrow-prefix-room (c .before)))
@@ -60,7 +56,7 @@ slice-aggregate-pack-short c = sym (length-take-le _ _ (array-borrow-prefix-room
 pack-short-requires : tie.Need-pack-short-requires
 pack-short-requires c κs =
     let tested = c .before .before in
-    (short tested .0, (room-for _ (served (tested .before .before)) (array-borrow-prefix-room (c .before)), room-whole _ (served (tested .before .before)) (array-borrow-prefix-room (c .before))))
+    (room-for _ (served (tested .before .before)) (array-borrow-prefix-room (c .before)), room-whole _ (served (tested .before .before)) (array-borrow-prefix-room (c .before)))
 
 reply-with-requires-2 : tie.Need-reply-with-requires-2
 reply-with-requires-2 c κs = eqb-true _ _ (sized (c .before .before .before .before .before .before .before .before .before .before .before))

@@ -6,10 +6,9 @@ use borrow.Author.Tests.{not-true, not-false, eqb-true}
 use mathlib.Core.Bool.{true}
 use lib.Dec.{eqb}
 use lib.ListN.{length}
-use Rattle.layout.specs.Layout.{shortLayout}
 use Rattle.host.specs.Host.{numberSize, longReplySize, fewNumbers}
 use lib.Seq.{length-take-le}
-use Rattle.host.proofs.Guards.{Fit, fit, room-for, short-and-few}
+use Rattle.host.proofs.Guards.{Fit, fit, room-for, few}
 use Rattle.host_read.proofs.Calls.{read-unwritten, read-refused, read-served}
 use borrow.Author.Needs.{needs}
 use Rattle.host_read.proofs.read.Statement.{statement}
@@ -48,11 +47,8 @@ served c = fit _ (sym (c .before .slots-fit .ensures) ∙ not-false _ (c .if2 .l
 small-requires : tie.Need-small-requires
 small-requires c κs = search needs
 
-short : (c : tie.Then3) → (length (c .before .before .before .before .before .before .before .before .before .before .before .args .layout .now) ≤ shortLayout) × (length (c .before .before .before .before .before .before .before .before .before .before .before .args .slots .now) / numberSize ≤ fewNumbers)
-short c = short-and-few (c .before .small .ensures) (c .if3 .taken)
-
 array-borrow-prefix-room : tie.Need-array-borrow-prefix-room
-array-borrow-prefix-room c = short (c .before .before .before) .1
+array-borrow-prefix-room c = few (c .before .before .before .before .small .ensures) (c .before .before .before .if3 .taken)
 
 slice-aggregate-read-short : tie.Need-slice-aggregate-read-short
 slice-aggregate-read-short c = sym (length-take-le _ _ (array-borrow-prefix-room (c .before)))
@@ -60,7 +56,7 @@ slice-aggregate-read-short c = sym (length-take-le _ _ (array-borrow-prefix-room
 read-short-requires : tie.Need-read-short-requires
 read-short-requires c κs =
     let tested = c .before .before .before .before in
-    (short tested .0, eqb-true _ _ (sized (tested .before .before .before .before)), room-for _ (served (tested .before .before)) (array-borrow-prefix-room (c .before)))
+    (eqb-true _ _ (sized (tested .before .before .before .before)), room-for _ (served (tested .before .before)) (array-borrow-prefix-room (c .before)))
 
 same-length-2 : tie.Need-same-length-2
 same-length-2 c = search needs
