@@ -21,9 +21,9 @@ use Rattle.record.specs.Geometry.{sizesFit}
 use Rattle.record.specs.Packing.{accepted, refusal}
 use Rattle.record.specs.Reading.{Read, valuesFrom, positionsFrom, reads, putInto, read}
 use Rattle.record.proofs.Tables.{length-slots}
-use Rattle.reader.specs.Checks.{checked}
+use Rattle.checking.specs.Checks.{checked}
 use Rattle.reading.specs.Tables.{TableRoom}
-use Rattle.reader.proofs.Calls.{Fit, fit}
+use Rattle.checking.proofs.Calls.{Fit, fit}
 use Rattle.record.proofs.Readings.{values-few}
 use Rattle.difference.specs.Rows.{reportWidth}
 use Rattle.compare_report.specs.Report.{rows}

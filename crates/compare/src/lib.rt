@@ -18,11 +18,11 @@ pub fn compare(
 ) -> Answer
     ensures { λ r. ⌜ Compares layout first second «first_slots» «first_area» «second_slots» «second_area» report r ⌝ }
 {
-    let a = reader::check(layout, first, first_slots, first_area, 0);
+    let a = checking::check(layout, first, first_slots, first_area, 0);
     if a.number != 0 {
         return a;
     }
-    let b = reader::check(layout, second, second_slots, second_area, 0);
+    let b = checking::check(layout, second, second_slots, second_area, 0);
     if b.number != 0 {
         return b;
     }

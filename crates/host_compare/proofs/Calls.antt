@@ -22,7 +22,7 @@ use Rattle.record.specs.Reading.{reads}
 use Rattle.record.proofs.Bytes.{All}
 use Rattle.record.proofs.Sizes.{too-many as sizes-many}
 use Rattle.record.proofs.Tables.{length-slots}
-use Rattle.reader.specs.Checks.{checked}
+use Rattle.checking.specs.Checks.{checked}
 use Rattle.difference.specs.Rows.{reportWidth}
 use Rattle.compare.specs.Comparing.{Shown, compares, compareEffect, Compared, compare}
 use Rattle.compare.proofs.Calls.{accepted-reads}

@@ -19,7 +19,7 @@ fn refuse_second(layout: &[u8], first: &[u8], slots: &[u32], area: &[u8], reply:
     requires { ⌜ length (now reply) ≡ replySize ⌝ }
     ensures { λ r. ⌜ SecondRefused layout first slots area reply r ⌝ }
 {
-    let a = reader::check(layout, first, slots, area, 0);
+    let a = checking::check(layout, first, slots, area, 0);
     if a.number != 0 {
         return host::reply_with(reply, a);
     }

@@ -2,72 +2,13 @@
 // Two passes over the fields: the first measures, and the second writes. So all is decided before anything is written. Where the lengths alone tell
 // that the values fit, the first is left out.
 ghost use mathlib.Core.Path.{_≡_};
-ghost use Prim.Native.Nat.{_*_, _≤_};
-ghost use lib.ListN.{length};
-ghost use Rattle.layout.specs.Layout.{maxLayout};
 ghost use Rattle.layout.specs.Lent.{before, after};
-ghost use Rattle.record.specs.Table.{slotWidth, maxSlots, maxRecord, valueBytes};
 ghost use Rattle.record.specs.Reading.{readAll};
-ghost use Rattle.reader.specs.Sizes.{lentFits, surelyFits};
-ghost use Rattle.reading.specs.Tables.{valuesOf};
-ghost use Rattle.reader.specs.Checks.{checked, fitting, Ready, ReadsWords};
+ghost use Rattle.reader.specs.Words.{Ready, ReadsWords};
 use layout::Parsed;
 use layout::Refusal;
 use record::Answer;
 use record::ReadAnswer;
-
-// What is lent keeps to its size, the slots are whole, and the mark lies in the area; else number 1 (the table of numbers is in include/curlew.h).
-fn sizes_fit(layout: usize, slots: usize, bytes: usize, area: usize, mark: usize) -> bool
-    ensures { λ r. ⌜ r ≡ lentFits layout slots bytes area mark ⌝ }
-{
-    if !record::lengths_fit(layout, slots, bytes, area) {
-        return false;
-    }
-    mark <= area
-}
-
-// Numbers 5 and 11 for the fields of the words: enough slots for the `taken` that take one, and room for their values; else 0 and how many they are.
-fn fits(words: &[u32], n: usize, taken: usize, bytes: &[u8], slots: usize, room: usize) -> Answer
-    requires { ⌜ (n ≤ length (now words)) × (length (now words) ≤ maxLayout) × (length (now bytes) ≤ maxRecord) × (slots ≤ slotWidth * maxSlots) ⌝ }
-    ensures { λ r. ⌜ r ≡ fitting slots taken room (length (valueBytes (valuesOf n (before words) (before bytes)))) ⌝ }
-{
-    if slots / record::SLOT_WIDTH < taken {
-        return Answer::refused(Refusal::WrongSlots, 0);
-    }
-    let size = reading::measure::measure(words, n, bytes);
-    if room < size {
-        return Answer::refused(Refusal::NoRoom, 0);
-    }
-    Answer::accepted(taken as u32, 0)
-}
-
-// Whether `read` would refuse, and how; else 0, the fields that take a slot, and 0. Nothing is written.
-pub fn check(layout: &[u8], bytes: &[u8], slots: &[u32], area: &[u8], mark: usize) -> Answer
-    ensures { λ r. ⌜ r ≡ checked (before layout) (before bytes) (before slots) (before area) mark ⌝ }
-{
-    if !sizes_fit(layout.len(), slots.len(), bytes.len(), area.len(), mark) {
-        return Answer::refused(Refusal::BadSize, 0);
-    }
-    let mut words: [u32; layout::MAX_LAYOUT] = [0; layout::MAX_LAYOUT];
-    let p = parser::parse(layout, false, &mut words);
-    match p {
-        Parsed::Refused(why, place) => Answer::refused(why, place as u32),
-        Parsed::Fields(n, taken) => {
-            fits(&words, n, taken, bytes, slots.len(), area.len() - mark)
-        }
-    }
-}
-
-// There are room and slots enough whatever the record holds: a value takes at most 8 bytes of the area for each byte of the record.
-fn surely_fits(n: usize, taken: usize, bytes: usize, slots: usize, room: usize) -> bool
-    requires { ⌜ (n ≤ maxLayout) × (bytes ≤ maxRecord) ⌝ }
-    ensures { λ r. ⌜ r ≡ surelyFits n taken bytes slots room ⌝ }
-{
-    if room < 8 * (n * bytes) {
-        return false;
-    }
-    taken <= slots / record::SLOT_WIDTH
-}
 
 // Reads by the fields of the words. Their values are measured only where it is not sure without it that they fit.
 fn read_words(
@@ -82,10 +23,10 @@ fn read_words(
     requires { ⌜ Ready n taken (now words) (now bytes) (now slots) (now area) mark ⌝ }
     ensures { λ r. ⌜ ReadsWords n taken words bytes slots area mark r ⌝ }
 {
-    if surely_fits(n, taken, bytes.len(), slots.len(), area.len() - mark) {
+    if checking::surely_fits(n, taken, bytes.len(), slots.len(), area.len() - mark) {
         return reading::table::fill(words, n, bytes, slots, area, mark);
     }
-    let a = fits(words, n, taken, bytes, slots.len(), area.len() - mark);
+    let a = checking::fits(words, n, taken, bytes, slots.len(), area.len() - mark);
     if a.number != 0 {
         return ReadAnswer {
             answer: a,
@@ -96,7 +37,7 @@ fn read_words(
 }
 
 // Reads a record by a layout: sets slots from the first on, and puts their values into the area from the mark on. A refusal changes nothing.
-// (It checks as `check` does and does not call it: the words stay here, and a call that fills them for its caller costs more than the checks.)
+// (It checks as `checking::check` does and does not call it: the words stay here, and a call that fills them for its caller costs more than the checks.)
 pub fn read(
     layout: &[u8],
     bytes: &[u8],
@@ -106,7 +47,7 @@ pub fn read(
 ) -> ReadAnswer
     ensures { λ r. ⌜ record { answer = r; slots = after slots; area = after area } ≡ readAll (before layout) (before bytes) (before slots) (before area) mark ⌝ }
 {
-    if !sizes_fit(layout.len(), slots.len(), bytes.len(), area.len(), mark) {
+    if !checking::sizes_fit(layout.len(), slots.len(), bytes.len(), area.len(), mark) {
         return ReadAnswer {
             answer: Answer::refused(Refusal::BadSize, 0),
             steps: 0,
@@ -137,7 +78,7 @@ pub fn read_short(
     if layout::SHORT_LAYOUT < layout.len() {
         return read(layout, bytes, slots, area, mark);
     }
-    if !sizes_fit(layout.len(), slots.len(), bytes.len(), area.len(), mark) {
+    if !checking::sizes_fit(layout.len(), slots.len(), bytes.len(), area.len(), mark) {
         return ReadAnswer {
             answer: Answer::refused(Refusal::BadSize, 0),
             steps: 0,
@@ -151,7 +92,7 @@ pub fn read_short(
             steps: 0,
         },
         Parsed::Fields(n, taken) => {
-            if surely_fits(n, taken, bytes.len(), slots.len(), area.len() - mark) {
+            if checking::surely_fits(n, taken, bytes.len(), slots.len(), area.len() - mark) {
                 return reading::table::fill(&words, n, bytes, slots, area, mark);
             }
             read_words(&words, n, taken, bytes, slots, area, mark)

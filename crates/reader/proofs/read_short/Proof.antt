@@ -6,7 +6,8 @@ use mathlib.Core.Bool.{false}
 use borrow.Author.Tests.{not-true, not-false}
 use Rattle.layout.proofs.Decoded.{parsed-fields, parsed-refused}
 use Rattle.layout.proofs.Places.{refused-inside}
-use Rattle.reader.proofs.Calls.{Fit, fit, read-refused, sizes-refuse, parse-refuses, ready, words-read, sure-room, sure-put}
+use Rattle.checking.proofs.Calls.{Fit, fit, sizes-refuse, parse-refuses}
+use Rattle.reader.proofs.Calls.{read-refused, ready, words-read, sure-room, sure-put}
 use borrow.Author.Needs.{needs}
 use Rattle.reader.proofs.read_short.Statement.{statement}
 use Rattle.reader.proofs.read_short.Tie as tie

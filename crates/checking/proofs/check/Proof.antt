@@ -7,11 +7,11 @@ use mathlib.Core.Bool.{false}
 use borrow.Author.Tests.{not-true, not-false}
 use Rattle.layout.proofs.Decoded.{parsed-fields, parsed-refused}
 use Rattle.layout.proofs.Places.{refused-inside}
-use Rattle.reader.proofs.Calls.{Fit, fit, check-refused, sizes-refuse, parse-refuses, check-fits}
+use Rattle.checking.proofs.Calls.{Fit, fit, check-refused, sizes-refuse, parse-refuses, check-fits}
 use borrow.Author.Needs.{needs}
 use Rattle.layout.specs.Layout.{maxLayout}
-use Rattle.reader.proofs.check.Statement.{statement}
-use Rattle.reader.proofs.check.Tie as tie
+use Rattle.checking.proofs.check.Statement.{statement}
+use Rattle.checking.proofs.check.Tie as tie
 
 sized : (c : tie.Else1) → Fit (length (c .before .before .before .before .before .before .args .layout .now)) (length (c .before .before .before .before .before .before .args .slots .now)) (length (c .before .before .before .before .before .before .args .bytes .now)) (length (c .before .before .before .before .before .before .args .area .now)) (c .before .before .before .before .before .before .args .mark)
 sized c = fit (sym (c .before .sizes-fit .ensures) ∙ not-false _ (c .if1 .left))

@@ -1,8 +1,8 @@
 -- The two tests are those of `fitting`.
-use Rattle.reader.proofs.Calls.{fitting-slots, fitting-room, fitting-all}
+use Rattle.checking.proofs.Calls.{fitting-slots, fitting-room, fitting-all}
 use borrow.Author.Needs.{needs}
-use Rattle.reader.proofs.fits.Statement.{statement}
-use Rattle.reader.proofs.fits.Tie as tie
+use Rattle.checking.proofs.fits.Statement.{statement}
+use Rattle.checking.proofs.fits.Tie as tie
 
 refused-requires : tie.Need-refused-requires
 refused-requires c κs = search needs

@@ -4,8 +4,8 @@ use borrow.Author.Tests.{le-leb, lt-leb}
 use Rattle.layout.specs.Layout.{maxLayout}
 use Rattle.record.specs.Table.{maxRecord}
 use Rattle.record.proofs.Bounds.{product-small}
-use Rattle.reader.proofs.surely_fits.Statement.{statement}
-use Rattle.reader.proofs.surely_fits.Tie as tie
+use Rattle.checking.proofs.surely_fits.Statement.{statement}
+use Rattle.checking.proofs.surely_fits.Tie as tie
 
 mul-if1 : tie.Need-mul-if1
 mul-if1 c = omega (arith, product-small (c .args .n) (c .args .bytes) maxLayout maxRecord (c .pre .0) (c .pre .1))

@@ -1,0 +1,3 @@
+-- What the deciding functions promise.
+pub mod Sizes
+pub mod Checks
