@@ -21,10 +21,11 @@ use Rattle.record.specs.Packing.{finished, start, cursorOf, packAll, filled, pa
 use Rattle.measuring.specs.declared.Measured.the-variants.{Length, Refused}
 use Rattle.record.specs.Cursor.{origin}
 use Rattle.measuring.specs.Measure.{checked, HasRoom, measuredOf}
-use Rattle.packer.specs.Writing.{written, Read}
+use Rattle.writing.specs.Writing.{written}
+use Rattle.packer.specs.Whole.{Read}
 use Rattle.record.proofs.Sizes.{Sized, sized}
 use Rattle.record.proofs.Tables.{length-slots}
-use Rattle.packer.proofs.RunLaws.{measured-as, written-as}
+use Rattle.writing.proofs.RunLaws.{measured-as, written-as}
 
 -- ---- the end of a call
 

@@ -1,2 +1,2 @@
--- What the writing pass computes. The definition of packing itself stands in the crate `record`.
-pub mod Writing
+-- What is left of a call after each step. The definition of packing itself stands in the crate `record`.
+pub mod Whole

@@ -7,13 +7,11 @@ ghost use Rattle.layout.specs.Lent.{before, after};
 ghost use Rattle.record.specs.Table.{maxRecord};
 ghost use Rattle.record.specs.Packing.{pack};
 ghost use Rattle.measuring.specs.Measure.{Prepared};
-ghost use Rattle.packer.specs.Writing.{finishes, Readable, PacksAsRead};
+ghost use Rattle.packer.specs.Whole.{finishes, Readable, PacksAsRead};
 use layout::Parsed;
 use layout::Refusal;
 use measuring::Measured;
 use record::Answer;
-
-mod write;
 
 // What is left once there is a slot for each field that takes one.
 fn finish(words: &[u32], n: usize, slots: &[u32], area: &[u8], output: &mut [u8]) -> Answer
@@ -27,7 +25,7 @@ fn finish(words: &[u32], n: usize, slots: &[u32], area: &[u8], output: &mut [u8]
             if output.len() < len {
                 return Answer::refused(Refusal::NoRoom, 0);
             }
-            write::write(words, n, slots, area, output);
+            writing::write(words, n, slots, area, output);
             Answer::accepted(len as u32, 0)
         }
     }

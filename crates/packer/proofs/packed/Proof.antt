@@ -8,7 +8,7 @@ use Rattle.layout.specs.Layout.{fieldsOf}
 use Rattle.layout.specs.Refusals.{refused}
 use Rattle.layout.proofs.Decoded.{Learnt, parsed-fields, parsed-refused}
 use Rattle.layout.proofs.Places.{refused-inside}
-use Rattle.packer.specs.Writing.{Read}
+use Rattle.packer.specs.Whole.{Read}
 use Rattle.packer.proofs.WholeLaws.{pack-refused, pack-slots, pack-finish, other-slots, same-slots, read-sized}
 use borrow.Author.Needs.{needs}
 use Rattle.packer.proofs.packed.Statement.{statement}

@@ -26,13 +26,13 @@ use Rattle.record.specs.Slots.{slotAt}
 use Rattle.record.specs.Cursor.{origin, past}
 use Rattle.measuring.specs.Measure.{advance, stepped, checked, HasRoom}
 use Rattle.stores.specs.Stored.{Storable}
-use Rattle.packer.specs.Writing.{put, written, Movable, Puttable, Writable}
+use Rattle.writing.specs.Writing.{put, written, Movable, Puttable, Writable}
 use Rattle.record.proofs.SlotLaws.{next-slot}
 use Rattle.measuring.proofs.Bounds.{advance-within}
 use Rattle.arguments.proofs.ArgumentLaws.{checked-argument}
 use Rattle.stores.proofs.StoreLaws.{amounts-enough}
 use Rattle.measuring.proofs.MeasureLaws.{stepped-advance, Standing, standing-none, field-here, standing-next, standing-slot, slot-here}
-use Rattle.packer.proofs.RunLaws.{room-ok, room-step, room-end}
+use Rattle.writing.proofs.RunLaws.{room-ok, room-step, room-end}
 
 -- ---- one field
 

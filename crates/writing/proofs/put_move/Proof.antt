@@ -7,10 +7,10 @@ use Rattle.layout.specs.declared.Motion.the-variants.{Skip, Goto}
 use Rattle.record.specs.declared.Cursor.{Cursor}
 use Rattle.record.specs.Bytes.{storeAt}
 use Rattle.record.specs.Geometry.{gotoIn}
-use Rattle.packer.specs.Writing.{Movable}
+use Rattle.writing.specs.Writing.{Movable}
 use borrow.Author.Needs.{needs}
-use Rattle.packer.proofs.write.put_move.Statement.{statement}
-use Rattle.packer.proofs.write.put_move.Tie as tie
+use Rattle.writing.proofs.put_move.Statement.{statement}
+use Rattle.writing.proofs.put_move.Tie as tie
 
 enum-told : tie.Need-enum-told
 enum-told c = search needs

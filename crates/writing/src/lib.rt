@@ -1,4 +1,4 @@
-// The writing pass: every field stored in the output.
+// The writing pass of a packing: every field is stored in the output. What was checked and measured before is relied on.
 ghost use mathlib.Core.Path.{_≡_};
 ghost use lib.ListN.{length};
 ghost use Rattle.layout.specs.Words.{decoded, fieldOf};
@@ -6,7 +6,7 @@ ghost use Rattle.layout.specs.Lent.{before, after};
 ghost use Rattle.record.specs.Table.{slotsOf};
 ghost use Rattle.record.specs.Slots.{slotAt};
 ghost use Rattle.record.specs.Cursor.{origin, moved};
-ghost use Rattle.packer.specs.Writing.{putMove, written, Puts, Movable, Puttable, Writable};
+ghost use Rattle.writing.specs.Writing.{putMove, written, Puts, Movable, Puttable, Writable};
 use layout::Code;
 use layout::Count;
 use layout::Motion;

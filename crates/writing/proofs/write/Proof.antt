@@ -4,9 +4,9 @@ use native.Mathlib.Omega.{arith}
 use lib.ListN.{getD}
 use borrow.Author.Needs.{needs}
 use Rattle.layout.proofs.Decoded.{SlotsIn, word-told}
-use Rattle.packer.proofs.WriteLaws.{Writing, writing-none, writing-done, writing-ready, writing-next}
-use Rattle.packer.proofs.write.write.Statement.{statement}
-use Rattle.packer.proofs.write.write.Tie as tie
+use Rattle.writing.proofs.WriteLaws.{Writing, writing-none, writing-done, writing-ready, writing-next}
+use Rattle.writing.proofs.write.Statement.{statement}
+use Rattle.writing.proofs.write.Tie as tie
 
 abbrev Inv-loop : tie.InvT-loop
 Inv-loop words n slots area out₀ c₀ k₀ i₀ out c k i = Writing area n words slots out₀ out i k c

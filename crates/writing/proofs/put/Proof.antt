@@ -8,11 +8,11 @@ use Rattle.layout.specs.Words.{shapeNumbered, countFrom, flagUnit, countUnit}
 use Rattle.layout.proofs.Decoded.{word-shape, word-count}
 use Rattle.record.specs.Geometry.{amount}
 use Rattle.stores.specs.Stored.{Storable}
-use Rattle.packer.specs.Writing.{put, Puttable}
-use Rattle.packer.proofs.WriteLaws.{puttable-data, storable, put-data, movable, no-value}
+use Rattle.writing.specs.Writing.{put, Puttable}
+use Rattle.writing.proofs.WriteLaws.{puttable-data, storable, put-data, movable, no-value}
 use borrow.Author.Needs.{needs}
-use Rattle.packer.proofs.write.put.Statement.{statement}
-use Rattle.packer.proofs.write.put.Tie as tie
+use Rattle.writing.proofs.put.Statement.{statement}
+use Rattle.writing.proofs.put.Tie as tie
 
 as-data : (c : tie.Then1)
     → Puttable (c .before .before .before .before .args .area .now) (c .before .before .before .before .args .slots .now) (c .before .before .before .before .args .k) (c .before .before .before .before .args .c) (Data (shapeNumbered (c .before .before .before .before .args .word % flagUnit))) (countFrom (c .before .before .before .before .args .word / countUnit)) (length (c .before .before .before .before .args .out .now))

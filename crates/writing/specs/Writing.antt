@@ -1,7 +1,6 @@
 -- The writing pass: the fields put into the lent buffer one after the other.
 use Prim.Native.Nat.{ℕ, _-_, _≤_}
 use mathlib.Core.Path.{_≡_}
-use mathlib.Core.Bool.{true}
 use mathlib.Core.List.{List, [], _∷_}
 use lib.ListN.{drop, replicate}
 use Rattle.layout.specs.declared.Code.{Code}
@@ -10,16 +9,13 @@ use Rattle.layout.specs.declared.Motion.{Motion}
 use Rattle.layout.specs.declared.Motion.the-variants.{Skip, Back, Goto}
 use Rattle.layout.specs.declared.Count.{Count}
 use Rattle.layout.specs.declared.Field.{Field}
-use Rattle.layout.specs.declared.Parsed.{Parsed}
-use Rattle.layout.specs.Layout.{fieldsOf}
-use Rattle.layout.specs.Words.{slotsTaken, decoded, fieldOf, Parses}
-use Rattle.record.specs.declared.Answer.{Answer}
+use Rattle.layout.specs.Words.{slotsTaken, decoded, fieldOf}
 use Rattle.record.specs.declared.Cursor.{Cursor}
 use Rattle.record.specs.Bytes.{storeAt}
 use Rattle.record.specs.declared.slots.Slot.{Slot}
 use Rattle.record.specs.Table.{slotsOf, shown, maxRecord}
-use Rattle.record.specs.Geometry.{amount, gotoIn, sizesFit}
-use Rattle.record.specs.Packing.{stored, nextSlot, finished, Packed, packEffect, pack}
+use Rattle.record.specs.Geometry.{amount, gotoIn}
+use Rattle.record.specs.Packing.{stored, nextSlot}
 use Rattle.record.specs.Slots.{slotAt}
 use Rattle.record.specs.Cursor.{origin, moved}
 use Rattle.measuring.specs.Measure.{advance, stepped, checked, HasRoom, Ready, Prepared}
@@ -45,23 +41,6 @@ unfolding put
 written area ts [] c out = out
 written area ts (f ∷ fs) c out =
     written area (drop (slotsTaken f) ts) fs (advance c (f .code) (f .count) (nextSlot ts .len)) (put area (nextSlot ts) out c (f .code) (f .count))
-
--- what a call leaves, once there is a slot for each of the fields in the first n words that takes one
-abbrev pub finishes : List ℕ → ℕ → List ℕ → List ℕ → List ℕ → Packed
-finishes words n slots area output = packEffect output (finished area (slotsOf slots) (decoded n words) output)
-
--- the sizes fit, and `parse` read the layout as p and these words
-pub record Read (p : Parsed) (ws slots area output layout : List ℕ) : Type 0 where
-  pub fine : sizesFit layout slots output area ≡ true
-  pub parsed : Parses (fieldsOf true layout) p ws
-
-abbrev pub Readable : Parsed → List ℕ → List ℕ → List ℕ → List ℕ → Type 0
-Readable p ws slots area output = (layout : List ℕ) × Read p ws slots area output layout
-
--- answer and output are those of a packing by the layout that was so read
-abbrev pub PacksAsRead : Parsed → List ℕ → List ℕ → List ℕ → List ℕ → Answer → List ℕ → Type 0
-PacksAsRead p ws slots area output r output′ =
-    (layout : List ℕ) → Read p ws slots area output layout → record { answer = r; output = output′ } ≡ pack layout slots area output
 
 -- ---- what the code relies on
 

@@ -27,7 +27,7 @@ use Rattle.record.proofs.Fields.{length-stored}
 use Rattle.record.proofs.Moves.{Within, length-store, pack-within, held, store-held}
 use Rattle.record.specs.Cursor.{past, moved}
 use Rattle.measuring.specs.Measure.{advance, stepped, checked, HasRoom}
-use Rattle.packer.specs.Writing.{putMove, put, written}
+use Rattle.writing.specs.Writing.{putMove, put, written}
 use Rattle.arguments.proofs.ArgumentLaws.{Checked, checked-argument}
 use Rattle.stores.proofs.StoreLaws.{length-shown, served}
 use Rattle.measuring.proofs.MeasureLaws.{stepped-advance}

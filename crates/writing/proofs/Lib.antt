@@ -1,0 +1,3 @@
+-- Laws of the writing pass; RunLaws is for the crates above too.
+pub mod RunLaws
+mod WriteLaws
