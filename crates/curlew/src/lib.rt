@@ -1,7 +1,8 @@
 // The calls that a C host links to, each under its C name: the crates host_* hold what they do.
 ghost use Rattle.host_pack.specs.Calls.{HostPacks};
 ghost use Rattle.host_read.specs.Calls.{HostReads};
-ghost use Rattle.host_sheet.specs.Calls.{HostWritesSheet, HostReadsSheet};
+ghost use Rattle.host_sheet_write.specs.Calls.{HostWritesSheet};
+ghost use Rattle.host_sheet_read.specs.Calls.{HostReadsSheet};
 ghost use Rattle.host_rescue.specs.Calls.{HostRescues};
 ghost use Rattle.host_compare.specs.Calls.{HostCompares};
 ghost use Rattle.host_mean.specs.Calls.{HostMeans};
@@ -47,7 +48,7 @@ pub extern "C" fn curlew_sheet_write(
 ) -> u32
     ensures { λ r. ⌜ HostWritesSheet slots area sheet reply r ⌝ }
 {
-    host_sheet::write(slots, area, sheet, reply)
+    host_sheet_write::write(slots, area, sheet, reply)
 }
 
 // Reads a sheet, and sets slots and area.
@@ -61,7 +62,7 @@ pub extern "C" fn curlew_sheet_read(
 ) -> u32
     ensures { λ r. ⌜ HostReadsSheet sheet slots area mark reply r ⌝ }
 {
-    host_sheet::read(sheet, slots, area, mark, reply)
+    host_sheet_read::read(sheet, slots, area, mark, reply)
 }
 
 // Keeps what is whole at the front of a damaged sheet, and sets slots and area.

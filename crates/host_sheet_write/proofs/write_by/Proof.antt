@@ -1,8 +1,8 @@
 -- The numbers are decoded, the call on numbers writes, and its answer is the reply.
-use Rattle.host_sheet.proofs.Calls.{write-replied}
+use Rattle.host_sheet_write.proofs.Calls.{write-replied}
 use borrow.Author.Needs.{needs}
-use Rattle.host_sheet.proofs.write_by.Statement.{statement}
-use Rattle.host_sheet.proofs.write_by.Tie as tie
+use Rattle.host_sheet_write.proofs.write_by.Statement.{statement}
+use Rattle.host_sheet_write.proofs.write_by.Tie as tie
 
 decode-requires : tie.Need-decode-requires
 decode-requires c κs = search needs

@@ -15,50 +15,19 @@ use Rattle.record.specs.Table.{maxSlots, slotWidth}
 use Rattle.record.specs.Packing.{refusal}
 use Rattle.record.proofs.Bytes.{All}
 use Rattle.record.proofs.Readings.{over}
-use Rattle.host.specs.Host.{numberSize, replySize, numbersIn, bytesOf, replyOf, packCall, readCall, slotsFit}
+use Rattle.host.specs.Host.{numberSize, replySize, numbersIn, bytesOf, replyOf, readCall, slotsFit}
 use Rattle.host.proofs.NumberLaws.{length-numbersIn}
 use Rattle.host.proofs.Guards.{Fit, guarded-unwritten, guarded-refused, guarded-served}
 use Rattle.host.proofs.Calls as host
-use Rattle.sheet.specs.Sheet.{writes, write, reads, read}
+use Rattle.sheet.specs.Sheet.{reads, read}
 use Rattle.sheet.proofs.Unset.{read-over}
-use Rattle.host_sheet.specs.Calls.{curlewSheetWrite, curlewSheetRead}
+use Rattle.host_sheet_read.specs.Calls.{curlewSheetRead}
 
 -- more slots than a call may be lent are refused with 1
 module _ (ns area sheet : List ℕ) (many : slotWidth * maxSlots < length ns) where
-  write-many : record { answer = refusal BadSize 0; output = sheet } ≡ write ns area sheet
-  unfolding write writes
-  write-many = rw (lt-leb (length ns) (slotWidth * maxSlots) many)
-
   read-many : (mark : ℕ) → record { answer = refusal BadSize 0; slots = ns; area = area } ≡ read sheet ns area mark
   unfolding read reads
   read-many mark = rw (lt-leb (length ns) (slotWidth * maxSlots) many)
-
--- ---- writing
-
-module _ (slots area sheet : List ℕ) where
-  -- the call on numbers, and the reply
-  pub write-replied : {ns out reply′ : List ℕ} {a : Answer} {r : ℕ} → ns ≡ numbersIn slots → record { answer = a; output = out } ≡ write ns area sheet → (r ≡ a .number) × (reply′ ≡ replyOf a)
-      → record { returned = r; output = out; reply = reply′ } ≡ packCall (write (numbersIn slots) area sheet)
-  write-replied e p q = host.pack-replied q (p ∙ ap (λ (n : List ℕ). write n area sheet) e)
-
-  module _ (reply : List ℕ) where
-    pub write-unwritten : eqb (length reply) replySize ≡ false → record { returned = numberOf BadSize; output = sheet; reply = reply } ≡ curlewSheetWrite slots area sheet reply
-    unfolding curlewSheetWrite
-    write-unwritten h = guarded-unwritten replySize reply slots _ _ _ h
-
-    module _ (sized : eqb (length reply) replySize ≡ true) where
-      pub write-refused : {a : Answer} {r : ℕ} {reply′ : List ℕ} → slotsFit (length slots) ≡ false → a ≡ refusal BadSize 0 → (r ≡ a .number) × (reply′ ≡ replyOf a)
-          → record { returned = r; output = sheet; reply = reply′ } ≡ curlewSheetWrite slots area sheet reply
-      unfolding curlewSheetWrite
-      write-refused bad e q =
-          host.pack-replied q (ap (λ (x : Answer). record { answer = x; output = sheet }) e)
-          ∙ guarded-refused replySize reply slots _ _ _ sized bad (λ many. ap packCall (write-many (numbersIn slots) area sheet many))
-
-      pub write-served : Fit (length slots) → packCall (write (numbersIn slots) area sheet) ≡ curlewSheetWrite slots area sheet reply
-      unfolding curlewSheetWrite
-      write-served f = guarded-served replySize reply slots _ _ _ sized f
-
--- ---- reading
 
 module _ (sheet slots area : List ℕ) (mark : ℕ) where
   module _ (ns : List ℕ) {ns′ area′ reply′ : List ℕ} {a : Answer} {r : ℕ} (size : length slots ≡ length ns * numberSize) (p : record { answer = a; slots = ns′; area = area′ } ≡ read sheet ns area mark)

@@ -1,4 +1,4 @@
--- Writing and reading sheets for a C host (02, M-100). THE EFFECT OF A CALL is `curlewSheetWrite` and `curlewSheetRead`.
+-- Reading sheets for a C host (02, M-100). THE EFFECT OF A CALL is `curlewSheetRead`.
 use Prim.Native.Nat.{ℕ}
 use mathlib.Core.Path.{_≡_}
 use mathlib.Core.List.{List}
@@ -6,25 +6,8 @@ use Rattle.layout.specs.declared.Refusal.the-variants.{BadSize}
 use Rattle.layout.specs.Refusals.{numberOf}
 use Rattle.layout.specs.Lent.{Lent, before, after}
 use Rattle.record.specs.Packing.{refusal}
-use Rattle.host.specs.Host.{replySize, numbersIn, PackCall, packCall, ReadCall, readCall, guarded}
-use Rattle.sheet.specs.Sheet.{write, read}
-
-unfoldable pub curlewSheetWrite : List ℕ → List ℕ → List ℕ → List ℕ → PackCall
-unfolding packCall numbersIn write
-curlewSheetWrite slots area buffer reply =
-    guarded replySize reply slots
-    (record { returned = numberOf BadSize; output = buffer; reply = reply })
-    (packCall (record { answer = refusal BadSize 0; output = buffer }))
-    (packCall (write (numbersIn slots) area buffer))
-
--- what a call promises that returned r; and the same where the reply is written and the slots are whole
-abbrev pub HostWritesSheet : Lent → Lent → Lent → Lent → ℕ → Type 0
-HostWritesSheet slots area sheet reply r =
-    record { returned = r; output = after sheet; reply = after reply } ≡ curlewSheetWrite (before slots) (before area) (before sheet) (before reply)
-
-abbrev pub WriteServed : Lent → Lent → Lent → Lent → ℕ → Type 0
-WriteServed slots area sheet reply r =
-    record { returned = r; output = after sheet; reply = after reply } ≡ packCall (write (numbersIn (before slots)) (before area) (before sheet))
+use Rattle.host.specs.Host.{replySize, numbersIn, ReadCall, readCall, guarded}
+use Rattle.sheet.specs.Sheet.{read}
 
 unfoldable pub curlewSheetRead : List ℕ → List ℕ → List ℕ → ℕ → List ℕ → ReadCall
 unfolding readCall numbersIn read
@@ -34,6 +17,7 @@ curlewSheetRead sheet slots area mark reply =
     (readCall slots (record { answer = refusal BadSize 0; slots = numbersIn slots; area = area }))
     (readCall slots (read sheet (numbersIn slots) area mark))
 
+-- what a call promises that returned r; and the same where the reply is written and the slots are whole
 abbrev pub HostReadsSheet : Lent → Lent → Lent → ℕ → Lent → ℕ → Type 0
 HostReadsSheet sheet slots area mark reply r =
     record { returned = r; slots = after slots; area = after area; reply = after reply } ≡ curlewSheetRead (before sheet) (before slots) (before area) mark (before reply)

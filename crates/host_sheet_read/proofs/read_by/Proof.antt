@@ -1,10 +1,10 @@
 -- The call on numbers reads over slots of any content, and its answer is the reply; an accepted one writes back the slots that it set.
 use Rattle.record.proofs.Bytes.{all-below}
 use Rattle.sheet.proofs.Unset.{set-few}
-use Rattle.host_sheet.proofs.Calls.{read-left, read-set}
+use Rattle.host_sheet_read.proofs.Calls.{read-left, read-set}
 use borrow.Author.Needs.{needs}
-use Rattle.host_sheet.proofs.read_by.Statement.{statement}
-use Rattle.host_sheet.proofs.read_by.Tie as tie
+use Rattle.host_sheet_read.proofs.read_by.Statement.{statement}
+use Rattle.host_sheet_read.proofs.read_by.Tie as tie
 
 read-requires : tie.Need-read-requires
 read-requires c κs = search needs

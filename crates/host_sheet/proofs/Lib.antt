@@ -1,2 +1,0 @@
--- Laws of sheets for a C host.
-mod Calls

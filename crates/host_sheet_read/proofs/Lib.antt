@@ -1,0 +1,2 @@
+-- Laws of reading sheets for a C host.
+mod Calls

@@ -1,0 +1,2 @@
+-- What reading sheets for a C host means.
+pub mod Calls

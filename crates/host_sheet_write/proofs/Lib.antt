@@ -1,0 +1,2 @@
+-- Laws of writing sheets for a C host.
+mod Calls

@@ -1,0 +1,2 @@
+-- What writing sheets for a C host means.
+pub mod Calls
