@@ -52,9 +52,9 @@ too-many size bad whole =
 -- ---- small calls
 
 -- the test for the small arrays lets through no more numbers than they hold
-pub few : {b : Bool} {layout numbers : ℕ} → b ≡ isSmall layout numbers → b ≡ true → numbers ≤ fewNumbers
+pub few : {b : Bool} (layout : ℕ) {numbers : ℕ} → b ≡ isSmall layout numbers → b ≡ true → numbers ≤ fewNumbers
 unfolding isSmall
-few {b} {layout} {numbers} e h =
+few {b} layout {numbers} e h =
     leb-true numbers fewNumbers (and-true (leb layout shortLayout) (leb numbers fewNumbers) (sym e ∙ h) .1)
 
 -- ---- what the calls share

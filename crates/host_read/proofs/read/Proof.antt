@@ -48,7 +48,7 @@ small-requires : tie.Need-small-requires
 small-requires c κs = search needs
 
 array-borrow-prefix-room : tie.Need-array-borrow-prefix-room
-array-borrow-prefix-room c = few (c .before .before .before .before .small .ensures) (c .before .before .before .if3 .taken)
+array-borrow-prefix-room c = few _ (c .before .before .before .before .small .ensures) (c .before .before .before .if3 .taken)
 
 slice-aggregate-read-short : tie.Need-slice-aggregate-read-short
 slice-aggregate-read-short c = sym (length-take-le _ _ (array-borrow-prefix-room (c .before)))
