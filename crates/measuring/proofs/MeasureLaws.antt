@@ -30,7 +30,8 @@ use Rattle.measuring.specs.declared.Stepped.the-variants.{Next, Stop}
 use Rattle.measuring.specs.declared.Measured.the-variants.{Length}
 use Rattle.measuring.specs.declared.Measured.the-variants as measured
 use Rattle.record.specs.Slots.{slotAt}
-use Rattle.arguments.specs.Checks.{verdictOf, Sound}
+use Rattle.arguments.specs.Checks.{verdictOf}
+use Rattle.quick_check.specs.Quick.{Sound}
 use Rattle.record.specs.Cursor.{origin, past}
 use Rattle.measuring.specs.Measure.{advance, stepped, checked, Prepared, Ready, steppedOf, measuredOf, Measures}
 use Rattle.record.proofs.SlotLaws.{next-slot}

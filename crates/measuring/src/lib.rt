@@ -68,7 +68,7 @@ fn step(word: u32, slots: &[u32], area: &[u8], k: usize, c: Cursor) -> Stepped
     if d <= layout::LAST_DATA {
         let a = slot_table::slot_at(slots, k);
         let n = layout::count_from(word / layout::COUNT_UNIT);
-        if arguments::serves(d, n, a, area) {
+        if quick_check::serves(d, n, a, area) {
             let bytes = record::bytes_numbered(d, record::amount(n, a.len));
             return Stepped::Next(c.store(bytes));
         }

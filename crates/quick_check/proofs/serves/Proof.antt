@@ -1,8 +1,8 @@
 -- The types above the last digits are integers, and above the last of these reals.
 use Rattle.layout.proofs.Numbered.{shape-integers}
 use borrow.Author.Needs.{needs}
-use Rattle.arguments.proofs.serves.Statement.{statement}
-use Rattle.arguments.proofs.serves.Tie as tie
+use Rattle.quick_check.proofs.serves.Statement.{statement}
+use Rattle.quick_check.proofs.serves.Tie as tie
 
 reals-serve-requires : tie.Need-reals-serve-requires
 reals-serve-requires c κs = search needs

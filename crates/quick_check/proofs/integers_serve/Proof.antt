@@ -1,8 +1,8 @@
 -- Each test that fails answers false, which says nothing; past them the amount decides.
-use Rattle.arguments.proofs.ArgumentLaws.{none-sound, integers-sound}
+use Rattle.quick_check.proofs.QuickLaws.{none-sound, integers-sound}
 use borrow.Author.Needs.{needs}
-use Rattle.arguments.proofs.integers_serve.Statement.{statement}
-use Rattle.arguments.proofs.integers_serve.Tie as tie
+use Rattle.quick_check.proofs.integers_serve.Statement.{statement}
+use Rattle.quick_check.proofs.integers_serve.Tie as tie
 
 returns : tie.Need-returns
 returns c = λ w big. none-sound _ _ _ _

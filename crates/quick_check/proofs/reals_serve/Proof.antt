@@ -7,10 +7,10 @@ use lib.Dec.{eqb}
 use borrow.Author.Tests.{eq-eqb, ne-eqb, le-leb, not-false}
 use Rattle.record.specs.Table.{real}
 use Rattle.layout.proofs.Numbered.{shape-reals}
-use Rattle.arguments.proofs.ArgumentLaws.{none-sound, reals-sound}
+use Rattle.quick_check.proofs.QuickLaws.{none-sound, reals-sound}
 use borrow.Author.Needs.{needs}
-use Rattle.arguments.proofs.reals_serve.Statement.{statement}
-use Rattle.arguments.proofs.reals_serve.Tie as tie
+use Rattle.quick_check.proofs.reals_serve.Statement.{statement}
+use Rattle.quick_check.proofs.reals_serve.Tie as tie
 
 returns : tie.Need-returns
 returns c = none-sound _ _ _ _

@@ -1,9 +1,9 @@
 -- Each test that fails answers false, which says nothing; past them a text serves, and of digits those that are looked at decide.
 use mathlib.Core.Path.{_∙_}
-use Rattle.arguments.proofs.ArgumentLaws.{none-sound, text-sound, digits-sound}
+use Rattle.quick_check.proofs.QuickLaws.{none-sound, text-sound, digits-sound}
 use borrow.Author.Needs.{needs}
-use Rattle.arguments.proofs.string_serves.Statement.{statement}
-use Rattle.arguments.proofs.string_serves.Tie as tie
+use Rattle.quick_check.proofs.string_serves.Statement.{statement}
+use Rattle.quick_check.proofs.string_serves.Tie as tie
 
 returns : tie.Need-returns
 returns c = none-sound _ _ _ _

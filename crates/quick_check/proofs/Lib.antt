@@ -1,0 +1,2 @@
+-- Laws of the quick test of an argument.
+mod QuickLaws
