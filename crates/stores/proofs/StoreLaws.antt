@@ -15,7 +15,7 @@ use Rattle.layout.specs.Words.{realSize}
 use Rattle.real.specs.Narrowing.{singleOf}
 use Rattle.record.specs.Bytes.{part, ceilDiv}
 use Rattle.record.specs.declared.slots.Slot.{Slot}
-use Rattle.record.specs.Table.{maxArea, shown, integerSize, integersIn}
+use Rattle.record.specs.Table.{maxArea, shown, integerSize, integersIn, maxRecord}
 use Rattle.record.specs.Geometry.{amount, perByte}
 use Rattle.record.specs.Packing.{stored, lowBytes, patterns, enough, amountFits, allDigits, digitsFit, insideArea}
 use Rattle.record.proofs.NumberLaws.{length-bigEndianIn}
@@ -76,8 +76,8 @@ served area (Reals single big) n a c = rw (length-shown area a (c .inside)) (eno
 
 module _ (area : List ℕ) (n : ℕ) (a : Slot) (at size : ℕ) where
   module _ (pad : ℕ) (s : Storable area (Text pad) n a at size) where
-    pub text-asks : (at + n ≤ size) × (a .start + a .len ≤ length area)
-    text-asks = (s .room, string-inside area a (s .inside) (s .kind))
+    pub text-asks : (n ≤ maxRecord) × (at + n ≤ size) × (a .start + a .len ≤ length area)
+    text-asks = (omega (arith, s .room, s .limit), s .room, string-inside area a (s .inside) (s .kind))
 
     pub text-value : stored (Text pad) n (part area (a .start) (a .len)) ≡ stored (Text pad) n (shown area a .items)
     text-value = ap (stored (Text pad) n) (sym (shown-string area a (s .kind)))

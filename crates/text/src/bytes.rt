@@ -3,6 +3,7 @@ ghost use mathlib.Core.Path.{_≡_};
 ghost use Prim.Native.Nat.{_+_, _≤_, _<_};
 ghost use lib.ListN.{length, replicate};
 ghost use Rattle.record.specs.Bytes.{part, storeAt, digits, ordered};
+ghost use Rattle.record.specs.Table.{maxRecord};
 
 // Copies n bytes, one after the other.
 fn copy_each(out: &mut [u8], at: usize, from: &[u8], start: usize, n: usize)
@@ -16,31 +17,30 @@ fn copy_each(out: &mut [u8], at: usize, from: &[u8], start: usize, n: usize)
     }
 }
 
-// How much is copied at once: all of a run but a very long one, and little on the stack.
-const BLOCK: usize = 4096;
-
-// Copies n bytes, or a block's worth, and tells how many. They go by way of a local block, which can lie over neither run: of that the
-// compiler makes one call of C's memmove, and leaves the block out.
-fn copy_block(out: &mut [u8], at: usize, from: &[u8], start: usize, n: usize) -> usize
-    requires { ⌜ (0 < n) × (at + n ≤ length (now out)) × (start + n ≤ length (now from)) ⌝ }
-    ensures some { λ r. ⌜ (0 < r) × (r ≤ n) ⌝ }
-    ensures { λ r. ⌜ now (out .exit) ≡ storeAt (now (out .entry)) at (part (now (from .entry)) start r) ⌝ }
+// Copies n bytes, no more than a record has, by way of a local block, which can lie over neither run: of that the compiler makes one call of C's
+// memmove, and leaves the block out.
+pub fn copy_block(out: &mut [u8], at: usize, from: &[u8], start: usize, n: usize)
+    requires { ⌜ (n ≤ maxRecord) × (at + n ≤ length (now out)) × (start + n ≤ length (now from)) ⌝ }
+    ensures { λ _. ⌜ now (out .exit) ≡ storeAt (now (out .entry)) at (part (now (from .entry)) start n) ⌝ }
 {
-    let some = record::least(n, BLOCK);
-    let mut block: [u8; BLOCK] = [0; BLOCK];
-    copy_each(&mut block, 0, from, start, some);
-    copy_each(out, at, &block, 0, some);
-    some
+    let mut block: [u8; record::MAX_RECORD] = [0; record::MAX_RECORD];
+    copy_each(&mut block, 0, from, start, n);
+    copy_each(out, at, &block, 0, n);
 }
 
-// Copies n bytes, a block at a time.
+// Copies n bytes: at once, or a block at a time where there are more of them.
 pub fn copy(out: &mut [u8], at: usize, from: &[u8], start: usize, n: usize)
     requires { ⌜ (at + n ≤ length (now out)) × (start + n ≤ length (now from)) ⌝ }
     ensures { λ _. ⌜ now (out .exit) ≡ storeAt (now (out .entry)) at (part (now (from .entry)) start n) ⌝ }
 {
+    if n <= record::MAX_RECORD {
+        return copy_block(out, at, from, start, n);
+    }
     let mut done = 0;
     while done < n {
-        done += copy_block(out, at + done, from, start + done, n - done);
+        let some = record::least(n - done, record::MAX_RECORD);
+        copy_block(out, at + done, from, start + done, some);
+        done += some;
     }
 }
 

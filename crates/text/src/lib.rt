@@ -4,6 +4,7 @@ ghost use Prim.Native.Nat.{_+_, _≤_};
 ghost use lib.ListN.{length};
 ghost use Rattle.layout.specs.declared.Shape.the-variants.{Text};
 ghost use Rattle.record.specs.Bytes.{part, storeAt};
+ghost use Rattle.record.specs.Table.{maxRecord};
 ghost use Rattle.record.specs.Packing.{stored};
 ghost use Rattle.record.specs.Reading.{isBlank, trimmed};
 
@@ -11,11 +12,11 @@ pub mod bytes;
 
 // Stores n bytes of a string of `len` bytes that stands in the area, cut or padded.
 pub fn store(out: &mut [u8], at: usize, area: &[u8], start: usize, len: usize, n: usize, pad: u8)
-    requires { ⌜ (at + n ≤ length (now out)) × (start + len ≤ length (now area)) ⌝ }
+    requires { ⌜ (n ≤ maxRecord) × (at + n ≤ length (now out)) × (start + len ≤ length (now area)) ⌝ }
     ensures { λ _. ⌜ now (out .exit) ≡ storeAt (now (out .entry)) at (stored (Text pad) n (part (now (area .entry)) start len)) ⌝ }
 {
     let kept = record::least(len, n);
-    bytes::copy(out, at, area, start, kept);
+    bytes::copy_block(out, at, area, start, kept);
     bytes::fill(out, at + kept, n - kept, pad);
 }
 

@@ -1,9 +1,10 @@
--- Blocks side by side are one run: the loop keeps that the first `done` bytes are copied.
+-- A short run is one block. Blocks side by side are one run: the loop keeps that the first `done` bytes are copied.
 use Prim.Native.Nat.{_-_, _≤_}
 use native.Mathlib.Omega.{arith}
 use Rattle.record.specs.Bytes.{part}
 use Rattle.record.proofs.Stores.{length-part}
 use Rattle.text.proofs.ByteLaws.{Grown, grown-none, grown-done, copy-more}
+use borrow.Author.Needs.{needs}
 use Rattle.text.proofs.bytes.copy.Statement.{statement}
 use Rattle.text.proofs.bytes.copy.Tie as tie
 
@@ -13,8 +14,23 @@ Inv-loop out₀ at from start n done₀ out done = (done ≤ n) × Grown out₀ 
 abbrev μ-loop : tie.MeasureT-loop
 μ-loop out₀ at from start n done₀ out done = n - done
 
+copy-block-requires : tie.Need-copy-block-requires Inv-loop μ-loop
+copy-block-requires c κs = search needs
+
+same-length : tie.Need-same-length Inv-loop μ-loop
+same-length c = search needs
+
+returns : tie.Need-returns Inv-loop μ-loop
+returns c = c .before .before .copy-block .ensures
+
 loop-holds : tie.Need-loop-holds Inv-loop μ-loop
 loop-holds c = (omega arith, grown-none)
+
+sub-least : tie.Need-sub-least Inv-loop μ-loop
+sub-least c = omega arith
+
+least-requires : tie.Need-least-requires Inv-loop μ-loop
+least-requires c κs = search needs
 
 add-copy-block : tie.Need-add-copy-block Inv-loop μ-loop
 add-copy-block c = omega arith
@@ -22,11 +38,8 @@ add-copy-block c = omega arith
 add-copy-block-2 : tie.Need-add-copy-block-2 Inv-loop μ-loop
 add-copy-block-2 c = omega arith
 
-sub-copy-block : tie.Need-sub-copy-block Inv-loop μ-loop
-sub-copy-block c = omega arith
-
-copy-block-requires : tie.Need-copy-block-requires Inv-loop μ-loop
-copy-block-requires c κs = (omega arith, omega arith, omega arith)
+copy-block-requires-2 : tie.Need-copy-block-requires-2 Inv-loop μ-loop
+copy-block-requires-2 c κs = (omega arith, omega arith, omega arith)
 
 add-done : tie.Need-add-done Inv-loop μ-loop
 add-done c = omega arith
@@ -36,17 +49,17 @@ loop-less c = omega arith
 
 loop-again : tie.Need-loop-again Inv-loop μ-loop
 loop-again c =
-    let a = c .before .before .before .before .before .before .before .before .args in
-    let call = c .before .before .copy-block in
-    let loop = c .before .before .before .before .before .loop in
-    (omega arith, copy-more (a .from .now) (a .start) (a .n) (call .result) (loop .inv .1) (omega arith) (omega arith) (omega arith) (call .ensures .1))
+    let sized = c .before .before .before .before in
+    let loop = sized .before .before in
+    let a = loop .before .before .before .before .args in
+    (omega arith, copy-more (a .from .now) (a .start) (a .n) (sized .least .result) (loop .loop .inv .1) (omega arith) (omega arith) (omega arith) (c .before .before .copy-block2 .ensures))
 
-same-length : tie.Need-same-length Inv-loop μ-loop
-same-length c = c .before .loop .inv .1 .long
+same-length-2 : tie.Need-same-length-2 Inv-loop μ-loop
+same-length-2 c = c .before .loop .inv .1 .long
 
-returns : tie.Need-returns Inv-loop μ-loop
-returns c =
-    let start = c .before .before .before .before in
+returns-2 : tie.Need-returns-2 Inv-loop μ-loop
+returns-2 c =
+    let start = c .before .before .before .before .before in
     let a = start .args in
     grown-done (c .before .loop .inv .1) (omega (arith, length-part (a .n) (a .start) (a .from .now) (start .pre .1)))
 
@@ -56,13 +69,17 @@ copy-spec =
     (tie.spec
     Inv-loop
     μ-loop
+    copy-block-requires
+    same-length
+    returns
     loop-holds
+    sub-least
+    least-requires
     add-copy-block
     add-copy-block-2
-    sub-copy-block
-    copy-block-requires
+    copy-block-requires-2
     add-done
     loop-less
     loop-again
-    same-length
-    returns)
+    same-length-2
+    returns-2)

@@ -5,9 +5,6 @@ use borrow.Author.Needs.{needs}
 use Rattle.text.proofs.bytes.copy_block.Statement.{statement}
 use Rattle.text.proofs.bytes.copy_block.Tie as tie
 
-least-requires : tie.Need-least-requires
-least-requires c κs = search needs
-
 slice-aggregate-copy-each : tie.Need-slice-aggregate-copy-each
 slice-aggregate-copy-each c = search needs
 
@@ -26,16 +23,14 @@ same-length c = search needs
 returns : tie.Need-returns
 returns c =
     let filled = c .before .before .before .before .before .before in
-    let sized = filled .before .before in
-    let a = sized .before .before .before .args in
-    let n = sized .least .result in
-    ((omega arith, omega arith), by-block _ (a .out .now) (a .from .now) (a .at) (a .start) n (omega arith) (filled .copy-each .ensures) (c .before .before .copy-each2 .ensures))
+    let start = filled .before .before .before .before in
+    let a = start .args in
+    by-block _ (a .out .now) (a .from .now) (a .at) (a .start) (a .n) (start .pre .2) (filled .copy-each .ensures) (c .before .before .copy-each2 .ensures)
 
 pub copy-block-spec : {M : Type 1} → statement M
 copy-block-spec =
     tie.close
     (tie.spec
-    least-requires
     slice-aggregate-copy-each
     copy-each-requires
     slice-aggregate-copy-each-2
