@@ -47,6 +47,14 @@ no-value w f s e h q =
     let one : slotsTaken f ≡ 1 = rw q in
     omega arith
 
+-- where the next slot is, by the number of the word's type
+module _ (w k k′ : ℕ) where
+  pub slot-taken : w % flagUnit ≤ lastData → k′ ≡ k + 1 → k′ ≡ k + slotsTaken (fieldOf w)
+  slot-taken h e = rw (word-shape w h) e
+
+  pub slot-kept : lastData < w % flagUnit → k′ ≡ k → k′ ≡ k + slotsTaken (fieldOf w)
+  slot-kept h e = omega (arith, word-slotless w h)
+
 module _ (area ns : List ℕ) (k : ℕ) (c : Cursor) (n : Count) (size : ℕ) where
   module _ (s : Shape) (p : Puttable area ns k c (Data s) n size) where
     storable-slot : Storable area s (amount n (slotAt ns k .len)) (slotAt ns k) (c .at) size
@@ -137,9 +145,9 @@ module _ (area : List ℕ) (n : ℕ) (ws ns lent : List ℕ) (fine : Writable ar
           }
 
       pub writing-next : (d : Cursor) (out′ : List ℕ) → (d ≡ advance c (f .code) (f .count) (slotAt ns k .len)) × (out′ ≡ put area (slotAt ns k) out c (f .code) (f .count))
-          → length out′ ≡ length out → (taken : ℕ) → taken ≡ slotsTaken f → Writing area n ws ns lent out′ (i + 1) (k + taken) d
+          → length out′ ≡ length out → (k′ : ℕ) → k′ ≡ k + slotsTaken f → Writing area n ws ns lent out′ (i + 1) k′ d
       unfolding written
-      writing-next d out′ p long taken t =
+      writing-next d out′ p long k′ t =
           let (d′, q, r) = stepping in
           let a : d′ ≡ d = stepped-advance area k (slotAt ns k) c (f .code) (f .count) d′ q ∙ sym (p .0) in
           let h = put-here area ns out k c (f .code) (f .count) slot in

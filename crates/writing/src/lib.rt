@@ -63,9 +63,10 @@ pub fn write(words: &[u32], n: usize, slots: &[u32], area: &[u8], out: &mut [u8]
     let mut i: usize = 0;
     while i < n {
         let word = words[i];
-        let taken = layout::slots_in(word % layout::FLAG_UNIT);
         c = put(word, slots, area, k, c, out);
-        k += taken;
+        if word % layout::FLAG_UNIT <= layout::LAST_DATA {
+            k += 1;
+        }
         i += 1;
     }
 }

@@ -1,10 +1,13 @@
 -- What the loop keeps is `Writing`: writing the fields from here on gives what writing all of them gives.
-use Prim.Native.Nat.{_-_}
+use Prim.Native.Nat.{_+_, _-_}
 use native.Mathlib.Omega.{arith}
+use mathlib.Core.Path.{_≡_, refl}
+use mathlib.Core.Logic.{⊎-elim}
 use lib.ListN.{getD}
 use borrow.Author.Needs.{needs}
-use Rattle.layout.proofs.Decoded.{SlotsIn, word-told}
-use Rattle.writing.proofs.WriteLaws.{Writing, writing-none, writing-done, writing-ready, writing-next}
+use Rattle.layout.specs.Words.{FieldOf, fieldOf, slotsTaken}
+use Rattle.layout.proofs.Steps.{field-fits}
+use Rattle.writing.proofs.WriteLaws.{Writing, slot-taken, slot-kept, writing-none, writing-done, writing-ready, writing-next}
 use Rattle.writing.proofs.write.Statement.{statement}
 use Rattle.writing.proofs.write.Tie as tie
 
@@ -26,27 +29,34 @@ mul-word c = omega (arith, c .before .before .before .before .before .before .be
 shared-slice-read-word : tie.Need-shared-slice-read-word Inv-loop μ-loop
 shared-slice-read-word c = omega (arith, c .before .before .before .before .before .before .before .before .pre .prepared)
 
-slots-in-requires : tie.Need-slots-in-requires Inv-loop μ-loop
-slots-in-requires c κs = search needs
-
 -- the word that is read has 32 bits
-told : (c : tie.After-slots-in Inv-loop μ-loop) → SlotsIn (getD (c .before .before .before .before .before .before .before .before .before .args .words .now) (c .before .before .before .loop .i) 0) (c .slots-in .result)
-told c = word-told _ _ (c .before .shared-slice-known4 .given _ .fits) (c .slots-in .ensures)
+field : (c : tie.After-shared-slice-known4 Inv-loop μ-loop)
+    → let w = getD (c .before .before .before .before .before .before .before .before .args .words .now) (c .before .before .loop .i) 0 in FieldOf w (fieldOf w)
+field c = field-fits _ _ (c .shared-slice-known4 .given _ .fits) refl
 
 put-requires : tie.Need-put-requires Inv-loop μ-loop
 put-requires c κs =
-    let l = c .before .before .before .before in
-    writing-ready _ _ _ _ _ (l .before .before .before .before .before .before .pre) _ _ _ _ (l .loop .inv) (c .before .before .before .loop-test .taken) _ (told (c .before) .field)
+    let r = c .before in
+    let l = r .before .before in
+    writing-ready _ _ _ _ _ (l .before .before .before .before .before .before .pre) _ _ _ _ (l .loop .inv) (r .before .loop-test .taken) _ (field r)
+
+add-k : tie.Need-add-k Inv-loop μ-loop
+add-k c =
+    let l = c .before .before .before .before .before .before .before in
+    omega (arith, l .loop .inv .standing .slots, l .before .before .before .before .before .before .pre .prepared)
+
+-- both ways through the test leave k at the next slot
+next : (c : tie.Joined1 Inv-loop μ-loop)
+    → let l = c .before .before .before .before .before .before .before in
+    c .if1 .k ≡ l .loop .k + slotsTaken (fieldOf (getD (l .before .before .before .before .before .before .args .words .now) (l .loop .i) 0))
+next c = ⊎-elim (λ t. slot-taken _ _ _ (t .0 .taken) (t .1)) (λ t. slot-kept _ _ _ (t .0 .left) (t .1)) (c .if1 .came)
 
 loop-again : tie.Need-loop-again Inv-loop μ-loop
 loop-again c =
-    let p = c .before .before in
-    let w = told (p .before .before) in
-    let l = p .before .before .before .before .before in
-    writing-next _ _ _ _ _ (l .before .before .before .before .before .before .pre) _ _ _ _ (l .loop .inv) (p .before .before .before .before .loop-test .taken) _ (w .field) _ _ (p .put .ensures) (p .put .kept .1 .1 .1 .1 .1 .0) _ (w .taken)
-
-add-k : tie.Need-add-k Inv-loop μ-loop
-add-k c = omega (arith, loop-again c .standing .slots, c .before .before .before .before .before .before .before .before .before .before .before .before .before .pre .prepared)
+    let p = c .before .before .before in
+    let r = p .before .before in
+    let l = r .before .before in
+    writing-next _ _ _ _ _ (l .before .before .before .before .before .before .pre) _ _ _ _ (l .loop .inv) (r .before .loop-test .taken) _ (field r) _ _ (p .put .ensures) (p .put .kept .1 .1 .1 .1 .1 .0) _ (next c)
 
 add-i : tie.Need-add-i Inv-loop μ-loop
 add-i c = omega arith
@@ -70,7 +80,6 @@ write-spec =
     loop-holds
     mul-word
     shared-slice-read-word
-    slots-in-requires
     put-requires
     add-k
     add-i
