@@ -17,13 +17,13 @@ use Rattle.layout.specs.declared.Refusal.{Refusal}
 use Rattle.layout.specs.declared.Refusal.the-variants.{NotSet, BadSlot, WrongKind, WrongAmount, BadDigit, BadReal}
 use Rattle.layout.specs.Refusals.{if_then_else_, Result, ok, refused, _>>=_, demand}
 use Rattle.layout.specs.Layout.{slotCount, takesSlot, toNat}
-use Rattle.layout.specs.Words.{lastData, shapeNumbered, countFrom, slotsTaken, fieldOf, decoded, FieldOf, flagUnit, countUnit}
+use Rattle.layout.specs.Words.{lastData, shapeNumbered, countFrom, slotsTaken, fieldOf, decoded, FieldOf, FitCode, flagUnit, countUnit}
 use Rattle.layout.proofs.Laws.{bound, ok-inj}
 use Rattle.layout.proofs.Decoded.{word-shape, word-count, next-field, no-field}
 use Rattle.record.specs.declared.Cursor.{Cursor}
 use Rattle.record.specs.declared.slots.Slot.{Slot}
 use Rattle.record.specs.Table.{maxKind, shown, slotsOf, slotWidth}
-use Rattle.record.specs.Geometry.{amount, bytesFor}
+use Rattle.record.specs.Geometry.{amount, bytesFor, itemsLimit}
 use Rattle.record.specs.Packing.{kindFits, amountFits, digitsFit, realsFit, insideArea, argumentFits, nextSlot}
 use Rattle.arguments.specs.declared.Verdict.the-variants.{Fits, Refused}
 use Rattle.measuring.specs.declared.Stepped.the-variants.{Next, Stop}
@@ -31,10 +31,13 @@ use Rattle.measuring.specs.declared.Measured.the-variants.{Length}
 use Rattle.measuring.specs.declared.Measured.the-variants as measured
 use Rattle.record.specs.Slots.{slotAt}
 use Rattle.arguments.specs.Checks.{verdictOf}
+use Rattle.quick_check.specs.declared.Quick.{Quick}
+use Rattle.quick_check.specs.declared.Quick.the-variants.{Bytes}
 use Rattle.quick_check.specs.Quick.{Sound}
 use Rattle.record.specs.Cursor.{origin, past}
 use Rattle.measuring.specs.Measure.{advance, stepped, checked, Prepared, Ready, steppedOf, measuredOf, Measures}
 use Rattle.record.proofs.SlotLaws.{next-slot}
+use Rattle.record.proofs.Bounds.{bytes-small}
 use Rattle.measuring.proofs.Bounds.{advance-within, advance-small}
 
 -- ---- one field
@@ -64,14 +67,19 @@ module _ (ns : List ℕ) (k w : ℕ) (c : Cursor) where
   pub ready-data : Ready ns k c (fieldOf w .code) (fieldOf w .count) → w % flagUnit ≤ lastData → Ready ns k c (Data (shapeNumbered (w % flagUnit))) (countFrom (w / countUnit))
   ready-data r h = rw (word-shape w h, word-count w) at r
 
-  -- an argument that passes the quick test is refused by no line
+  -- an argument that passes the quick test is refused by no line, and its field takes the bytes that the test tells
   pub quick-next : (area : List ℕ) → w % flagUnit ≤ lastData → (a : Slot) → a ≡ slotAt ns k → (n : Count) → n ≡ countFrom (w / countUnit)
-      → (t : Bool) → Sound t area (shapeNumbered (w % flagUnit)) n a → t ≡ true
-      → (items : ℕ) → items ≡ amount n (a .len) → (bytes : ℕ) → bytes ≡ bytesFor (shapeNumbered (w % flagUnit)) items → (r : Cursor) → r ≡ past c bytes
+      → (q : Quick) → Sound q area (shapeNumbered (w % flagUnit)) n a → (bytes : ℕ) → q ≡ Bytes bytes → (r : Cursor) → r ≡ past c bytes
       → Next r ≡ steppedOf (stepped area k (slotAt ns k) c (fieldOf w .code) (fieldOf w .count))
-  quick-next area h a same n e t s p items i bytes b r q =
+  quick-next area h a same n e q s bytes p r x =
+      let f = s .fits bytes p in
       rw (word-shape w h, word-count w, ← e, ← same)
-      (ap Next (q ∙ rw (b, i)) ∙ step-next area k a c (shapeNumbered (w % flagUnit)) n (sym (ap verdictOf (s .fits p k))))
+      (ap Next (x ∙ ap (past c) (f .0)) ∙ step-next area k a c (shapeNumbered (w % flagUnit)) n (sym (ap verdictOf (f .1 k))))
+
+-- the bytes that the quick test tells are few
+pub quick-few : (area : List ℕ) (s : Shape) (n : Count) (a : Slot) (q : Quick) → Sound q area s n a → (bytes : ℕ) → q ≡ Bytes bytes → FitCode (Data s)
+    → (items : ℕ) → items ≡ amount n (a .len) → items < itemsLimit → bytes < 68719476736
+quick-few area s n a q h bytes p f items i l = omega (arith, h .fits bytes p .0, bytes-small s (amount n (a .len)) f)
 
 -- what an answer says of the step
 pub turn-next : (o : Result Cursor) (d : Cursor) → Next d ≡ steppedOf o → o ≡ ok d

@@ -12,6 +12,7 @@ use layout::Count;
 use layout::Motion;
 use layout::Refusal;
 use layout::Shape;
+use quick_check::Quick;
 use record::Cursor;
 
 // What one field does to the pass: the cursor moves on, or the argument is refused.
@@ -59,7 +60,7 @@ fn step_exactly(code: Code, n: Count, slots: &[u32], area: &[u8], k: usize, c: C
     }
 }
 
-// One field of the pass. A value whose argument passes the quick test is measured by the number of its type; the exact check does the rest.
+// One field of the pass. Where the quick test tells a value's bytes, its argument serves; the exact check does the rest.
 fn step(word: u32, slots: &[u32], area: &[u8], k: usize, c: Cursor) -> Stepped
     requires { ⌜ Ready (now slots) k c (fieldOf word .code) (fieldOf word .count) ⌝ }
     ensures { λ r. ⌜ r ≡ steppedOf (stepped (now (area .entry)) k (slotAt (now (slots .entry)) k) c (fieldOf word .code) (fieldOf word .count)) ⌝ }
@@ -68,9 +69,12 @@ fn step(word: u32, slots: &[u32], area: &[u8], k: usize, c: Cursor) -> Stepped
     if d <= layout::LAST_DATA {
         let a = slot_table::slot_at(slots, k);
         let n = layout::count_from(word / layout::COUNT_UNIT);
-        if quick_check::serves(d, n, a, area) {
-            let bytes = record::bytes_numbered(d, record::amount(n, a.len));
-            return Stepped::Next(c.store(bytes));
+        let q = quick_check::try_argument(d, n, record::amount(n, a.len), a, area);
+        match q {
+            Quick::Bytes(bytes) => {
+                return Stepped::Next(c.store(bytes));
+            }
+            Quick::Unsure => {}
         }
     }
     let f = layout::field_of(word);

@@ -1,81 +1,107 @@
 // The quick test of one argument: the usual one, which serves, is spared the exact check (the crate `arguments`).
-ghost use mathlib.Core.Bool.{Bool};
-ghost use Prim.Native.Nat.{ℕ, _≤_, _<_};
-ghost use Rattle.layout.specs.declared.Shape.the-variants.{Integers};
+ghost use mathlib.Core.Path.{_≡_};
+ghost use Prim.Native.Nat.{_≤_, _<_};
+ghost use Rattle.layout.specs.declared.Count.{Count};
 ghost use Rattle.layout.specs.Words.{lastDigits, lastIntegers, lastData, shapeNumbered};
 ghost use Rattle.record.specs.Table.{numberLimit};
+ghost use Rattle.record.specs.Geometry.{amount, itemsLimit};
+ghost use Rattle.record.specs.Packing.{enough};
 ghost use Rattle.quick_check.specs.Quick.{Sound};
 use layout::Count;
 use record::slots::Slot;
 
-// Integers serve: where this holds, nothing is wrong with them.
-fn integers_serve(n: Count, a: Slot, area: &[u8]) -> bool
-    requires { ⌜ (a .start < numberLimit) × (a .len < numberLimit) ⌝ }
-    ensures { λ r. ⌜ ((w : ℕ) (big : Bool) → Sound r (now (area .entry)) (Integers w big) n a) ⌝ }
+// What the quick test answers: the argument serves and the field takes so many bytes, or the exact check must tell.
+pub enum Quick {
+    Bytes(usize),
+    Unsure,
+}
+
+// An argument of so many integers or reals has the items that its field takes.
+fn is_plenty(n: Count, items: usize, have: usize) -> bool
+    requires { ⌜ items ≡ amount n have ⌝ }
+    ensures { λ r. ⌜ r ≡ enough n have ⌝ }
+{
+    match n {
+        Count::Absent => have == 1,
+        Count::Star => true,
+        Count::Times(_) => items <= have,
+    }
+}
+
+fn try_integers(d: u32, n: Count, items: usize, a: Slot, area: &[u8]) -> Quick
+    requires { ⌜ (lastDigits < d) × (d ≤ lastIntegers) × (items ≡ amount n (a .len)) × (items < itemsLimit) × (a .start < numberLimit) × (a .len < numberLimit) ⌝ }
+    ensures { λ r. ⌜ Sound r (now (area .entry)) (shapeNumbered d) n a ⌝ }
 {
     let kind = a.kind;
     if kind < record::slots::SIGNED {
-        return false;
+        return Quick::Unsure;
     }
     if record::slots::UNSIGNED < kind {
-        return false;
+        return Quick::Unsure;
     }
     if area.len() < a.start + a.len * 8 {
-        return false;
+        return Quick::Unsure;
     }
-    arguments::is_enough(n, a.len)
+    if !is_plenty(n, items, a.len) {
+        return Quick::Unsure;
+    }
+    Quick::Bytes(record::bytes_numbered(d, items))
 }
 
-// Reals serve.
-fn reals_serve(d: u32, n: Count, a: Slot, area: &[u8]) -> bool
-    requires { ⌜ (lastIntegers < d) × (d ≤ lastData) × (a .start < numberLimit) × (a .len < numberLimit) ⌝ }
+fn try_reals(d: u32, n: Count, items: usize, a: Slot, area: &[u8]) -> Quick
+    requires { ⌜ (lastIntegers < d) × (d ≤ lastData) × (items ≡ amount n (a .len)) × (items < itemsLimit) × (a .start < numberLimit) × (a .len < numberLimit) ⌝ }
     ensures { λ r. ⌜ Sound r (now (area .entry)) (shapeNumbered d) n a ⌝ }
 {
     if a.kind != record::slots::REAL {
-        return false;
+        return Quick::Unsure;
     }
     if area.len() < a.start + a.len * record::INTEGER_SIZE {
-        return false;
+        return Quick::Unsure;
     }
-    if !arguments::is_enough(n, a.len) {
-        return false;
+    if !is_plenty(n, items, a.len) {
+        return Quick::Unsure;
     }
-    arguments::singles_fit(d <= layout::LAST_SINGLE, record::amount(n, a.len), a, area)
+    if !arguments::singles_fit(d <= layout::LAST_SINGLE, items, a, area) {
+        return Quick::Unsure;
+    }
+    Quick::Bytes(record::bytes_numbered(d, items))
 }
 
-// A string serves.
-fn string_serves(d: u32, n: Count, a: Slot, area: &[u8]) -> bool
-    requires { ⌜ (d ≤ lastDigits) × (a .start < numberLimit) × (a .len < numberLimit) ⌝ }
-    ensures { λ r. ⌜ Sound r (now (area .entry)) (shapeNumbered d) n a ⌝ }
+// A string may be shorter or longer than its field, so the count is not looked at.
+fn try_string(d: u32, items: usize, a: Slot, area: &[u8]) -> Quick
+    requires { ⌜ (d ≤ lastDigits) × (items < itemsLimit) × (a .start < numberLimit) × (a .len < numberLimit) ⌝ }
+    ensures { λ r. ⌜ ((n : Count) → items ≡ amount n (a .len) → Sound r (now (area .entry)) (shapeNumbered d) n a) ⌝ }
 {
     if a.kind != 1 {
-        return false;
+        return Quick::Unsure;
     }
     if area.len() < a.start + a.len {
-        return false;
+        return Quick::Unsure;
     }
     if d <= layout::LAST_TEXT {
-        return true;
+        return Quick::Bytes(items);
     }
-    let items = record::amount(n, a.len);
-    digits::all_digits(
+    if !digits::all_digits(
         area,
         a.start,
         record::least(items, a.len),
         layout::LAST_BINARY < d,
-    )
+    ) {
+        return Quick::Unsure;
+    }
+    Quick::Bytes(record::bytes_numbered(d, items))
 }
 
-// The argument serves a field, by the number of the field's type. Where this does not hold, `arguments::check` finds what is wrong.
-pub fn serves(d: u32, n: Count, a: Slot, area: &[u8]) -> bool
-    requires { ⌜ (d ≤ lastData) × (a .start < numberLimit) × (a .len < numberLimit) ⌝ }
+// The argument of a field that takes so many items, by the number of the field's type. Where this is unsure, `arguments::check` finds what is wrong.
+pub fn try_argument(d: u32, n: Count, items: usize, a: Slot, area: &[u8]) -> Quick
+    requires { ⌜ (d ≤ lastData) × (items ≡ amount n (a .len)) × (items < itemsLimit) × (a .start < numberLimit) × (a .len < numberLimit) ⌝ }
     ensures { λ r. ⌜ Sound r (now (area .entry)) (shapeNumbered d) n a ⌝ }
 {
     if layout::LAST_INTEGERS < d {
-        return reals_serve(d, n, a, area);
+        return try_reals(d, n, items, a, area);
     }
     if layout::LAST_DIGITS < d {
-        return integers_serve(n, a, area);
+        return try_integers(d, n, items, a, area);
     }
-    string_serves(d, n, a, area)
+    try_string(d, items, a, area)
 }

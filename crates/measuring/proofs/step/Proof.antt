@@ -1,13 +1,12 @@
--- A word's type number says what its field is; an argument that passes the quick test is refused by no line.
+-- A word's type number says what its field is; an argument that passes the quick test is refused by no line, and its field takes the bytes that the test tells.
 use native.Mathlib.Omega.{arith}
 use Rattle.record.specs.Geometry.{itemsLimit}
 use Prim.Native.Nat.{_/_, _%_, _<_}
 use Rattle.layout.specs.declared.Code.the-variants.{Data}
 use Rattle.layout.specs.Words.{shapeNumbered, countFrom, flagUnit, countUnit}
 use Rattle.record.proofs.Moves.{amount-small}
-use Rattle.record.proofs.Bounds.{bytes-small}
 use Rattle.measuring.specs.Measure.{Ready}
-use Rattle.measuring.proofs.MeasureLaws.{ready-data, quick-next}
+use Rattle.measuring.proofs.MeasureLaws.{ready-data, quick-next, quick-few}
 use borrow.Author.Needs.{needs}
 use Rattle.measuring.proofs.step.Statement.{statement}
 use Rattle.measuring.proofs.step.Tie as tie
@@ -18,9 +17,9 @@ ready c = ready-data _ _ _ _ (c .before .before .before .pre) (c .if1 .taken)
 
 items : (c : tie.After-amount) → c .amount .result < itemsLimit
 items c =
-    let n = c .before .before .before .count-from in
-    let a = c .before .before .before .before .slot-at in
-    omega (arith, c .amount .ensures, a .ensures .len, amount-small (n .result) (a .result .len) (rw (n .ensures) (ready (c .before .before .before .before .before) .countFits)))
+    let n = c .before .count-from in
+    let a = c .before .before .slot-at in
+    omega (arith, c .amount .ensures, a .ensures .len, amount-small (n .result) (a .result .len) (rw (n .ensures) (ready (c .before .before .before) .countFits)))
 
 slot-at-requires : tie.Need-slot-at-requires
 slot-at-requires c κs = omega (arith, ready c .slot)
@@ -28,24 +27,36 @@ slot-at-requires c κs = omega (arith, ready c .slot)
 count-from-requires : tie.Need-count-from-requires
 count-from-requires c κs = search needs
 
-serves-requires : tie.Need-serves-requires
-serves-requires c κs = search needs
-
 amount-requires : tie.Need-amount-requires
 amount-requires c κs = search needs
 
-bytes-numbered-requires : tie.Need-bytes-numbered-requires
-bytes-numbered-requires c κs = (items c, omega (arith, c .before .before .before .before .before .if1 .taken))
+try-argument-requires : tie.Need-try-argument-requires
+try-argument-requires c κs =
+    let a = c .before .before .slot-at in
+    (c .before .before .before .if1 .taken, c .amount .ensures, items c, a .ensures .start, a .ensures .len)
+
+enum-known-q : tie.Need-enum-known-q
+enum-known-q c = search needs
 
 store-requires : tie.Need-store-requires
 store-requires c κs =
-    let r = ready (c .before .before .before .before .before .before) in
-    omega (arith, c .bytes-numbered .ensures, items (c .before), bytes-small (shapeNumbered (c .before .before .before .before .before .before .before .before .before .args .word % flagUnit)) (c .before .amount .result) (r .codeFits), r .near)
+    let q = c .before .q in
+    let t = c .before .before .before in
+    let m = t .before in
+    let r = ready (m .before .before .before) in
+    let few = quick-few _ _ _ _ _ (t .try-argument .ensures) (q .given .0 .0) (q .given .1) (r .codeFits) _ (m .amount .ensures) (items m) in
+    omega (arith, few, r .near)
 
 returns : tie.Need-returns
 returns c =
-    quick-next _ _ _ _ _ (c .before .before .before .before .before .before .before .if1 .taken) _ (c .before .before .before .before .before .before .slot-at .ensures .same) _ (c .before .before .before .before .before .count-from .ensures) _ (c .before .before .before .before .serves .ensures) (c .before .before .before .if2 .taken)
-    _ (c .before .before .amount .ensures) _ (c .before .bytes-numbered .ensures) _ (c .store .ensures)
+    let q = c .before .before in
+    let t = q .before .before in
+    let n = t .before .before in
+    let a = n .before in
+    quick-next _ _ _ _ _ (a .before .if1 .taken) _ (a .slot-at .ensures .same) _ (n .count-from .ensures) _ (t .try-argument .ensures) (q .q .given .0 .0) (q .q .given .1) _ (c .store .ensures)
+
+enum-told : tie.Need-enum-told
+enum-told c = search needs
 
 field-of-requires : tie.Need-field-of-requires
 field-of-requires c κs = search needs
@@ -62,11 +73,12 @@ step-spec =
     (tie.spec
     slot-at-requires
     count-from-requires
-    serves-requires
     amount-requires
-    bytes-numbered-requires
+    try-argument-requires
+    enum-known-q
     store-requires
     returns
+    enum-told
     field-of-requires
     step-exactly-requires
     returns-2)
