@@ -97,11 +97,11 @@ pub fn try_argument(d: u32, n: Count, items: usize, a: Slot, area: &[u8]) -> Qui
     requires { ⌜ (d ≤ lastData) × (items ≡ amount n (a .len)) × (items < itemsLimit) × (a .start < numberLimit) × (a .len < numberLimit) ⌝ }
     ensures { λ r. ⌜ Sound r (now (area .entry)) (shapeNumbered d) n a ⌝ }
 {
-    if layout::LAST_INTEGERS < d {
-        return try_reals(d, n, items, a, area);
+    if d <= layout::LAST_DIGITS {
+        return try_string(d, items, a, area);
     }
-    if layout::LAST_DIGITS < d {
+    if d <= layout::LAST_INTEGERS {
         return try_integers(d, n, items, a, area);
     }
-    try_string(d, items, a, area)
+    try_reals(d, n, items, a, area)
 }
