@@ -28,6 +28,7 @@ fn is_plenty(n: Count, items: usize, have: usize) -> bool
     }
 }
 
+// The argument of integers.
 fn try_integers(d: u32, n: Count, items: usize, a: Slot, area: &[u8]) -> Quick
     requires { ⌜ (lastDigits < d) × (d ≤ lastIntegers) × (items ≡ amount n (a .len)) × (items < itemsLimit) × (a .start < numberLimit) × (a .len < numberLimit) ⌝ }
     ensures { λ r. ⌜ Sound r (now (area .entry)) (shapeNumbered d) n a ⌝ }
@@ -48,6 +49,7 @@ fn try_integers(d: u32, n: Count, items: usize, a: Slot, area: &[u8]) -> Quick
     Quick::Bytes(record::bytes_numbered(d, items))
 }
 
+// The argument of reals.
 fn try_reals(d: u32, n: Count, items: usize, a: Slot, area: &[u8]) -> Quick
     requires { ⌜ (lastIntegers < d) × (d ≤ lastData) × (items ≡ amount n (a .len)) × (items < itemsLimit) × (a .start < numberLimit) × (a .len < numberLimit) ⌝ }
     ensures { λ r. ⌜ Sound r (now (area .entry)) (shapeNumbered d) n a ⌝ }
@@ -67,7 +69,7 @@ fn try_reals(d: u32, n: Count, items: usize, a: Slot, area: &[u8]) -> Quick
     Quick::Bytes(record::bytes_numbered(d, items))
 }
 
-// A string may be shorter or longer than its field, so the count is not looked at.
+// The argument of text or digits. A string may be shorter or longer than its field, so the count is not looked at.
 fn try_string(d: u32, items: usize, a: Slot, area: &[u8]) -> Quick
     requires { ⌜ (d ≤ lastDigits) × (items < itemsLimit) × (a .start < numberLimit) × (a .len < numberLimit) ⌝ }
     ensures { λ r. ⌜ ((n : Count) → items ≡ amount n (a .len) → Sound r (now (area .entry)) (shapeNumbered d) n a) ⌝ }
