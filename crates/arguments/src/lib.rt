@@ -30,7 +30,7 @@ fn kind_fits(s: Shape, kind: usize) -> bool
     }
 }
 
-pub fn is_enough(n: Count, have: usize) -> bool
+fn is_enough(n: Count, have: usize) -> bool
     ensures { λ r. ⌜ r ≡ enough n have ⌝ }
 {
     match n {
