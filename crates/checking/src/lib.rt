@@ -5,7 +5,7 @@ ghost use lib.ListN.{length};
 ghost use Rattle.layout.specs.Layout.{maxLayout};
 ghost use Rattle.layout.specs.Lent.{before};
 ghost use Rattle.record.specs.Table.{slotWidth, maxSlots, maxRecord, valueBytes};
-ghost use Rattle.reading.specs.Tables.{valuesOf};
+ghost use Rattle.read_measure.specs.Run.{valuesOf};
 ghost use Rattle.checking.specs.Sizes.{lentFits, surelyFits};
 ghost use Rattle.checking.specs.Checks.{checked, fitting};
 use layout::Parsed;
@@ -16,7 +16,7 @@ use record::Answer;
 pub fn sizes_fit(layout: usize, slots: usize, bytes: usize, area: usize, mark: usize) -> bool
     ensures { λ r. ⌜ r ≡ lentFits layout slots bytes area mark ⌝ }
 {
-    if !record::lengths_fit(layout, slots, bytes, area) {
+    if !sizes::lengths_fit(layout, slots, bytes, area) {
         return false;
     }
     mark <= area
@@ -37,7 +37,7 @@ pub fn fits(
     if slots / record::SLOT_WIDTH < taken {
         return Answer::refused(Refusal::WrongSlots, 0);
     }
-    let size = reading::measure::measure(words, n, bytes);
+    let size = read_measure::measure(words, n, bytes);
     if room < size {
         return Answer::refused(Refusal::NoRoom, 0);
     }

@@ -1,4 +1,4 @@
 -- The laws that belong to no one function.
-pub mod Shown
+mod Shown
 pub mod Calls
 pub mod Lent

@@ -10,7 +10,7 @@ use Rattle.record.specs.declared.Answer.{Answer}
 use Rattle.record.specs.Bytes.{part, storeAt}
 use Rattle.record.specs.Table.{slotWidth}
 use Rattle.difference.specs.Rows.{reportWidth}
-use Rattle.host.specs.Host.{numberSize, bytesOf}
+use Rattle.host_numbers.specs.Numbers.{numberSize, bytesOf}
 
 -- n slots and rows are in the numbers, and the numbers' bytes in what is lent for them
 pub record Fits (n : ℕ) (fslots sslots report ns ms ks : List ℕ) : Type 0 where

@@ -4,7 +4,6 @@ ghost use lib.ListN.{length};
 ghost use Rattle.layout.specs.Lent.{after};
 ghost use Rattle.host.specs.Host.{replySize, replyOf};
 ghost use Rattle.compare_write.specs.Back.{Fits, WrittenBack};
-use host::numbers;
 use record::Answer;
 
 // Writes an answer into the reply, and of an accepted comparison the slots of its fields and the rows; the slots after them are not set, and stay as lent.
@@ -26,8 +25,8 @@ pub fn write_back(
         return host::reply_with(reply, a);
     }
     let fields = a.first as usize;
-    numbers::encode(first_slots, first_room, fields);
-    numbers::encode(second_slots, second_room, fields);
-    numbers::encode_run(report, rows, 0, compare_report::REPORT_WIDTH * fields);
+    host_numbers::encode(first_slots, first_room, fields);
+    host_numbers::encode(second_slots, second_room, fields);
+    host_numbers::encode_run(report, rows, 0, compare_report::REPORT_WIDTH * fields);
     host::reply_with(reply, a)
 }

@@ -20,7 +20,7 @@ fn step(code: Code, n: Count, c: Cursor) -> Cursor
     ensures { λ r. ⌜ r ≡ advance c code n 0 ⌝ }
 {
     match code {
-        Code::Data(s) => c.store(record::bytes_for(s, record::amount(n, 0))),
+        Code::Data(s) => c.store(sizes::bytes_for(s, record::amount(n, 0))),
         Code::Move(m) => measuring::moved(m, n, c),
     }
 }

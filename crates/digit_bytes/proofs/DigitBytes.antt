@@ -16,7 +16,7 @@ use Rattle.record.proofs.Widening.{number-append}
 use Rattle.record.proofs.Fields.{split}
 use Rattle.digits.specs.Numerals.{valuesAt}
 use Rattle.digit_bytes.specs.Made.{byteOf}
-use Rattle.text.proofs.WordLaws.{the-four, two-elements}
+use Rattle.byte_runs.proofs.WordLaws.{the-four, two-elements}
 use Rattle.digits.proofs.DigitLaws.{map-at}
 
 -- ---- digits, as many as fill a byte, and 0 for each that is missing

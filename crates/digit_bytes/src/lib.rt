@@ -17,7 +17,7 @@ fn value(c: u8, hex: bool) -> usize
     requires { ⌜ digitValue c < base hex ⌝ }
     ensures { λ r. ⌜ r ≡ digitValue c ⌝ }
 {
-    let x = text::bytes::wide(c);
+    let x = byte_runs::wide(c);
     if hex { x % 16 + 9 * (x / 64) } else { x % 2 }
 }
 
@@ -94,7 +94,7 @@ pub fn next_byte(area: &[u8], start: usize, have: usize, i: usize, hex: bool, hi
     requires { ⌜ (i ≤ maxArea) × (start + have ≤ length (now area)) × DigitsAt hex (now area) start have ⌝ }
     ensures { λ r. ⌜ r ≡ byteOf hex high (drop i (valuesAt (before area) start have)) ⌝ }
 {
-    let per = record::per_byte(hex);
+    let per = sizes::per_byte(hex);
     if i + per <= have {
         return byte_of(area, start + i, per, hex, high);
     }
@@ -117,8 +117,8 @@ pub fn eight_at(area: &[u8], at: usize, high: bool) -> u8
     requires { ⌜ (at + 8 ≤ length (now area)) × DigitsAt false (now area) at 8 ⌝ }
     ensures { λ r. ⌜ r ≡ byteOf false high (valuesAt (before area) at 8) ⌝ }
 {
-    let a = gathered(text::bytes::four_at(area, at, high));
-    let b = gathered(text::bytes::four_at(area, at + 4, high));
+    let a = gathered(byte_runs::four_at(area, at, high));
+    let b = gathered(byte_runs::four_at(area, at + 4, high));
     if high {
         (a * 16 + b) as u8
     } else {

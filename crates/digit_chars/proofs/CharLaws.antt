@@ -14,7 +14,7 @@ use Rattle.record.specs.Reading.{digitChar}
 use Rattle.record.proofs.Bytes.{All, digits-number, number-digits, length-digits, length-ordered}
 use Rattle.digits.specs.Numerals.{placeOf}
 use Rattle.digit_chars.specs.Shown.{charsOf, fourChars}
-use Rattle.text.proofs.ByteLaws.{store-both}
+use Rattle.byte_runs.proofs.ByteLaws.{store-both}
 use Rattle.digits.proofs.DigitLaws.{ordered-at, map-at, map-turned}
 
 -- ---- the digits of a byte

@@ -46,8 +46,8 @@ pub fn write(
     ensures steps { λ left. ⌜ count + left ≡ budget ⌝ }
     ensures { λ _. ⌜ after area ≡ storeAt (before area) to (take count (charsOf hex high b)) ⌝ }
 {
-    let x = text::bytes::wide(b);
-    let per = record::per_byte(hex);
+    let x = byte_runs::wide(b);
+    let per = sizes::per_byte(hex);
     let mut left = budget;
     let mut j = 0;
     while j < count {

@@ -14,7 +14,7 @@ use Rattle.record.specs.Reading.{digitChar, loaded}
 use Rattle.record.proofs.Bytes.{length-join, part-at}
 use Rattle.record.proofs.Stores.{length-part, store-none}
 use Rattle.digit_chars.specs.Shown.{charsOf}
-use Rattle.text.proofs.ByteLaws.{store-both, part-take, Grown, grown-more}
+use Rattle.byte_runs.proofs.ByteLaws.{store-both, part-take, Grown, grown-more}
 use Rattle.digit_chars.proofs.CharLaws.{length-chars}
 
 -- ---- the characters of a field

@@ -19,7 +19,7 @@ use Rattle.record.proofs.Widening.{number-append, number-below}
 use Rattle.record.proofs.Fields.{split}
 use Rattle.digits.specs.Numerals.{placeOf, DigitsAt, valuesAt}
 use Rattle.digit_bytes.specs.Made.{byteOf}
-use Rattle.text.proofs.ByteLaws.{store-both, part-take, part-rest}
+use Rattle.byte_runs.proofs.ByteLaws.{store-both, part-take, part-rest}
 use Rattle.digits.proofs.DigitLaws.{ordered-at, place-lt, take-min}
 use Rattle.digit_bytes.proofs.DigitEights.{bit}
 use Rattle.digit_bytes.proofs.DigitBytes.{fit-zero, zero-byte, value-low, value-high}

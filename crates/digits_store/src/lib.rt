@@ -53,7 +53,7 @@ fn store_bytes(
     ensures steps { λ left. ⌜ bytesOf hex n + left ≡ budget ⌝ }
     ensures { λ _. ⌜ after out ≡ storeAt (before out) at (stored (Digits hex high) n (part (before area) start len)) ⌝ }
 {
-    let per = record::per_byte(hex);
+    let per = sizes::per_byte(hex);
     let have = record::least(n, len);
     let mut left = budget;
     let mut i = 0;

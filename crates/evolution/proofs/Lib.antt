@@ -1,10 +1,9 @@
--- The proof of demand 3, from the field outwards; an instance of its premises; the examples.
+-- The proof of demand 3, from the field outwards; reals packed again; an instance of the premises; the examples.
 mod Fields
 mod Run
 mod Arguments
 mod Proper
-mod ReadsBack
-mod Calls
+pub mod ReadsBack
 mod Reals
 mod Instance
 mod Examples

@@ -1,5 +1,4 @@
--- Demand 3, the calls that it speaks of, and worked examples of the definitions.
+-- Demand 3, reals packed again, and worked examples of the definitions.
 pub mod Claim
-pub mod Calls
 pub mod Again
 pub mod Examples

@@ -1,4 +1,3 @@
--- The proof of M-113; the call; an instance of the premises.
+-- The proof of M-113, and an instance of its premises.
 pub mod Glues
-mod Calls
 mod Instance

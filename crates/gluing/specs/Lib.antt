@@ -1,3 +1,2 @@
--- M-113, templates glued together, and the call that packs two of them.
+-- M-113, templates glued together.
 pub mod Claim
-pub mod Calls

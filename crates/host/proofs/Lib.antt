@@ -1,4 +1,3 @@
 -- Laws of what the calls for a C host share.
-pub mod NumberLaws
 pub mod Guards
 pub mod Calls

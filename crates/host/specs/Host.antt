@@ -1,5 +1,5 @@
 -- What the calls for a C host share (document 01, Slot tables): slots and replies are runs of bytes, each number four of them, big-endian.
-use Prim.Native.Nat.{ℕ, _*_, _/_, _%_}
+use Prim.Native.Nat.{ℕ, _*_, _%_}
 use mathlib.Core.Bool.{Bool, _&&_}
 use mathlib.Core.List.{List, [], _∷_}
 use lib.ListN.{length}
@@ -7,17 +7,14 @@ use lib.Dec.{eqb, leb}
 use Rattle.layout.specs.Layout.{shortLayout}
 use Rattle.layout.specs.Refusals.{if_then_else_}
 use Rattle.record.specs.declared.Answer.{Answer}
-use Rattle.record.specs.Bytes.{bigEndian, bigEndianIn}
 use Rattle.record.specs.Table.{slotWidth, maxSlots}
 use Rattle.record.specs.Packing.{Packed}
 use Rattle.record.specs.Reading.{Read}
+use Rattle.host_numbers.specs.Numbers.{numberSize, bytesOf}
 
--- ---- numbers as bytes
+-- ---- slots and replies as bytes
 
--- the bytes of a number, of a slot, and of a reply, which is an answer's three numbers
-abbrev pub numberSize : ℕ
-numberSize = 4
-
+-- the bytes of a slot, and of a reply, which is an answer's three numbers
 abbrev pub slotSize : ℕ
 slotSize = numberSize * slotWidth
 
@@ -27,15 +24,6 @@ replySize = numberSize * 3
 -- of a reply that has a fourth number
 abbrev pub longReplySize : ℕ
 longReplySize = numberSize * 4
-
--- the numbers of a run of bytes, and the bytes of a run of numbers
-unfoldable pub numbersIn : List ℕ → List ℕ
-unfolding bigEndianIn
-numbersIn bs = bigEndianIn numberSize (length bs / numberSize) bs
-
-unfoldable pub bytesOf : List ℕ → List ℕ
-unfolding bigEndian
-bytesOf xs = bigEndian numberSize xs
 
 -- the reply to an answer of three numbers
 unfoldable pub replyOf : Answer → List ℕ

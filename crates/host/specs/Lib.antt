@@ -1,2 +1,2 @@
--- Numbers, slots and replies as a C host lends them.
+-- Slots and replies as a C host lends them, and what a call leaves.
 pub mod Host

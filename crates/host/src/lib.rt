@@ -1,18 +1,15 @@
-// What the calls for a C host share: slots are lent, and replies written, as runs of bytes, each number four of them, big-endian.
+// What the calls for a C host share: the sizes of the runs of bytes that are lent, and the replies. The numbers of a run are in `host_numbers`.
 ghost use mathlib.Core.Path.{_≡_};
 ghost use lib.Dec.{eqb};
 ghost use lib.ListN.{length};
 ghost use Rattle.host.specs.Host.{replySize, longReplySize, replyOf, longReply, slotsFit, isSmall};
 use record::Answer;
+use record::MAX_NUMBERS;
 
-pub mod numbers;
+// The bytes of a slot and of a reply.
+const SLOT_SIZE: usize = host_numbers::NUMBER_SIZE * record::SLOT_WIDTH;
 
-// The bytes of a slot and of a reply; the numbers of the slots that a call may be lent.
-pub const SLOT_SIZE: usize = numbers::NUMBER_SIZE * record::SLOT_WIDTH;
-
-pub const REPLY_SIZE: usize = 12;
-
-pub const MAX_NUMBERS: usize = record::SLOT_WIDTH * record::MAX_SLOTS;
+const REPLY_SIZE: usize = 12;
 
 // Whether a reply of so many bytes is one of three numbers.
 pub fn reply_fits(size: usize) -> bool
@@ -22,7 +19,7 @@ pub fn reply_fits(size: usize) -> bool
 }
 
 // The same for one of four numbers.
-pub const LONG_REPLY_SIZE: usize = 16;
+const LONG_REPLY_SIZE: usize = 16;
 
 pub fn long_reply_fits(size: usize) -> bool
     ensures { λ r. ⌜ r ≡ eqb size longReplySize ⌝ }
@@ -34,7 +31,7 @@ pub fn long_reply_fits(size: usize) -> bool
 pub fn slots_fit(size: usize) -> bool
     ensures { λ r. ⌜ r ≡ slotsFit size ⌝ }
 {
-    if MAX_NUMBERS * numbers::NUMBER_SIZE < size {
+    if MAX_NUMBERS * host_numbers::NUMBER_SIZE < size {
         return false;
     }
     size % SLOT_SIZE == 0
@@ -46,7 +43,7 @@ pub fn reply_with(reply: &mut [u8], a: Answer) -> u32
     ensures { λ r. ⌜ (r ≡ a .number) × (now (reply .exit) ≡ replyOf a) ⌝ }
 {
     let three: [u32; 3] = [a.number, a.first, a.second];
-    numbers::encode_run(reply, &three, 0, 3);
+    host_numbers::encode_run(reply, &three, 0, 3);
     a.number
 }
 
@@ -57,7 +54,7 @@ pub fn reply_long(reply: &mut [u8], a: Answer, fourth: u32) -> u32
 {
     let number = a.number;
     let four: [u32; 4] = [number, a.first, a.second, fourth];
-    numbers::encode_run(reply, &four, 0, 4);
+    host_numbers::encode_run(reply, &four, 0, 4);
     number
 }
 

@@ -27,8 +27,9 @@ use Rattle.difference.specs.Rows.{reportWidth}
 use Rattle.compare.specs.Comparing.{Shown, compares, compareEffect, Compared, compare}
 use Rattle.compare.proofs.Calls.{accepted-reads}
 use Rattle.compare.proofs.Lent.{Kept, Settled, settled, reportOver, report-over}
-use Rattle.host.specs.Host.{numberSize, slotSize, replySize, numbersIn, bytesOf, replyOf, slotsFit}
-use Rattle.host.proofs.NumberLaws.{length-numbersIn, length-bytesOf, bytes-stored}
+use Rattle.host_numbers.specs.Numbers.{numberSize, numbersIn, bytesOf}
+use Rattle.host_numbers.proofs.NumberLaws.{length-numbersIn, length-bytesOf, bytes-stored}
+use Rattle.host.specs.Host.{slotSize, replySize, replyOf, slotsFit}
 use Rattle.host.proofs.Guards.{Fit, too-many}
 use Rattle.host_compare.specs.Calls.{rowSize, wholeSlots, comparesLent, compareCall, curlewCompare}
 use Rattle.compare_write.specs.Back.{Fits, putBack}
@@ -85,12 +86,12 @@ module _ (layout first second fslots farea sslots sarea report reply : List ℕ)
   unfolding curlewCompare
   unwritten h = rw h
 
-  module _ (sized : eqb (length reply) replySize ≡ true) where
+  module _ (sized : length reply ≡ replySize) where
     -- a refusal writes the reply alone
     refused-by : {why : Refusal} {place r : ℕ} {a : Answer} {reply′ : List ℕ} → comparesLent layout first second fslots farea sslots sarea report ≡ refused why place → a ≡ refusal why place → (r ≡ a .number) × (reply′ ≡ replyOf a)
         → record { returned = r; firstSlots = fslots; firstArea = farea; secondSlots = sslots; secondArea = sarea; report = report; reply = reply′ } ≡ curlewCompare layout first second fslots farea sslots sarea report reply
     unfolding curlewCompare compareCall compareEffect
-    refused-by {why} e p q = rw (sized, e, q .0, q .1, p, ne-eqb (numberOf why) 0 (λ z. no-number-zero why z))
+    refused-by {why} e p q = rw (eq-eqb (length reply) replySize sized, e, q .0, q .1, p, ne-eqb (numberOf why) 0 (λ z. no-number-zero why z))
 
     pub first-cut : {r : ℕ} {a : Answer} {reply′ : List ℕ} → slotsFit (length fslots) ≡ false → a ≡ refusal BadSize 0 → (r ≡ a .number) × (reply′ ≡ replyOf a)
         → record { returned = r; firstSlots = fslots; firstArea = farea; secondSlots = sslots; secondArea = sarea; report = report; reply = reply′ } ≡ curlewCompare layout first second fslots farea sslots sarea report reply
@@ -133,9 +134,11 @@ module _ (layout first second fslots farea sslots sarea report reply : List ℕ)
         again (refused why place) e = rw e
         again (ok vs) e = rw e
 
-        pub served : compareCall fslots sslots report (compare layout first second (numbersIn fslots) farea (numbersIn sslots) sarea (numbersIn report)) ≡ curlewCompare layout first second fslots farea sslots sarea report reply
+        pub served : {r : ℕ} {fslots′ farea′ sslots′ sarea′ report′ reply′ : List ℕ}
+            → record { returned = r; firstSlots = fslots′; firstArea = farea′; secondSlots = sslots′; secondArea = sarea′; report = report′; reply = reply′ } ≡ compareCall fslots sslots report (compare layout first second (numbersIn fslots) farea (numbersIn sslots) sarea (numbersIn report))
+            → record { returned = r; firstSlots = fslots′; firstArea = farea′; secondSlots = sslots′; secondArea = sarea′; report = report′; reply = reply′ } ≡ curlewCompare layout first second fslots farea sslots sarea report reply
         unfolding curlewCompare compare
-        served = rw (sized, lent-first, whole sslots s, again (reads layout first (numbersIn fslots) farea 0) refl)
+        served p = p ∙ rw (eq-eqb (length reply) replySize sized, lent-first, whole sslots s, again (reads layout first (numbersIn fslots) farea 0) refl)
 
 -- ---- what the call on numbers left, written back
 

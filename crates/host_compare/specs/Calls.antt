@@ -11,7 +11,8 @@ use Rattle.layout.specs.Lent.{Lent, before, after}
 use Rattle.record.specs.Reading.{reads}
 use Rattle.difference.specs.Rows.{reportWidth}
 use Rattle.compare.specs.Comparing.{Shown, compares, compareEffect, Compared, compare}
-use Rattle.host.specs.Host.{numberSize, slotSize, replySize, numbersIn, bytesOf, replyOf}
+use Rattle.host_numbers.specs.Numbers.{numberSize, numbersIn, bytesOf}
+use Rattle.host.specs.Host.{slotSize, replySize, replyOf}
 
 -- the bytes of a row of the report
 abbrev pub rowSize : ℕ

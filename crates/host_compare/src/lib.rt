@@ -3,11 +3,11 @@ ghost use mathlib.Core.Path.{_≡_};
 ghost use Prim.Native.Nat.{_*_, _/_, _%_, min};
 ghost use lib.ListN.{length};
 ghost use Rattle.record.specs.Table.{slotWidth, maxSlots};
-ghost use Rattle.host.specs.Host.{numberSize, replySize};
+ghost use Rattle.host_numbers.specs.Numbers.{numberSize};
+ghost use Rattle.host.specs.Host.{replySize};
 ghost use Rattle.difference.specs.Rows.{reportWidth};
 ghost use Rattle.host_compare.specs.Calls.{CompareServed, HostCompares};
 ghost use Rattle.host_compare.specs.Steps.{SecondRefused};
-use host::numbers;
 use layout::Refusal;
 use record::Answer;
 
@@ -46,8 +46,8 @@ fn compare_by(
     requires { ⌜ (length (now «second_slots») ≡ length (now «second_room») * numberSize) × (length (now «second_room») % slotWidth ≡ 0) ⌝ }
     ensures { λ r. ⌜ CompareServed layout first second «first_slots» «first_area» «second_slots» «second_area» report reply r ⌝ }
 {
-    numbers::decode(first_slots, first_room);
-    numbers::decode(second_slots, second_room);
+    host_numbers::decode(first_slots, first_room);
+    host_numbers::decode(second_slots, second_room);
     let a = compare::compare(
         layout,
         first,
@@ -90,14 +90,14 @@ pub fn compare(
     if !host::slots_fit(first_slots.len()) {
         return host::reply_with(reply, Answer::refused(Refusal::BadSize, 0));
     }
-    let n = first_slots.len() / numbers::NUMBER_SIZE;
-    let mut first_room: [u32; host::MAX_NUMBERS] = [0; host::MAX_NUMBERS];
+    let n = first_slots.len() / host_numbers::NUMBER_SIZE;
+    let mut first_room: [u32; record::MAX_NUMBERS] = [0; record::MAX_NUMBERS];
     if !host::slots_fit(second_slots.len()) {
         return refuse_second(layout, first, &first_room[..n], first_area, reply);
     }
-    let m = second_slots.len() / numbers::NUMBER_SIZE;
-    let mut second_room: [u32; host::MAX_NUMBERS] = [0; host::MAX_NUMBERS];
-    let k = record::least(report.len() / numbers::NUMBER_SIZE, MAX_REPORT);
+    let m = second_slots.len() / host_numbers::NUMBER_SIZE;
+    let mut second_room: [u32; record::MAX_NUMBERS] = [0; record::MAX_NUMBERS];
+    let k = record::least(report.len() / host_numbers::NUMBER_SIZE, MAX_REPORT);
     let mut rows: [u32; MAX_REPORT] = [0; MAX_REPORT];
     compare_by(
         layout,

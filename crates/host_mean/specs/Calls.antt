@@ -9,11 +9,12 @@ use Rattle.layout.specs.Lent.{Lent, before, after}
 use Rattle.record.specs.Bytes.{numberBytes}
 use Rattle.record.specs.Table.{integerSize}
 use Rattle.record.specs.Packing.{refusal}
-use Rattle.mean.specs.declared.LegMean.{LegMean}
-use Rattle.mean.specs.declared.LegMean.the-variants.{Unmarked, Of}
-use Rattle.mean.specs.declared.Marks.{Marks}
-use Rattle.mean.specs.Mean.{mean}
-use Rattle.host.specs.Host.{numberSize, numbersIn, bytesOf, guarded}
+use Rattle.marks.specs.declared.LegMean.{LegMean}
+use Rattle.marks.specs.declared.LegMean.the-variants.{Unmarked, Of}
+use Rattle.marks.specs.declared.Marks.{Marks}
+use Rattle.marks.specs.Mean.{mean}
+use Rattle.host_numbers.specs.Numbers.{numberSize, numbersIn, bytesOf}
+use Rattle.host.specs.Host.{guarded}
 
 -- ---- the reply
 

@@ -11,7 +11,8 @@ use Rattle.record.specs.declared.Answer.{Answer}
 use Rattle.record.specs.Table.{maxSlots, slotWidth}
 use Rattle.record.specs.Packing.{Packed, refusal, packs, pack}
 use Rattle.record.proofs.Sizes.{too-many}
-use Rattle.host.specs.Host.{replySize, numbersIn, replyOf, packCall, slotsFit}
+use Rattle.host_numbers.specs.Numbers.{numbersIn}
+use Rattle.host.specs.Host.{replySize, replyOf, packCall, slotsFit}
 use Rattle.host.proofs.Guards.{Fit, guarded-unwritten, guarded-refused, guarded-served}
 use Rattle.host.proofs.Calls as host
 use Rattle.host_pack.specs.Calls.{curlewPack}

@@ -9,7 +9,8 @@ use Rattle.layout.specs.Lent.{Lent, before, after}
 use Rattle.record.specs.declared.Answer.{Answer}
 use Rattle.record.specs.Table.{slotWidth}
 use Rattle.record.specs.Packing.{refusal, pack}
-use Rattle.host.specs.Host.{numberSize, replySize, numbersIn, PackCall, packCall, guarded}
+use Rattle.host_numbers.specs.Numbers.{numberSize, numbersIn}
+use Rattle.host.specs.Host.{replySize, PackCall, packCall, guarded}
 
 -- room for the numbers of just these slots, which are whole
 abbrev pub RoomFor : List ℕ → List ℕ → Type 0

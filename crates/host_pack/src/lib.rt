@@ -8,7 +8,7 @@ fn pack_short(layout: &[u8], slots: &[u8], area: &[u8], out: &mut [u8], room: &m
     requires { ⌜ RoomFor (now slots) (now room) ⌝ }
     ensures { λ a. ⌜ Packs layout slots area out a ⌝ }
 {
-    host::numbers::decode(slots, room);
+    host_numbers::decode(slots, room);
     packer::pack_short(layout, room, area, out)
 }
 
@@ -17,7 +17,7 @@ fn pack_long(layout: &[u8], slots: &[u8], area: &[u8], out: &mut [u8], room: &mu
     requires { ⌜ RoomFor (now slots) (now room) ⌝ }
     ensures { λ a. ⌜ Packs layout slots area out a ⌝ }
 {
-    host::numbers::decode(slots, room);
+    host_numbers::decode(slots, room);
     packer::pack(layout, room, area, out)
 }
 
@@ -31,13 +31,13 @@ pub fn pack(layout: &[u8], slots: &[u8], area: &[u8], out: &mut [u8], reply: &mu
     if !host::slots_fit(slots.len()) {
         return host::reply_with(reply, Answer::refused(Refusal::BadSize, 0));
     }
-    let n = slots.len() / host::numbers::NUMBER_SIZE;
+    let n = slots.len() / host_numbers::NUMBER_SIZE;
     if host::small(layout.len(), n) {
         let mut room: [u32; host::FEW_NUMBERS] = [0; host::FEW_NUMBERS];
         let a = pack_short(layout, slots, area, out, &mut room[..n]);
         return host::reply_with(reply, a);
     }
-    let mut room: [u32; host::MAX_NUMBERS] = [0; host::MAX_NUMBERS];
+    let mut room: [u32; record::MAX_NUMBERS] = [0; record::MAX_NUMBERS];
     let a = pack_long(layout, slots, area, out, &mut room[..n]);
     host::reply_with(reply, a)
 }

@@ -18,8 +18,9 @@ use Rattle.record.specs.Packing.{refusal}
 use Rattle.record.specs.Reading.{reads, read, readSteps, ReadAll, leftOf, readAll}
 use Rattle.record.proofs.Sizes.{too-many}
 use Rattle.record.proofs.Readings.{over, read-over, steps-same, set-few}
-use Rattle.host.specs.Host.{numberSize, longReplySize, numbersIn, bytesOf, longReply, ReadCall, readCall, slotsFit}
-use Rattle.host.proofs.NumberLaws.{length-numbersIn}
+use Rattle.host_numbers.specs.Numbers.{numberSize, numbersIn, bytesOf}
+use Rattle.host_numbers.proofs.NumberLaws.{length-numbersIn}
+use Rattle.host.specs.Host.{longReplySize, longReply, ReadCall, readCall, slotsFit}
 use Rattle.host.proofs.Guards.{Fit, guarded-unwritten, guarded-refused, guarded-served}
 use Rattle.host.proofs.Calls as host
 use Rattle.host_read.specs.Calls.{stepsCall, curlewRead, writtenBack}

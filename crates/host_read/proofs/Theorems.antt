@@ -14,11 +14,12 @@ use Rattle.record.specs.Bytes.{part, join, digits, number, numberBytes, numberA
 use Rattle.record.specs.Table.{slotWidth}
 use Rattle.record.specs.Reading.{Read, read, readSteps, withSteps}
 use Rattle.record.proofs.Bytes.{All, all-below, number-digits}
-use Rattle.host.specs.Host.{numberSize, slotSize, longReplySize, bytesOf, numbersIn, longReply, ReadCall, readCall}
+use Rattle.host_numbers.specs.Numbers.{numberSize, bytesOf, numbersIn}
+use Rattle.host.specs.Host.{slotSize, longReplySize, longReply, ReadCall, readCall}
 use Rattle.host_read.specs.Calls.{stepsCall, curlewRead}
 use Rattle.host_read.specs.Claims.{Stay, UnsetStay}
 use Rattle.record.proofs.NumberLaws.{length-numberBytes}
-use Rattle.host.proofs.NumberLaws.{bytes-drop, bytes-back}
+use Rattle.host_numbers.proofs.NumberLaws.{bytes-drop, bytes-back}
 use Rattle.record.proofs.Readings.{read-unset, read-few}
 
 -- a number of 32 bits comes back from its bytes

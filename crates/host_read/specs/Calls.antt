@@ -12,7 +12,8 @@ use Rattle.record.specs.Bytes.{storeAt}
 use Rattle.record.specs.Table.{slotWidth}
 use Rattle.record.specs.Packing.{refusal}
 use Rattle.record.specs.Reading.{read, readSteps, ReadAll, leftOf, readAll}
-use Rattle.host.specs.Host.{longReplySize, numbersIn, bytesOf, longReply, ReadCall, readCall, withReply, guarded}
+use Rattle.host_numbers.specs.Numbers.{numbersIn, bytesOf}
+use Rattle.host.specs.Host.{longReplySize, longReply, ReadCall, readCall, withReply, guarded}
 
 -- what the call on numbers leaves, as a C host sees it; the reply's fourth number are the steps (02, M-112)
 unfoldable pub stepsCall : List ℕ → ReadAll → ReadCall

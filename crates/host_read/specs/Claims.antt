@@ -6,7 +6,8 @@ use lib.Dec.{eqb}
 use lib.ListN.{drop, getD}
 use Rattle.layout.specs.Refusals.{if_then_else_}
 use Rattle.record.specs.Bytes.{numberAt}
-use Rattle.host.specs.Host.{numberSize, slotSize, ReadCall}
+use Rattle.host_numbers.specs.Numbers.{numberSize}
+use Rattle.host.specs.Host.{slotSize, ReadCall}
 use Rattle.host_read.specs.Calls.{curlewRead}
 
 -- how many slots a reading set: the reply's second number, where it was accepted

@@ -3,7 +3,8 @@ ghost use mathlib.Core.Path.{_≡_};
 ghost use Prim.Native.Nat.{_*_, _≤_};
 ghost use lib.ListN.{length};
 ghost use Rattle.record.specs.Table.{slotWidth};
-ghost use Rattle.host.specs.Host.{numberSize, longReplySize, longReply};
+ghost use Rattle.host_numbers.specs.Numbers.{numberSize};
+ghost use Rattle.host.specs.Host.{longReplySize, longReply};
 ghost use Rattle.host_read.specs.Calls.{writtenBack, Reads, HostReads};
 use layout::Refusal;
 use record::Answer;
@@ -20,7 +21,7 @@ fn read_back(slots: &mut [u8], reply: &mut [u8], room: &[u32], r: ReadAnswer) ->
     if a.number != 0 {
         return host::reply_long(reply, a, r.steps);
     }
-    host::numbers::encode(slots, room, a.first as usize);
+    host_numbers::encode(slots, room, a.first as usize);
     host::reply_long(reply, a, r.steps)
 }
 
@@ -75,11 +76,11 @@ pub fn read(
     if !host::slots_fit(slots.len()) {
         return host::reply_long(reply, Answer::refused(Refusal::BadSize, 0), 0);
     }
-    let n = slots.len() / host::numbers::NUMBER_SIZE;
+    let n = slots.len() / host_numbers::NUMBER_SIZE;
     if host::small(layout.len(), n) {
         let mut room: [u32; host::FEW_NUMBERS] = [0; host::FEW_NUMBERS];
         return read_short(layout, bytes, slots, area, mark, reply, &mut room[..n]);
     }
-    let mut room: [u32; host::MAX_NUMBERS] = [0; host::MAX_NUMBERS];
+    let mut room: [u32; record::MAX_NUMBERS] = [0; record::MAX_NUMBERS];
     read_long(layout, bytes, slots, area, mark, reply, &mut room[..n])
 }

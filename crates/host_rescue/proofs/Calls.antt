@@ -12,11 +12,12 @@ use Rattle.layout.specs.Refusals.{numberOf}
 use Rattle.record.specs.Bytes.{storeAt}
 use Rattle.record.specs.Table.{maxSlots, slotWidth}
 use Rattle.record.proofs.Bytes.{All}
-use Rattle.host.specs.Host.{numberSize, numbersIn, bytesOf, slotsFit}
-use Rattle.host.proofs.NumberLaws.{length-numbersIn, bytes-stored}
+use Rattle.host_numbers.specs.Numbers.{numberSize, numbersIn, bytesOf}
+use Rattle.host_numbers.proofs.NumberLaws.{length-numbersIn, bytes-stored}
+use Rattle.host.specs.Host.{slotsFit}
 use Rattle.host.proofs.Guards.{Fit, guarded-unwritten, guarded-refused, guarded-served}
-use Rattle.rescue.specs.declared.Rescued.{Rescued}
-use Rattle.rescue.specs.Rescue.{refusal, rescues, rescue}
+use Rattle.rescue_fill.specs.declared.Rescued.{Rescued}
+use Rattle.rescue_fill.specs.Rescue.{refusal, rescues, rescue}
 use Rattle.rescue.proofs.Unset.{over, rescue-over}
 use Rattle.host_rescue.specs.Calls.{rescueReplySize, rescueReply, rescueCall, curlewSheetRescue}
 

@@ -6,9 +6,10 @@ use lib.Dec.{eqb}
 use Rattle.layout.specs.declared.Refusal.the-variants.{BadSize}
 use Rattle.layout.specs.Refusals.{if_then_else_, numberOf}
 use Rattle.layout.specs.Lent.{Lent, before, after}
-use Rattle.host.specs.Host.{numberSize, numbersIn, bytesOf, ReadCall, guarded}
-use Rattle.rescue.specs.declared.Rescued.{Rescued}
-use Rattle.rescue.specs.Rescue.{refusal, Outcome, rescue}
+use Rattle.host_numbers.specs.Numbers.{numberSize, numbersIn, bytesOf}
+use Rattle.host.specs.Host.{ReadCall, guarded}
+use Rattle.rescue_fill.specs.declared.Rescued.{Rescued}
+use Rattle.rescue_fill.specs.Rescue.{refusal, Outcome, rescue}
 
 -- the reply: an answer's four numbers
 unfoldable pub rescueReply : Rescued → List ℕ

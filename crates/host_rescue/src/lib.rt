@@ -3,13 +3,13 @@ ghost use mathlib.Core.Path.{_≡_};
 ghost use Prim.Native.Nat.{_*_};
 ghost use lib.Dec.{eqb};
 ghost use lib.ListN.{length};
-ghost use Rattle.host.specs.Host.{numberSize};
+ghost use Rattle.host_numbers.specs.Numbers.{numberSize};
 ghost use Rattle.host_rescue.specs.Calls.{rescueReplySize, rescueReply, RescueServed, HostRescues};
 use layout::Refusal;
-use rescue::Rescued;
+use rescue_fill::Rescued;
 
 // The bytes of a reply of four numbers.
-const REPLY_SIZE: usize = host::numbers::NUMBER_SIZE * 4;
+const REPLY_SIZE: usize = host_numbers::NUMBER_SIZE * 4;
 
 // Whether a reply of so many bytes is one of a rescue.
 fn reply_fits(size: usize) -> bool
@@ -24,7 +24,7 @@ fn reply_with(reply: &mut [u8], a: Rescued) -> u32
     ensures { λ r. ⌜ (r ≡ a .number) × (now (reply .exit) ≡ rescueReply a) ⌝ }
 {
     let four: [u32; 4] = [a.number, a.first, a.second, a.third];
-    host::numbers::encode_run(reply, &four, 0, 4);
+    host_numbers::encode_run(reply, &four, 0, 4);
     a.number
 }
 
@@ -45,7 +45,7 @@ fn rescue_by(
     if a.number != 0 {
         return reply_with(reply, a);
     }
-    host::numbers::encode(slots, room, legs);
+    host_numbers::encode(slots, room, legs);
     reply_with(reply, a)
 }
 
@@ -66,7 +66,7 @@ pub fn rescue(
     if !host::slots_fit(slots.len()) {
         return reply_with(reply, Rescued::refused(Refusal::BadSize));
     }
-    let n = slots.len() / host::numbers::NUMBER_SIZE;
-    let mut room: [u32; host::MAX_NUMBERS] = [0; host::MAX_NUMBERS];
+    let n = slots.len() / host_numbers::NUMBER_SIZE;
+    let mut room: [u32; record::MAX_NUMBERS] = [0; record::MAX_NUMBERS];
     rescue_by(sheet, legs, slots, area, mark, reply, &mut room[..n])
 }

@@ -15,8 +15,9 @@ use Rattle.record.specs.Table.{maxSlots, slotWidth}
 use Rattle.record.specs.Packing.{refusal}
 use Rattle.record.proofs.Bytes.{All}
 use Rattle.record.proofs.Readings.{over}
-use Rattle.host.specs.Host.{numberSize, replySize, numbersIn, bytesOf, replyOf, readCall, slotsFit}
-use Rattle.host.proofs.NumberLaws.{length-numbersIn}
+use Rattle.host_numbers.specs.Numbers.{numberSize, numbersIn, bytesOf}
+use Rattle.host_numbers.proofs.NumberLaws.{length-numbersIn}
+use Rattle.host.specs.Host.{replySize, replyOf, readCall, slotsFit}
 use Rattle.host.proofs.Guards.{Fit, guarded-unwritten, guarded-refused, guarded-served}
 use Rattle.host.proofs.Calls as host
 use Rattle.sheet.specs.Sheet.{reads, read}

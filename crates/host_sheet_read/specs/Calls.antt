@@ -6,7 +6,8 @@ use Rattle.layout.specs.declared.Refusal.the-variants.{BadSize}
 use Rattle.layout.specs.Refusals.{numberOf}
 use Rattle.layout.specs.Lent.{Lent, before, after}
 use Rattle.record.specs.Packing.{refusal}
-use Rattle.host.specs.Host.{replySize, numbersIn, ReadCall, readCall, guarded}
+use Rattle.host_numbers.specs.Numbers.{numbersIn}
+use Rattle.host.specs.Host.{replySize, ReadCall, readCall, guarded}
 use Rattle.sheet.specs.Sheet.{read}
 
 unfoldable pub curlewSheetRead : List ℕ → List ℕ → List ℕ → ℕ → List ℕ → ReadCall

@@ -2,7 +2,8 @@
 ghost use mathlib.Core.Path.{_≡_};
 ghost use Prim.Native.Nat.{_*_};
 ghost use lib.ListN.{length};
-ghost use Rattle.host.specs.Host.{numberSize, replySize};
+ghost use Rattle.host_numbers.specs.Numbers.{numberSize};
+ghost use Rattle.host.specs.Host.{replySize};
 ghost use Rattle.host_sheet_read.specs.Calls.{ReadServed, HostReadsSheet};
 use layout::Refusal;
 use record::Answer;
@@ -23,7 +24,7 @@ fn read_by(
     if a.number != 0 {
         return host::reply_with(reply, a);
     }
-    host::numbers::encode(slots, room, a.first as usize);
+    host_numbers::encode(slots, room, a.first as usize);
     host::reply_with(reply, a)
 }
 
@@ -37,7 +38,7 @@ pub fn read(sheet: &[u8], slots: &mut [u8], area: &mut [u8], mark: usize, reply:
     if !host::slots_fit(slots.len()) {
         return host::reply_with(reply, Answer::refused(Refusal::BadSize, 0));
     }
-    let n = slots.len() / host::numbers::NUMBER_SIZE;
-    let mut room: [u32; host::MAX_NUMBERS] = [0; host::MAX_NUMBERS];
+    let n = slots.len() / host_numbers::NUMBER_SIZE;
+    let mut room: [u32; record::MAX_NUMBERS] = [0; record::MAX_NUMBERS];
     read_by(sheet, slots, area, mark, reply, &mut room[..n])
 }

@@ -6,7 +6,8 @@ use Rattle.layout.specs.declared.Refusal.the-variants.{BadSize}
 use Rattle.layout.specs.Refusals.{numberOf}
 use Rattle.layout.specs.Lent.{Lent, before, after}
 use Rattle.record.specs.Packing.{refusal}
-use Rattle.host.specs.Host.{replySize, numbersIn, PackCall, packCall, guarded}
+use Rattle.host_numbers.specs.Numbers.{numbersIn}
+use Rattle.host.specs.Host.{replySize, PackCall, packCall, guarded}
 use Rattle.sheet.specs.Sheet.{write}
 
 unfoldable pub curlewSheetWrite : List ℕ → List ℕ → List ℕ → List ℕ → PackCall

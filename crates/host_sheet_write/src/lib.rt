@@ -3,7 +3,8 @@ ghost use mathlib.Core.Path.{_≡_};
 ghost use Prim.Native.Nat.{_*_, _%_};
 ghost use lib.ListN.{length};
 ghost use Rattle.record.specs.Table.{slotWidth};
-ghost use Rattle.host.specs.Host.{numberSize, replySize};
+ghost use Rattle.host_numbers.specs.Numbers.{numberSize};
+ghost use Rattle.host.specs.Host.{replySize};
 ghost use Rattle.host_sheet_write.specs.Calls.{WriteServed, HostWritesSheet};
 use layout::Refusal;
 use record::Answer;
@@ -13,7 +14,7 @@ fn write_by(slots: &[u8], area: &[u8], sheet: &mut [u8], reply: &mut [u8], room:
     requires { ⌜ (length (now reply) ≡ replySize) × (length (now slots) ≡ length (now room) * numberSize) × (length (now room) % slotWidth ≡ 0) ⌝ }
     ensures { λ r. ⌜ WriteServed slots area sheet reply r ⌝ }
 {
-    host::numbers::decode(slots, room);
+    host_numbers::decode(slots, room);
     let a = sheet_write::write(room, area, sheet);
     host::reply_with(reply, a)
 }
@@ -28,7 +29,7 @@ pub fn write(slots: &[u8], area: &[u8], sheet: &mut [u8], reply: &mut [u8]) -> u
     if !host::slots_fit(slots.len()) {
         return host::reply_with(reply, Answer::refused(Refusal::BadSize, 0));
     }
-    let n = slots.len() / host::numbers::NUMBER_SIZE;
-    let mut room: [u32; host::MAX_NUMBERS] = [0; host::MAX_NUMBERS];
+    let n = slots.len() / host_numbers::NUMBER_SIZE;
+    let mut room: [u32; record::MAX_NUMBERS] = [0; record::MAX_NUMBERS];
     write_by(slots, area, sheet, reply, &mut room[..n])
 }

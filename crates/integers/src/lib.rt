@@ -104,5 +104,5 @@ pub fn copy_eights(out: &mut [u8], at: usize, from: &[u8], start: usize, n: usiz
     if turn {
         return turn_eights(out, at, from, start, n);
     }
-    text::bytes::copy(out, at, from, start, n * 8)
+    byte_runs::copy(out, at, from, start, n * 8)
 }

@@ -16,7 +16,7 @@ use Rattle.record.proofs.Widening.{filler, widened-digits, sign-test}
 use Rattle.integers.specs.Eights.{eights}
 use Rattle.integers_load.specs.Items.{itemBytes, fillerOf}
 use Rattle.integers.proofs.IntegerLaws.{part-bytes, runs-same, joined, pieces-take, eightAt, eights-runs}
-use Rattle.text.proofs.ByteLaws.{store-both}
+use Rattle.byte_runs.proofs.ByteLaws.{store-both}
 
 -- ---- order and parts
 

@@ -35,7 +35,7 @@ fn load_item(
 {
     let top = integers::place(!big, w, 0);
     let fill = filler(unsigned, input[at + top]);
-    text::bytes::fill(area, to, 8 - w, fill);
+    byte_runs::fill(area, to, 8 - w, fill);
     integers::copy_ordered(area, to + (8 - w), input, at, w, !big);
 }
 

@@ -1,41 +1,20 @@
-// The mean of the marked legs: each slot of a table is one leg, which has a mark or is not set.
+// The mean of the marked legs: each slot of a table is one leg, which has a mark or is not set. The crate `marks` has the definitions and what holds of them.
 ghost use mathlib.Core.Path.{_≡_};
 ghost use Prim.Native.Nat.{_+_, _*_, _≤_};
 ghost use lib.ListN.{length};
 ghost use Rattle.record.specs.Table.{slotWidth};
 ghost use Rattle.record.specs.Packing.{refusal};
 ghost use Rattle.record.specs.Slots.{slotAt};
-ghost use Rattle.mean.specs.Mean.{legOf, mean};
-ghost use Rattle.mean.specs.Walk.{turnOf, meanOfTally, Near};
+ghost use Rattle.marks.specs.Mean.{legOf, mean};
+ghost use Rattle.marks.specs.Walk.{turnOf, meanOfTally, Near};
 use layout::Refusal;
+use marks::LegMean;
+use marks::Marks;
+use marks::Tally;
+use marks::Turn;
 use record::Answer;
 
 const MAX_MARK: u64 = 1000000;
-
-// No leg is marked, or the mean of those that are.
-pub enum LegMean {
-    Unmarked,
-    Of(f64),
-}
-
-// What the call answers; an accepted answer's second number is how many slots are not set.
-pub struct Marks {
-    pub answer: Answer,
-    pub mean: LegMean,
-}
-
-// What the walk over the slots has counted: the sum of the marks, how many there are, and the slots not set.
-pub struct Tally {
-    pub sum: u32,
-    pub marked: u32,
-    pub unset: u32,
-}
-
-// What one slot does to the walk: the tally grows, or the slot is refused.
-pub enum Turn {
-    Next(Tally),
-    Stop(Refusal),
-}
 
 fn refused(why: Refusal, place: u32) -> Marks
     ensures { λ r. ⌜ r ≡ record { answer = refusal why place; mean = LegMean.Unmarked } ⌝ }
@@ -95,7 +74,7 @@ fn mean_of_tally(t: Tally) -> LegMean
 pub fn mean(slots: &[u32], area: &[u8]) -> Marks
     ensures { λ r. ⌜ r ≡ mean (now (slots .entry)) (now (area .entry)) ⌝ }
 {
-    if !record::table_fits(slots.len(), area.len()) {
+    if !sizes::table_fits(slots.len(), area.len()) {
         return refused(Refusal::BadSize, 0);
     }
     let n = slots.len() / record::SLOT_WIDTH;

@@ -51,7 +51,7 @@ fn step_exactly(code: Code, n: Count, slots: &[u32], area: &[u8], k: usize, c: C
             match v {
                 Verdict::Refused(why, place) => Stepped::Stop(why, place),
                 Verdict::Fits => {
-                    let bytes = record::bytes_for(s, record::amount(n, a.len));
+                    let bytes = sizes::bytes_for(s, record::amount(n, a.len));
                     Stepped::Next(c.store(bytes))
                 }
             }

@@ -1,2 +1,2 @@
--- What is left of a call after each step. The definition of packing itself stands in the crate `record`.
+-- What is left of a call once its layout is read. The definition of packing itself stands in the crate `record`.
 pub mod Whole

@@ -1,19 +1,14 @@
--- What is left of a call after each step: the definition of packing from there on.
+-- What is left of a call once its layout is read: the definition of packing from there on.
 use Prim.Native.Nat.{ℕ}
 use mathlib.Core.Path.{_≡_}
 use mathlib.Core.Bool.{true}
 use mathlib.Core.List.{List}
 use Rattle.layout.specs.declared.Parsed.{Parsed}
 use Rattle.layout.specs.Layout.{fieldsOf}
-use Rattle.layout.specs.Words.{decoded, Parses}
+use Rattle.layout.specs.Words.{Parses}
 use Rattle.record.specs.declared.Answer.{Answer}
-use Rattle.record.specs.Table.{slotsOf}
 use Rattle.record.specs.Geometry.{sizesFit}
-use Rattle.record.specs.Packing.{finished, Packed, packEffect, pack}
-
--- what a call leaves, once there is a slot for each of the fields in the first n words that takes one
-abbrev pub finishes : List ℕ → ℕ → List ℕ → List ℕ → List ℕ → Packed
-finishes words n slots area output = packEffect output (finished area (slotsOf slots) (decoded n words) output)
+use Rattle.record.specs.Packing.{pack}
 
 -- the sizes fit, and `parse` read the layout as p and these words
 pub record Read (p : Parsed) (ws slots area output layout : List ℕ) : Type 0 where

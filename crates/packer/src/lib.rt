@@ -1,35 +1,12 @@
 // The packer: a layout and a table of arguments become a record (Tcl's `binary format`).
 // Everything is decided before anything is written: sizes, layout, slot count, arguments and length; then the fields are stored.
 ghost use mathlib.Core.Path.{_≡_};
-ghost use Prim.Native.Nat.{_≤_};
-ghost use lib.ListN.{length};
 ghost use Rattle.layout.specs.Lent.{before, after};
-ghost use Rattle.record.specs.Table.{maxRecord};
 ghost use Rattle.record.specs.Packing.{pack};
-ghost use Rattle.measuring.specs.Measure.{Prepared};
-ghost use Rattle.packer.specs.Whole.{finishes, Readable, PacksAsRead};
+ghost use Rattle.packer.specs.Whole.{Readable, PacksAsRead};
 use layout::Parsed;
 use layout::Refusal;
-use measuring::Measured;
 use record::Answer;
-
-// What is left once there is a slot for each field that takes one.
-fn finish(words: &[u32], n: usize, slots: &[u32], area: &[u8], output: &mut [u8]) -> Answer
-    requires { ⌜ Prepared n (now words) (now slots) × (length (now output) ≤ maxRecord) ⌝ }
-    ensures { λ r. ⌜ record { answer = r; output = after output } ≡ finishes (before words) n (before slots) (before area) (before output) ⌝ }
-{
-    let m = measuring::measure(words, n, slots, area);
-    match m {
-        Measured::Refused(why, k) => Answer::refused(why, k as u32),
-        Measured::Length(len) => {
-            if output.len() < len {
-                return Answer::refused(Refusal::NoRoom, 0);
-            }
-            writing::write(words, n, slots, area, output);
-            Answer::accepted(len as u32, 0)
-        }
-    }
-}
 
 // What is left once the layout is read.
 fn packed(p: Parsed, words: &[u32], slots: &[u32], area: &[u8], output: &mut [u8]) -> Answer
@@ -42,7 +19,7 @@ fn packed(p: Parsed, words: &[u32], slots: &[u32], area: &[u8], output: &mut [u8
             if slots.len() / record::SLOT_WIDTH != needed {
                 return Answer::refused(Refusal::WrongSlots, 0);
             }
-            finish(words, n, slots, area, output)
+            pack_words::pack(words, n, slots, area, output)
         }
     }
 }
@@ -51,7 +28,7 @@ fn packed(p: Parsed, words: &[u32], slots: &[u32], area: &[u8], output: &mut [u8
 pub fn pack(layout: &[u8], slots: &[u32], area: &[u8], output: &mut [u8]) -> Answer
     ensures { λ r. ⌜ record { answer = r; output = after output } ≡ pack (before layout) (before slots) (before area) (before output) ⌝ }
 {
-    if !record::lengths_fit(layout.len(), slots.len(), output.len(), area.len()) {
+    if !sizes::lengths_fit(layout.len(), slots.len(), output.len(), area.len()) {
         return Answer::refused(Refusal::BadSize, 0);
     }
     let mut words: [u32; layout::MAX_LAYOUT] = [0; layout::MAX_LAYOUT];
@@ -66,7 +43,7 @@ pub fn pack_short(layout: &[u8], slots: &[u32], area: &[u8], output: &mut [u8]) 
     if layout::SHORT_LAYOUT < layout.len() {
         return pack(layout, slots, area, output);
     }
-    if !record::lengths_fit(layout.len(), slots.len(), output.len(), area.len()) {
+    if !sizes::lengths_fit(layout.len(), slots.len(), output.len(), area.len()) {
         return Answer::refused(Refusal::BadSize, 0);
     }
     let mut few: [u32; layout::SHORT_LAYOUT] = [0; layout::SHORT_LAYOUT];

@@ -1,4 +1,2 @@
--- Laws of Perl templates. Readings are laws of the definitions; Turns serves the readers of the code, and Whole the call.
-pub mod Readings
-mod Turns
+-- The laws by which the call is proved.
 mod Whole

@@ -17,10 +17,10 @@ use Rattle.record.proofs.Fields.{split}
 use Rattle.perl_items.specs.declared.Span.{Span}
 use Rattle.perl_items.specs.declared.Span.the-variants.{Read, Stray}
 use Rattle.perl_items.specs.Template.{Template, Reading, read, stray, templateOf}
-use Rattle.perl.specs.Conversion.{layoutFrom, fromPerl}
 use Rattle.perl_items.specs.Readers.{itemsFrom, templateText, Stored, Written}
-use Rattle.perl.proofs.Readings.{Ends, items-end}
 use Rattle.perl_items.proofs.Letters.{was-read, was-stray}
+use Rattle.perl_readers.proofs.Readings.{Ends, items-end}
+use Rattle.perl.specs.Conversion.{layoutFrom, fromPerl}
 
 no-room : (n m : ℕ) → min maxLayout m < n → (leb n maxLayout && leb n m) ≡ false
 no-room n m h = split n maxLayout (λ k. rw (lt-leb n m (omega arith), and-false)) (λ k. rw (lt-leb n maxLayout k))

@@ -19,7 +19,7 @@ use Rattle.perl_tokens.specs.Tokens.{maxTemplateCount, maxDepth, maxRepeat, let
 use Rattle.perl_items.specs.Template.{Template, Item, done, next, single, group, Reading, read, stray, letterAt, groupAt, andThen, sequence, orRefused, templateOf}
 use Rattle.perl_items.specs.Readers.{itemsFrom, itemFrom}
 use Rattle.perl_claims.specs.Claim.{FirstBad, Places}
-use Rattle.perl.proofs.Readings.{Ends, ItemEnds, items-end, item-end, from-end-top, from-space, from-close, from-unopened, from-empty, from-item, from-stray, item-letter, item-deep, item-group, close-inside, group-is}
+use Rattle.perl_readers.proofs.Readings.{Ends, ItemEnds, items-end, item-end, from-end-top, from-space, from-close, from-unopened, from-empty, from-item, from-stray, item-letter, item-deep, item-group, close-inside, group-is}
 use Rattle.perl_claims.proofs.Local.{readEnd, starts, Agree, agree-take, agree-less, SameNumber, same-cons, local}
 
 -- ---- readings that differ

@@ -13,7 +13,6 @@ ghost use Rattle.perl_items.specs.Readers.{itemText, Stored, Again, Writ
 use layout::MAX_LAYOUT;
 use perl_tokens::Letter;
 use perl_tokens::MAX_COUNT;
-use text::bytes;
 
 // What a reader of a template finds: the place after what it read, and the place after the layout text that it put into the block, held at one
 // byte more than the block has; or the place of the stray byte.
@@ -59,7 +58,7 @@ fn put(
         return MAX_LAYOUT + 1;
     }
     put_letter(out, to, letter, flagged);
-    bytes::copy(out, count, text, start, n);
+    byte_runs::copy(out, count, text, start, n);
     end
 }
 

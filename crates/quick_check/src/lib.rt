@@ -46,7 +46,7 @@ fn try_integers(d: u32, n: Count, items: usize, a: Slot, area: &[u8]) -> Quick
     if !is_plenty(n, items, a.len) {
         return Quick::Unsure;
     }
-    Quick::Bytes(record::bytes_numbered(d, items))
+    Quick::Bytes(sizes::bytes_numbered(d, items))
 }
 
 // The argument of reals.
@@ -66,7 +66,7 @@ fn try_reals(d: u32, n: Count, items: usize, a: Slot, area: &[u8]) -> Quick
     if !arguments::singles_fit(d <= layout::LAST_SINGLE, items, a, area) {
         return Quick::Unsure;
     }
-    Quick::Bytes(record::bytes_numbered(d, items))
+    Quick::Bytes(sizes::bytes_numbered(d, items))
 }
 
 // The argument of text or digits. A string may be shorter or longer than its field, so the count is not looked at.
@@ -91,7 +91,7 @@ fn try_string(d: u32, items: usize, a: Slot, area: &[u8]) -> Quick
     ) {
         return Quick::Unsure;
     }
-    Quick::Bytes(record::bytes_numbered(d, items))
+    Quick::Bytes(sizes::bytes_numbered(d, items))
 }
 
 // The argument of a field that takes so many items, by the number of the field's type. Where this is unsure, `arguments::check` finds what is wrong.

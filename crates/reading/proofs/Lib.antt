@@ -1,3 +1,2 @@
 -- The laws that belong to no one function.
-pub mod Room
-pub mod Tables
+mod Tables

@@ -1,39 +1,25 @@
--- What the two passes keep: the values so far, their bytes, and the table and area that hold them.
-use Prim.Native.Nat.{ℕ, suc, _+_, _-_, _*_, _/_, _%_, _≤_, _<_}
+-- What the pass keeps: the values so far, and the table and area that hold them.
+use Prim.Native.Nat.{ℕ, suc, _+_, _*_, _≤_}
 use native.Mathlib.Nat.{add-assoc, add-zero, zero-add}
 use native.Mathlib.Omega.{arith}
 use mathlib.Core.Path.{_≡_, refl, sym, ap, _∙_}
-use mathlib.Core.List.{List, [], _∷_, _++_, append-assoc, append-nil}
+use mathlib.Core.List.{List, [], _∷_, _++_}
 use lib.ListN.{length, getD, drop, length-append}
 use lib.Seq.{drop-drop}
 use Rattle.layout.specs.declared.Field.{Field}
-use Rattle.layout.specs.Words.{lastData, shapeNumbered, countFrom, decoded, flagUnit, countUnit}
-use Rattle.layout.proofs.Numbered.{shape-fits}
 use Rattle.record.specs.Bytes.{storeAt, join}
-use Rattle.record.specs.Slots.{slotSet}
-use Rattle.record.specs.Table.{slotWidth, maxSlots, maxRecord, maxArea, noPosition, Value, areaBytes, slotNumbers, valueBytes}
-use Rattle.record.specs.Geometry.{bytesFor, itemsOf}
+use Rattle.record.specs.Table.{slotWidth, maxSlots, maxArea, noPosition, Value, areaBytes, slotNumbers, valueBytes}
 use Rattle.record.specs.Packing.{accepted}
 use Rattle.record.specs.Reading.{valuesFrom, positionsFrom, stepsFrom, putInto, withSteps}
 use Rattle.record.proofs.Stores.{length-storeAt, store-none, store-next}
 use Rattle.record.proofs.Readings.{length-slot-numbers}
 use Rattle.record.specs.declared.ReadAnswer.{ReadAnswer}
-use Rattle.values.specs.declared.value.Loaded.{Loaded}
-use Rattle.values.specs.Values.{Inside, LoadedAs}
-use Rattle.reading.specs.Tables.{TableRoom, PutRoom, PutAs}
+use Rattle.read_measure.proofs.Run.{value-bytes-append, value-bytes-one}
+use Rattle.read_put.specs.Put.{PutRoom, PutAs}
+use Rattle.reading.specs.Tables.{TableRoom}
 use Rattle.positions.proofs.Turns.{Ran, Ended, ran-start, Found}
 
--- ---- values one after the other
-
-pub value-bytes-append : (vs ws : List Value) → valueBytes (vs ++ ws) ≡ valueBytes vs ++ valueBytes ws
-unfolding valueBytes join
-value-bytes-append [] ws = refl
-value-bytes-append (v ∷ vs) ws = ap (λ (r : List ℕ). areaBytes v ++ r) (value-bytes-append vs ws) ∙ sym (append-assoc (areaBytes v) (valueBytes vs) (valueBytes ws))
-
-value-bytes-one : (v : Value) → valueBytes (v ∷ []) ≡ areaBytes v
-unfolding valueBytes join
-value-bytes-one v = append-nil (areaBytes v)
-
+-- the numbers of slots, of values one after the other
 pub slot-numbers-append : (start : ℕ) (at : List ℕ) (vs ws : List Value)
     → slotNumbers start at (vs ++ ws) ≡ slotNumbers start at vs ++ slotNumbers (start + length (valueBytes vs)) (drop (length vs) at) ws
 unfolding slotNumbers valueBytes join
@@ -46,54 +32,12 @@ slot-numbers-append start at (v ∷ vs) ws =
     ∙ ap (λ (n : ℕ). slotNumbers (start + length (areaBytes v)) (drop 1 at) vs ++ slotNumbers n (drop (length vs) (drop 1 at)) ws) e
     ∙ ap (λ (ps : List ℕ). slotNumbers (start + length (areaBytes v)) (drop 1 at) vs ++ slotNumbers (start + length (areaBytes v ++ valueBytes vs)) ps ws) (drop-drop (length vs) 1 at ∙ ap (λ (n : ℕ). drop n at) s))
 
--- the numbers of one slot
+-- of one value
 slot-numbers-one : (start : ℕ) (at : List ℕ) (v : Value) {p : ℕ} → getD at 0 noPosition ≡ p → slotNumbers start at (v ∷ []) ≡ slotNumbers start (p ∷ []) (v ∷ [])
 unfolding slotNumbers
 slot-numbers-one start at v e = rw e
 
--- ---- one slot
-
-pub put-as : {v : Value} {slots slots′ area area′ : List ℕ} {k to at : ℕ} {r : Loaded} → LoadedAs v area to r area′
-    → slots′ ≡ slotSet slots k (record { kind = r .kind; start = to; len = r .items; position = at }) → PutAs v at slots k area to (to + r .size) slots′ area′
-unfolding slotNumbers
-put-as {to} l e = record { next = ap (λ (n : ℕ). to + n) (l .size); table = e ∙ rw (l .kind, l .items); values = l .area }
-
--- ---- the bytes of a field that is found lie in the record
-
-module _ {bs : List ℕ} (n : ℕ) (ws : List ℕ) {i at : ℕ} {vs : List Value} (few : n ≤ length ws) (ran : Ran bs (decoded n ws) i at vs) (l : i < n) (slot : getD ws i 0 % flagUnit ≤ lastData) {k b : ℕ}
-    (items : k ≡ itemsOf (shapeNumbered (getD ws i 0 % flagUnit)) (countFrom (getD ws i 0 / countUnit)) (length bs - at)) (bytes : b ≡ bytesFor (shapeNumbered (getD ws i 0 % flagUnit)) k) (h : b ≤ length bs - at) where
-  pub found-inside : length bs ≤ maxRecord → Inside bs at (shapeNumbered (getD ws i 0 % flagUnit)) k
-  found-inside m = record { form = shape-fits _ slot; within = omega (arith, ran .inside); limit = m }
-
--- ---- the first pass
-
-pub record Measured (bs : List ℕ) (fs : List Field) (i at size : ℕ) : Type 0 where
-  pub vs : List Value
-  pub ran : Ran bs fs i at vs
-  pub is : size ≡ length (valueBytes vs)
-  pub small : size ≤ i * (8 * maxRecord)
-
-pub measured-start : (bs : List ℕ) (fs : List Field) → Measured bs fs 0 0 0
-unfolding valueBytes join
-measured-start bs fs = record { vs = []; ran = ran-start bs fs; is = refl; small = omega arith }
-
-module _ {bs : List ℕ} {fs : List Field} {i at d size : ℕ} (m : Measured bs fs i at size) where
-  pub measured-moved : Ran bs fs (i + 1) d (m .vs) → Measured bs fs (i + 1) d size
-  measured-moved ran = record { vs = m .vs; ran = ran; is = m .is; small = omega (arith, m .small) }
-
-  pub measured-more : (v : Value) {r : ℕ} → r ≡ length (areaBytes v) → r ≤ 8 * maxRecord → Found bs fs i at d (m .vs) v → Measured bs fs (i + 1) d (size + r)
-  measured-more v {r} e h found =
-      record {
-        vs = m .vs ++ (v ∷ []);
-        ran = found .ran;
-        is = sym (ap length (value-bytes-append (m .vs) (v ∷ [])) ∙ rw (value-bytes-one, length-append, ← m .is, ← e));
-        small = omega (arith, m .small);
-      }
-
-pub measured-done : {bs : List ℕ} {fs : List Field} {i at size k : ℕ} (m : Measured bs fs i at size) → Ended bs fs (m .vs) k → size ≡ length (valueBytes (valuesFrom bs 0 fs))
-measured-done m e = m .is ∙ ap (λ (vs : List Value). length (valueBytes vs)) (e .values)
-
--- ---- the second pass
+-- ---- the pass
 
 pub record Written (bs : List ℕ) (fs : List Field) (slots₀ area₀ : List ℕ) (mark i at n place : ℕ) (slots area : List ℕ) : Type 0 where
   pub vs : List Value

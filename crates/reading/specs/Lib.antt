@@ -1,2 +1,2 @@
--- What the passes promise of the values, the table and the area.
+-- What the pass promises of the table and the area.
 pub mod Tables

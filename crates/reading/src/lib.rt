@@ -1,3 +1,60 @@
-// The two passes of a reading over the fields: the first measures, and the second writes.
-pub mod measure;
-pub mod table;
+// The second pass of a reading over the fields: the values go into the area, and what the slots say of them into the table.
+ghost use mathlib.Core.Path.{_≡_};
+ghost use Prim.Native.Nat.{_≤_};
+ghost use lib.ListN.{length};
+ghost use Rattle.layout.specs.Layout.{maxLayout};
+ghost use Rattle.layout.specs.Lent.{before, after};
+ghost use Rattle.record.specs.Table.{maxSlots, maxRecord, maxArea};
+ghost use Rattle.record.specs.Packing.{accepted};
+ghost use Rattle.read_measure.specs.Run.{valuesOf};
+ghost use Rattle.reading.specs.Tables.{putAll, TableRoom};
+use record::Answer;
+use record::ReadAnswer;
+
+fn answer(set: usize, place: usize, steps: usize) -> ReadAnswer
+    requires { ⌜ (set ≤ maxSlots) × (place ≤ maxArea) × (steps ≤ maxLayout) ⌝ }
+    ensures { λ r. ⌜ r ≡ record { answer = accepted set place; steps = steps } ⌝ }
+{
+    ReadAnswer {
+        answer: Answer::accepted(set as u32, place as u32),
+        steps: steps as u32,
+    }
+}
+
+pub fn fill(
+    words: &[u32],
+    n: usize,
+    bytes: &[u8],
+    slots: &mut [u32],
+    area: &mut [u8],
+    mark: usize,
+) -> ReadAnswer
+    requires { ⌜ (n ≤ length (now words)) × (length (now words) ≤ maxLayout) × (length (now bytes) ≤ maxRecord) ⌝ }
+    requires { ⌜ TableRoom (valuesOf n (now words) (now bytes)) (now slots) (now area) mark ⌝ }
+    ensures { λ r. ⌜ record { answer = r; slots = after slots; area = after area } ≡ putAll n (before words) (before bytes) (before slots) (before area) mark ⌝ }
+{
+    let mut at: usize = 0;
+    let mut set: usize = 0;
+    let mut place = mark;
+    let mut i: usize = 0;
+    while i < n {
+        let word = words[i];
+        let d = word % layout::FLAG_UNIT;
+        i += 1;
+        if layout::LAST_DATA < d {
+            at = positions::position(word, at, bytes.len());
+        } else {
+            let left = bytes.len() - at;
+            let items = positions::items(d, word / layout::COUNT_UNIT, left);
+            let need = sizes::bytes_numbered(d, items);
+            if left < need {
+                return answer(set, place, i);
+            }
+            let u = word / layout::FLAG_UNIT % 2 == 1;
+            place = read_put::put(slots, set, area, place, bytes, at, d, u, items);
+            set += 1;
+            at += need;
+        }
+    }
+    answer(set, place, i)
+}

@@ -1,2 +1,2 @@
 -- Laws of reals in fields.
-pub mod RealLaws
+mod RealLaws

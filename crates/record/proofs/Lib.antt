@@ -11,4 +11,4 @@ pub mod Moves
 pub mod Widening
 pub mod Readings
 pub mod Arguments
-pub mod Steps
+mod Steps

@@ -2,16 +2,14 @@
 ghost use mathlib.Core.Path.{_≡_};
 ghost use Prim.Native.Nat.{_+_, _≤_, _<_, min, max};
 ghost use Rattle.layout.specs.Refusals.{lineOf, numberOf};
-ghost use Rattle.layout.specs.Words.{lastData, realSize, FitCode, FitCount, shapeNumbered};
-ghost use Rattle.layout.specs.declared.Code.the-variants.{Data};
+ghost use Rattle.layout.specs.Words.{FitCount};
 ghost use Rattle.layout.specs.declared.Motion.the-variants.{Skip, Back, Goto};
-ghost use Rattle.record.specs.Geometry.{recordFits, tableFits, lengthsFit, amount, perByte, bytesFor, itemsLimit, wordLimit};
+ghost use Rattle.record.specs.Geometry.{amount, wordLimit};
 ghost use Rattle.record.specs.Table.{numberLimit};
 ghost use Rattle.record.specs.Cursor.{past, moved, movedInside};
 ghost use Rattle.record.specs.Packing.{accepted, refusal};
 use layout::Count;
 use layout::Refusal;
-use layout::Shape;
 
 pub mod slots;
 
@@ -29,39 +27,6 @@ pub const INTEGER_SIZE: usize = 8;
 
 // The numbers of the slots that a call may be lent.
 pub const MAX_NUMBERS: usize = SLOT_WIDTH * MAX_SLOTS;
-
-// A layout and a record, or an output buffer, of so many bytes keep to their sizes.
-pub fn record_fits(layout: usize, bytes: usize) -> bool
-    ensures { λ r. ⌜ r ≡ recordFits layout bytes ⌝ }
-{
-    if layout::MAX_LAYOUT < layout {
-        return false;
-    }
-    bytes <= MAX_RECORD
-}
-
-// So many numbers of slots are whole slots and not too many, and an area of so many bytes keeps to its size.
-pub fn table_fits(slots: usize, area: usize) -> bool
-    ensures { λ r. ⌜ r ≡ tableFits slots area ⌝ }
-{
-    if MAX_NUMBERS < slots {
-        return false;
-    }
-    if slots % SLOT_WIDTH != 0 {
-        return false;
-    }
-    area <= MAX_AREA
-}
-
-// Both; else a call is refused with 1.
-pub fn lengths_fit(layout: usize, slots: usize, bytes: usize, area: usize) -> bool
-    ensures { λ r. ⌜ r ≡ lengthsFit layout slots bytes area ⌝ }
-{
-    if !record_fits(layout, bytes) {
-        return false;
-    }
-    table_fits(slots, area)
-}
 
 // What a call answers: 0 and two more numbers, or the number of a refusal, its place, and 0.
 pub struct Answer {
@@ -156,51 +121,6 @@ pub fn amount(n: Count, all: usize) -> usize
         Count::Absent => 1,
         Count::Star => all,
         Count::Times(m) => m,
-    }
-}
-
-// How many digits fill a byte.
-pub fn per_byte(hex: bool) -> usize
-    ensures { λ r. ⌜ r ≡ perByte hex ⌝ }
-{
-    if hex { 2 } else { 8 }
-}
-
-// The bytes of a real in a field: a single or a double.
-pub fn real_size(single: bool) -> usize
-    ensures { λ r. ⌜ r ≡ realSize single ⌝ }
-{
-    if single { 4 } else { 8 }
-}
-
-// How many bytes so many items of a field fill.
-pub fn bytes_for(s: Shape, n: usize) -> usize
-    requires { ⌜ (n < itemsLimit) × FitCode (Data s) ⌝ }
-    ensures { λ r. ⌜ r ≡ bytesFor s n ⌝ }
-{
-    match s {
-        Shape::Text(_) => n,
-        Shape::Digits(hex, _) => (n + (per_byte(hex) - 1)) / per_byte(hex),
-        Shape::Integers(w, _) => n * w,
-        Shape::Reals(single, _) => n * real_size(single),
-    }
-}
-
-// The same for a type by its number, one that takes a slot.
-pub fn bytes_numbered(d: u32, n: usize) -> usize
-    requires { ⌜ (n < itemsLimit) × (d ≤ lastData) ⌝ }
-    ensures { λ r. ⌜ r ≡ bytesFor (shapeNumbered d) n ⌝ }
-{
-    if layout::LAST_DIGITS < d {
-        return n << layout::width_power(d);
-    }
-    if d <= layout::LAST_TEXT {
-        return n;
-    }
-    if d <= layout::LAST_BINARY {
-        (n + 7) / 8
-    } else {
-        (n + 1) / 2
     }
 }
 

@@ -10,7 +10,7 @@ use Rattle.record.specs.Reading.{Read}
 use Rattle.sheet.specs.Entries.{Entry}
 use Rattle.sheet.specs.Sheet.{widthOf, versionFor, entriesOf, entriesEnd, write, read}
 use Rattle.sheet.specs.Claims.{seen, sheetOf, Stored}
-use Rattle.rescue.specs.Rescue.{saved, Outcome, keeping, rescue}
+use Rattle.rescue_fill.specs.Rescue.{saved, Outcome, keeping, rescue}
 
 -- ---- a sound sheet
 

@@ -1,6 +1,3 @@
--- Rescuing a damaged sheet (document 02, M-109). Read Rescue; Examples computes worked ones; Claims states what a rescue keeps. Steps has
--- what the functions of the code promise each other.
-pub mod Rescue
+-- What a rescue of a damaged sheet (document 02, M-109; crate rescue_fill defines it) gives: Examples computes worked ones; Claims states what is kept.
 pub mod Examples
 pub mod Claims
-pub mod Steps

@@ -7,4 +7,3 @@ pub mod Unset
 pub mod Claims
 mod Bounds
 mod Instance
-mod Examples

@@ -11,9 +11,9 @@ pub const VERSION_1: u8 = 1;
 pub const VERSION_2: u8 = 2;
 
 // The bytes of a length in each.
-pub const WIDTH_1: usize = 2;
+const WIDTH_1: usize = 2;
 
-pub const WIDTH_2: usize = 4;
+const WIDTH_2: usize = 4;
 
 // The header has a length and a byte more, the version; and so has an entry before its value, where the byte is the kind.
 pub const HEADER_1: usize = WIDTH_1 + 1;

@@ -6,13 +6,13 @@ ghost use Rattle.sheet.specs.Steps.{lentFits};
 pub mod lengths;
 
 // The longest sheet, and the longest buffer for one.
-pub const MAX_SHEET: usize = 1048576;
+const MAX_SHEET: usize = 1048576;
 
 // Slots, area and sheet keep to their sizes, by their lengths.
 pub fn lengths_fit(slots: usize, area: usize, sheet: usize) -> bool
     ensures { λ r. ⌜ r ≡ lengthsFit slots area sheet ⌝ }
 {
-    if !record::table_fits(slots, area) {
+    if !sizes::table_fits(slots, area) {
         return false;
     }
     sheet <= MAX_SHEET

@@ -53,7 +53,7 @@ fn put(
         items_of(kind, size),
         record::slots::NO_POSITION,
     );
-    text::bytes::copy(area, to, sheet, at + (w + 1), size);
+    byte_runs::copy(area, to, sheet, at + (w + 1), size);
     size
 }
 

@@ -1,3 +1,2 @@
 -- The laws that the writer goes by.
-mod Writing
 mod Versions

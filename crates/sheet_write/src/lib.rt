@@ -1,5 +1,5 @@
-// A table of slots stored as a sheet (document 02, M-100 and M-111). The first pass over the slots checks and measures, the second writes. So a refusal
-// writes nothing.
+// A table of slots stored as a sheet (document 02, M-100 and M-111). The first pass over the slots checks and measures, the second writes (crate
+// sheet_store). So a refusal writes nothing.
 ghost use mathlib.Core.Path.{_≡_};
 ghost use Prim.Native.Nat.{_≤_, _<_};
 ghost use Rattle.layout.specs.Lent.{before, after};
@@ -9,9 +9,7 @@ ghost use Rattle.sheet_write.specs.Steps.{versionBy, lengthIn, Checked};
 use layout::Refusal;
 use record::Answer;
 use sheet::lengths;
-use store::Measured;
-
-mod store;
+use sheet_store::Measured;
 
 // The first length that a version 1 sheet cannot have.
 const OVER_1: usize = lengths::LIMIT_1 + lengths::HEADER_1;
@@ -49,7 +47,7 @@ fn write_sheet(slots: &[u32], area: &[u8], sheet: &mut [u8], n: usize) -> Answer
     if sheet.len() < size {
         return Answer::refused(Refusal::NoRoom, 0);
     }
-    store::fill(slots, area, sheet, v, w, size);
+    sheet_store::fill(slots, area, sheet, v, w, size);
     Answer::accepted(size as u32, 0)
 }
 
@@ -60,7 +58,7 @@ pub fn write(slots: &[u32], area: &[u8], sheet: &mut [u8]) -> Answer
     if !sheet::lengths_fit(slots.len(), area.len(), sheet.len()) {
         return Answer::refused(Refusal::BadSize, 0);
     }
-    let m = store::measure(slots, area);
+    let m = sheet_store::measure(slots, area);
     match m {
         Measured::Bad(k) => Answer::refused(Refusal::BadSlot, k as u32),
         Measured::Length(n) => write_sheet(slots, area, sheet, n),

@@ -1,5 +1,5 @@
 -- Laws of the definitions, and of lending in a walk by hand.
-pub mod Again
+mod Again
 pub mod Arrays
 pub mod Zeros
 pub mod Requires

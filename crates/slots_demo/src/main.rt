@@ -10,10 +10,6 @@ fn digit(n: u32) -> u8 {
     48 + d as u8
 }
 
-fn wide(b: u8) -> u32 {
-    b as u32
-}
-
 // The last three digits, after a space.
 fn write_number(n: u32) {
     let text = [b' ', digit(n / 100), digit(n / 10), digit(n)];
@@ -40,23 +36,17 @@ fn write_slot(s: Slot) {
     write_number(s.position);
 }
 
-fn write_record(bytes: &[u8; 5]) {
-    io::write_all(STDOUT_FILENO, b" ;");
-    write_number(wide(bytes[0]));
-    write_number(wide(bytes[1]));
-    write_number(wide(bytes[2]));
-    write_number(wide(bytes[3]));
-    write_number(wide(bytes[4]));
-    io::write_all(STDOUT_FILENO, b"\n");
+fn write_byte(b: u8) {
+    write_number(b as u32);
 }
 
-fn show_read(name: &[u8], layout: &[u8], bytes: &[u8; 5], slots: [Slot; slots::ROWS]) {
-    let mut area: [u8; 32] = [0; 32];
-    let read = slots_read::read_some(layout, bytes, slots, 2, &mut area, 4);
-    write_read(name, read.answer);
-    let s = read.slots;
-    write_slot(s[0]);
-    write_slot(s[1]);
+fn write_record(bytes: &[u8; 5]) {
+    io::write_all(STDOUT_FILENO, b" ;");
+    write_byte(bytes[0]);
+    write_byte(bytes[1]);
+    write_byte(bytes[2]);
+    write_byte(bytes[3]);
+    write_byte(bytes[4]);
     io::write_all(STDOUT_FILENO, b"\n");
 }
 
@@ -64,6 +54,30 @@ fn pair(first: Slot, second: Slot) -> [Slot; slots::ROWS] {
     let mut table = [first; slots::ROWS];
     table[1] = second;
     table
+}
+
+// Packs two slots over "abc", and the integers 5 and -3.
+fn show_pack(name: &[u8], first: Slot, second: Slot, bytes: &mut [u8; 5]) {
+    let a = rows_pack::pack_some(
+        b"a3c2",
+        pair(first, second),
+        2,
+        b"abc\x00\x00\x00\x00\x00\x00\x00\x05\xff\xff\xff\xff\xff\xff\xff\xfd",
+        bytes,
+    );
+    write_answer(name, a);
+    write_record(bytes);
+}
+
+// Reads into two slots, from the mark 4 on.
+fn show_read(name: &[u8], layout: &[u8], bytes: &[u8; 5], first: Slot, second: Slot) {
+    let mut area: [u8; 32] = [0; 32];
+    let read = rows_read::read_some(layout, bytes, pair(first, second), 2, &mut area, 4);
+    write_read(name, read.answer);
+    let s = read.slots;
+    write_slot(s[0]);
+    write_slot(s[1]);
+    io::write_all(STDOUT_FILENO, b"\n");
 }
 
 // The numbers of the rows of a table.
@@ -96,8 +110,8 @@ fn numbers() -> [u32; NUMBERS] {
 
 fn write_bytes(first: u8, last: u8) {
     io::write_all(STDOUT_FILENO, b" ;");
-    write_number(wide(first));
-    write_number(wide(last));
+    write_byte(first);
+    write_byte(last);
     io::write_all(STDOUT_FILENO, b"\n");
 }
 
@@ -128,27 +142,32 @@ fn read_numbers(layout: &[u8], ns: &mut [u32], end: usize, area: &mut [u8]) -> R
     )
 }
 
-fn pack_both(layout: &[u8], count: usize) {
+// The numbers of the first so many rows.
+fn numbers_of(count: usize) -> usize {
     if slots::ROWS < count {
-        return;
+        return 0;
     }
-    let mut by_slots: [u8; slots::ROWS] = [0; slots::ROWS];
-    let answer = slots_pack::pack_some(layout, table(), count, b"xyz", &mut by_slots);
-    write_answer(b"pack", answer);
-    write_bytes(by_slots[0], by_slots[record::MAX_SLOTS - 1]);
-    let mut by_numbers: [u8; slots::ROWS] = [0; slots::ROWS];
+    count * record::SLOT_WIDTH
+}
+
+fn pack_slots(layout: &[u8], count: usize) {
+    let mut output: [u8; slots::ROWS] = [0; slots::ROWS];
+    let a = rows_pack::pack_some(layout, table(), count, b"xyz", &mut output);
+    write_answer(b"pack", a);
+    write_bytes(output[0], output[record::MAX_SLOTS - 1]);
+}
+
+fn pack_same(layout: &[u8], count: usize) {
+    let mut output: [u8; slots::ROWS] = [0; slots::ROWS];
     let ns = numbers();
-    let same = pack_numbers(layout, &ns, count * record::SLOT_WIDTH, &mut by_numbers);
-    write_answer(b"pack", same);
-    write_bytes(by_numbers[0], by_numbers[record::MAX_SLOTS - 1]);
+    let a = pack_numbers(layout, &ns, numbers_of(count), &mut output);
+    write_answer(b"pack", a);
+    write_bytes(output[0], output[record::MAX_SLOTS - 1]);
 }
 
 fn read_slots(layout: &[u8], count: usize) {
-    if slots::ROWS < count {
-        return;
-    }
     let mut area: [u8; 4 + slots::ROWS] = [0; 4 + slots::ROWS];
-    let read = slots_read::read_some(
+    let read = rows_read::read_some(
         layout,
         b"oppppppppppppppppppppppppppppppppppppppppppppppppppppppppppppppqr",
         table(),
@@ -163,96 +182,103 @@ fn read_slots(layout: &[u8], count: usize) {
     write_bytes(area[4], area[3 + record::MAX_SLOTS]);
 }
 
-fn read_same(layout: &[u8], count: usize) {
-    if slots::ROWS < count {
+// The row whose numbers start at a place.
+fn write_row(ns: &[u32], at: usize) {
+    if ns.len() < 4 {
         return;
     }
+    if ns.len() - 4 < at {
+        return;
+    }
+    write_slot(Slot {
+        kind: ns[at],
+        start: ns[at + 1],
+        length: ns[at + 2],
+        position: ns[at + 3],
+    });
+}
+
+fn write_rows(ns: &[u32; NUMBERS]) {
+    write_row(ns, 0);
+    write_row(ns, record::MAX_NUMBERS - 4);
+}
+
+fn read_same(layout: &[u8], count: usize) {
     let mut area: [u8; 4 + slots::ROWS] = [0; 4 + slots::ROWS];
     let mut ns = numbers();
-    let answer = read_numbers(layout, &mut ns, count * record::SLOT_WIDTH, &mut area);
+    let answer = read_numbers(layout, &mut ns, numbers_of(count), &mut area);
     write_read(b"read", answer);
-    write_slot(Slot {
-        kind: ns[0],
-        start: ns[1],
-        length: ns[2],
-        position: ns[3],
-    });
-    write_slot(Slot {
-        kind: ns[record::MAX_NUMBERS - 4],
-        start: ns[record::MAX_NUMBERS - 3],
-        length: ns[record::MAX_NUMBERS - 2],
-        position: ns[record::MAX_NUMBERS - 1],
-    });
+    write_rows(&ns);
     write_bytes(area[4], area[3 + record::MAX_SLOTS]);
 }
 
-fn all(layout: &[u8], count: usize) {
-    pack_both(layout, count);
+fn each(layout: &[u8], count: usize) {
+    pack_slots(layout, count);
+    pack_same(layout, count);
     read_slots(layout, count);
     read_same(layout, count);
 }
 
-fn two() {
-    // "abc", and the integers 5 and -3
-    let area: [u8; 19] = [
-        97,
-        98,
-        99,
-        0,
-        0,
-        0,
-        0,
-        0,
-        0,
-        0,
-        5,
-        255,
-        255,
-        255,
-        255,
-        255,
-        255,
-        255,
-        253,
-    ];
-    let string = Slot {
+fn part(layout: &[u8], fields: usize) -> &[u8] {
+    if layout.len() < fields {
+        return layout;
+    }
+    &layout[0..fields]
+}
+
+// So many strings of one byte, and so many slots.
+fn all(fields: usize, count: usize) {
+    let layout: [u8; slots::ROWS] = [b'a'; slots::ROWS];
+    each(part(&layout, fields), count);
+}
+
+fn string() -> Slot {
+    Slot {
         kind: 1,
         start: 0,
         length: 3,
         position: 0,
-    };
-    let integers = Slot {
+    }
+}
+
+fn integers() -> Slot {
+    Slot {
         kind: 2,
         start: 3,
         length: 2,
         position: 0,
-    };
-    let unset = Slot {
+    }
+}
+
+fn unset() -> Slot {
+    Slot {
         kind: 0,
         start: 0,
         length: 0,
         position: 0,
-    };
+    }
+}
+
+fn readings(bytes: &[u8; 5]) {
+    show_read(b"read", b"a3c2", bytes, unset(), unset());
+    show_read(b"short", b"a4c2", bytes, unset(), unset());
+    show_read(b"refused", b"a3z", bytes, string(), integers());
+}
+
+fn two() {
     let mut bytes: [u8; 5] = [0; 5];
-    let packed = slots_pack::pack_some(b"a3c2", pair(string, integers), 2, &area, &mut bytes);
-    write_answer(b"packed", packed);
-    write_record(&bytes);
-    let refused = slots_pack::pack_some(b"a3c2", pair(integers, string), 2, &area, &mut bytes);
-    write_answer(b"refused", refused);
-    write_record(&bytes);
-    show_read(b"read", b"a3c2", &bytes, pair(unset, unset));
-    show_read(b"short", b"a4c2", &bytes, pair(unset, unset));
-    show_read(b"refused", b"a3z", &bytes, pair(string, integers));
+    show_pack(b"packed", string(), integers(), &mut bytes);
+    show_pack(b"refused", integers(), string(), &mut bytes);
+    readings(&bytes);
 }
 
 fn main() {
     two();
-    let layout: [u8; slots::ROWS + 1] = [b'a'; slots::ROWS + 1];
-    all(&layout[..0], 0);
-    all(&layout[..1], 0);
-    all(&layout[..1], 1);
-    all(&layout[..2], 1);
-    all(&layout[..record::MAX_SLOTS], record::MAX_SLOTS);
-    all(&layout[..slots::ROWS], record::MAX_SLOTS);
-    all(&layout[..slots::ROWS], slots::ROWS);
+    all(0, 0);
+    all(1, 0);
+    all(1, 1);
+    all(2, 1);
+    all(record::MAX_SLOTS, record::MAX_SLOTS);
+    all(slots::ROWS, record::MAX_SLOTS);
+    all(slots::ROWS, slots::ROWS);
 }

@@ -16,7 +16,7 @@ use Rattle.slots.specs.declared.Slot.{Slot}
 use Rattle.slots.specs.Slots.{numbersOf, slotsFrom, taken}
 use Rattle.slots.proofs.Runs.{filled, slots-back}
 use Rattle.slots.proofs.Limits.{taken-few, taken-many, first-numbers, beyond}
-use Rattle.slots_read.specs.Reading.{readFirst, readSlots, readPart, withSlots, withRest}
+use Rattle.slots_read.specs.Reading.{readFirst, readSlots, withSlots}
 
 -- ---- the core call on the first part of the scratch
 
@@ -66,9 +66,3 @@ module _ (layout bs ns ws area z : List ℕ) (ss ts : List Slot) (mark : ℕ) (a
 
           kept : ts ≡ slotsFrom (numbersOf ss)
           kept = s ∙ ap (λ (k : ℕ). slotsFrom (take (k * slotWidth) ws) ++ drop k ss) (taken-many (length ss) l) ∙ sym (slots-back ss)
-
--- ---- the reader on the first slots of a table
-
-pub read-part : (layout bs area z : List ℕ) (ss ts : List Slot) (n mark : ℕ) (a : ReadAnswer) → record { answer = a; slots = ts; area = z } ≡ readSlots layout bs (take n ss) area mark → record { answer = a; slots = ts ++ drop n ss; area = z } ≡ readPart layout bs ss n area mark
-unfolding readPart
-read-part layout bs area z ss ts n mark a e = ap (withRest (drop n ss)) e

@@ -1,8 +1,8 @@
 -- Reading over a slice of slot records (01, Slot tables): THE EFFECT OF A CALL is `readSlots`.
 use Prim.Native.Nat.{ℕ, _*_}
 use mathlib.Core.Path.{_≡_}
-use mathlib.Core.List.{List, [], _++_}
-use lib.ListN.{take, drop}
+use mathlib.Core.List.{List, []}
+use lib.ListN.{take}
 use lib.Dec.{leb}
 use Rattle.layout.specs.declared.Refusal.the-variants.{BadSize}
 use Rattle.layout.specs.Refusals.{if_then_else_, refused}
@@ -12,7 +12,6 @@ use Rattle.record.specs.Table.{maxSlots, slotWidth}
 use Rattle.record.specs.Reading.{read, readSteps, readEffect, ReadAll, withSteps, readAll}
 use Rattle.slots.specs.declared.Slot.{Slot}
 use Rattle.slots.specs.Slots.{numbersOf, slotsFrom}
-use Rattle.slots_read.specs.declared.Outcome.{Outcome}
 
 -- all that a call of the reader leaves: its answer, the slots and the area
 pub record ReadSlots : Type 0 where
@@ -28,14 +27,6 @@ unfoldable pub readSlots : List ℕ → List ℕ → List Slot → List ℕ → 
 unfolding numbersOf slotsFrom read readSteps
 readSlots layout bs slots area mark = withSlots (readAll layout bs (numbersOf slots) area mark)
 
--- the same on the first n slots; the others stay
-abbrev pub withRest : List Slot → ReadSlots → ReadSlots
-withRest rest e = record { answer = e .answer; slots = e .slots ++ rest; area = e .area }
-
-unfoldable pub readPart : List ℕ → List ℕ → List Slot → ℕ → List ℕ → ℕ → ReadSlots
-unfolding readSlots
-readPart layout bs slots n area mark = withRest (drop n slots) (readSlots layout bs (take n slots) area mark)
-
 -- ---- the steps of a call
 
 -- the call on the numbers of the first n slots
@@ -49,8 +40,3 @@ readFirst layout bs ns n area mark =
 abbrev pub ReadsFirst : Lent → Lent → Lent → ℕ → Lent → ℕ → ReadAnswer → Type 0
 ReadsFirst layout bytes numbers n area mark r =
     record { answer = r; slots = take (n * slotWidth) (after numbers); area = after area } ≡ readFirst (before layout) (before bytes) (before numbers) n (before area) mark
-
--- what `readPart` leaves, as an outcome and the area
-abbrev pub ReadsRows : Lent → Lent → List Slot → ℕ → Lent → ℕ → Outcome → Type 0
-ReadsRows layout bytes slots n area mark r =
-    record { answer = r .answer; slots = r .slots; area = after area } ≡ readPart (before layout) (before bytes) slots n (before area) mark

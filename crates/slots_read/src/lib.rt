@@ -1,14 +1,13 @@
 // Reading over a slice of slot records: the slots are taken apart into numbers, the call is made over the numbers, and the slots are put together again.
 ghost use mathlib.Core.Path.{_≡_};
-ghost use Prim.Native.Nat.{_≤_, min};
+ghost use Prim.Native.Nat.{_≤_};
 ghost use lib.ListN.{length};
 ghost use Rattle.layout.specs.Lent.{before, after};
-ghost use Rattle.slots.specs.Slots.{maxNumbers, rows};
-ghost use Rattle.slots_read.specs.Reading.{ReadsFirst, readSlots, ReadsRows};
+ghost use Rattle.slots.specs.Slots.{maxNumbers};
+ghost use Rattle.slots_read.specs.Reading.{ReadsFirst, readSlots};
 use layout::Refusal;
 use record::Answer;
 use record::ReadAnswer;
-use slots::ROWS;
 use slots::Slot;
 
 // The reader over the numbers of so many slots.
@@ -48,50 +47,4 @@ pub fn read_slots(
     let answer = read_first(layout, bytes, &mut numbers, slots.len(), area, mark);
     slots::save(slots, &numbers, count);
     answer
-}
-
-// What a reading into a table by value leaves.
-pub struct Outcome {
-    pub answer: ReadAnswer,
-    pub slots: [Slot; ROWS],
-}
-
-fn together(answer: ReadAnswer, slots: [Slot; ROWS]) -> Outcome
-    ensures { λ r. ⌜ r ≡ record { answer = answer; slots = slots } ⌝ }
-{
-    Outcome {
-        answer: answer,
-        slots: slots,
-    }
-}
-
-// Reads into the first so many of the rows.
-fn read_rows(
-    layout: &[u8],
-    bytes: &[u8],
-    slots: [Slot; ROWS],
-    count: usize,
-    area: &mut [u8],
-    mark: usize,
-) -> Outcome
-    requires { ⌜ count ≤ rows ⌝ }
-    ensures { λ r. ⌜ ReadsRows layout bytes slots count area mark r ⌝ }
-{
-    let mut table = slots;
-    let answer = read_slots(layout, bytes, &mut table[..count], area, mark);
-    together(answer, table)
-}
-
-// `read_slots` on the first so many rows, or on all.
-pub fn read_some(
-    layout: &[u8],
-    bytes: &[u8],
-    slots: [Slot; ROWS],
-    count: usize,
-    area: &mut [u8],
-    mark: usize,
-) -> Outcome
-    ensures { λ r. ⌜ ReadsRows layout bytes slots (min count rows) area mark r ⌝ }
-{
-    read_rows(layout, bytes, slots, record::least(count, ROWS), area, mark)
 }

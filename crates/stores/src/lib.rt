@@ -46,10 +46,10 @@ fn store_digits(
 {
     if hex {
         digits_store::store_hex(out, at, area, a.start, a.len, n, high);
-        return record::bytes_for(Shape::Digits(true, high), n);
+        return sizes::bytes_for(Shape::Digits(true, high), n);
     }
     store_binary(n, a, area, out, at, high);
-    record::bytes_for(Shape::Digits(false, high), n)
+    sizes::bytes_for(Shape::Digits(false, high), n)
 }
 
 // n integers.
@@ -82,7 +82,7 @@ fn store_reals(
     requires { ⌜ Storable (now area) (Reals single big) n a at (length (now out)) ⌝ }
     ensures { λ r. ⌜ StoredAs (now (area .entry)) (Reals single big) n a at (now (out .entry)) r (now (out .exit)) ⌝ }
 {
-    let bytes = n * record::real_size(single);
+    let bytes = n * sizes::real_size(single);
     reals_store::store(out, at, area, a.start, n, single, big);
     bytes
 }

@@ -12,7 +12,7 @@ use Rattle.record.specs.Packing.{stored}
 use Rattle.record.specs.Reading.{isBlank, trimmed}
 use Rattle.record.proofs.Stores.{length-part}
 use Rattle.record.proofs.Fields.{split}
-use Rattle.text.proofs.ByteLaws.{store-both}
+use Rattle.byte_runs.proofs.ByteLaws.{store-both}
 
 -- one byte more at the end: a blank does not count, and any other byte keeps all before it
 trimmed-blank : (l : List ℕ) (c : ℕ) → isBlank c ≡ true → trimmed (l ++ (c ∷ [])) ≡ trimmed l

@@ -8,16 +8,14 @@ ghost use Rattle.record.specs.Table.{maxRecord};
 ghost use Rattle.record.specs.Packing.{stored};
 ghost use Rattle.record.specs.Reading.{isBlank, trimmed};
 
-pub mod bytes;
-
 // Stores n bytes of a string of `len` bytes that stands in the area, cut or padded.
 pub fn store(out: &mut [u8], at: usize, area: &[u8], start: usize, len: usize, n: usize, pad: u8)
     requires { ⌜ (n ≤ maxRecord) × (at + n ≤ length (now out)) × (start + len ≤ length (now area)) ⌝ }
     ensures { λ _. ⌜ now (out .exit) ≡ storeAt (now (out .entry)) at (stored (Text pad) n (part (now (area .entry)) start len)) ⌝ }
 {
     let kept = record::least(len, n);
-    bytes::copy_block(out, at, area, start, kept);
-    bytes::fill(out, at + kept, n - kept, pad);
+    byte_runs::copy_block(out, at, area, start, kept);
+    byte_runs::fill(out, at + kept, n - kept, pad);
 }
 
 fn is_blank(c: u8) -> bool
@@ -33,7 +31,7 @@ fn without_fours(input: &[u8], at: usize, n: usize) -> usize
 {
     let mut k = n;
     while 4 <= k {
-        if bytes::four_at(input, at + (k - 4), false) != 0x20202020 {
+        if byte_runs::four_at(input, at + (k - 4), false) != 0x20202020 {
             return k;
         }
         k -= 4;

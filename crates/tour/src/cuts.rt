@@ -15,7 +15,7 @@ fn told(writer: &[u8], cut: usize, reader: &[u8]) {
 fn row(writer: &[u8], slots: &[u32], area: &[u8], cut: usize, reader: &[u8], table: &mut [u32]) {
     let mut output = [0u8; 16];
     let mut values = [0u8; 64];
-    let r = evolution::read_back(
+    let r = evolution_read::read_back(
         writer,
         slots,
         area,

@@ -1,41 +1,62 @@
-// Lists of examples, one a line: `p`, a layout, a bar and the arguments to pack; or the number of slots, a layout, a bar and the record to read.
-// A line with no bar is no example.
+// Lists of examples, one a line: a letter, a layout, a bar and what follows. `p` and the arguments to pack; the number of slots and the record to read;
+// `k` or `w` and nothing, to pack or read and show all that is lent; a letter of a call over other slots, outputs or marks, and what is lent; or `h`, no
+// layout and a heading. A line with no bar is no example.
 use super::packing;
 use super::reading;
 use tour_text::lines;
+use tour_text::print;
 
-fn example(kind: u8, layout: &[u8], rest: &[u8], record: &mut [u8; 4096]) {
+fn packed(kind: u8, layout: &[u8], rest: &[u8]) {
     match kind {
-        b'1' => reading::one(layout, rest),
-        b'2' => reading::two(layout, rest),
-        _ => packing::example(layout, rest, record),
+        b'k' => packing::whole(layout),
+        b's' => packing::placed(layout, rest),
+        b'q' => packing::position(layout, rest),
+        b'f' => packing::far(layout, rest),
+        b'u' => packing::unsigned(layout, rest),
+        b'o' => packing::two(layout, rest),
+        b'l' => packing::at_limit(layout, rest),
+        b'a' => packing::above_limit(layout, rest),
+        _ => packing::example(layout, rest),
     }
 }
 
-fn line(text: &[u8], record: &mut [u8; 4096]) {
+fn example(kind: u8, layout: &[u8], rest: &[u8]) {
+    match kind {
+        b'h' => print::heading(rest),
+        b'1' => reading::one(layout, rest),
+        b'2' => reading::two(layout, rest),
+        b'8' => reading::eight(layout, rest),
+        b'w' => reading::whole(layout),
+        _ => packed(kind, layout, rest),
+    }
+}
+
+fn line(text: &[u8]) {
     if text.len() < 2 {
         return;
     }
     let bar = lines::find(text, 2, b'|');
     if bar < text.len() {
         let rest = bar + 1;
-        example(text[0], &text[2..bar], &text[rest..], record);
+        example(text[0], &text[2..bar], &text[rest..]);
     }
 }
 
-fn run(list: &[u8], record: &mut [u8; 4096]) {
+fn run(list: &[u8]) {
     let mut at = 0;
     while at < list.len() {
         let end = lines::find(list, at, b'\n');
-        line(&list[at..end], record);
+        line(&list[at..end]);
         at = end + 1;
     }
 }
 
-// The packings of 001 to 003, in the order of 001.
-pub fn packed_strings(record: &mut [u8; 4096]) {
+pub fn packings() {
     run(
         b"
+h |Packing: layout, arguments -> number, first, second: bytes of the result
+
+The packings of 001 to 003, in the order of 001.
 p a7a*a|\"alpha\" \"bravo\" \"charlie\"
 p a*|\"\xe2\x82\xac\"
 p a*|\"\xa4\"
@@ -46,14 +67,6 @@ p H3H*H2|\"ab\" \"DEF\" \"987\"
 p H3H*|\"ab\" \"DEF\"
 p h3h*h2|\"AB\" \"def\" \"987\"
 p h3h*|\"AB\" \"def\"
-",
-        record,
-    );
-}
-
-pub fn packed_integers(record: &mut [u8; 4096]) {
-    run(
-        b"
 p ii|{16} {22}
 p c3cc*|{3 -3 128 1} {260} {2 5}
 p c|{2 5}
@@ -66,78 +79,85 @@ p Wc|{4785469626960341345} {110}
 p s1|{32768}
 p Ia*|{3} \"\xe2\x82\xac\"
 p d3d|
-",
-        record,
-    );
-}
+p a3xa3x2a3|\"abc\" \"def\" \"ghi\"
+p a3X*a3X2a3|\"abc\" \"def\" \"ghi\"
+p a5@2a1@*a3@10a1|\"abcde\" \"f\" \"ghi\" \"j\"
+h |
+h |Packing: rulings of 01
 
-pub fn packed_moves(record: &mut [u8; 4096]) {
-    run(
-        br#"
-p a3xa3x2a3|"abc" "def" "ghi"
-p a3X*a3X2a3|"abc" "def" "ghi"
-p a5@2a1@*a3@10a1|"abcde" "f" "ghi" "j"
-"#,
-        record,
-    );
-}
-
-// What 01 rules beyond the examples: how a field is spelled, how many items it takes, and the moves.
-pub fn packed_rulings(record: &mut [u8; 4096]) {
-    run(
-        br#"
+What 01 rules beyond the examples: how a field is spelled, how many items it takes, and the moves.
 p |
 p    |
 p   c  s |{1} {2}
 p c03|{1 2 3}
 p su2|{-1 65537}
 p W*w|{-2 1} {-2}
-p c0a0c*|{} "" {}
-p b2|"102"
-p bh|"" ""
-p a4X4x2|"abcd"
-p aX9a|"a" "b"
+p c0a0c*|{} \"\" {}
+p b2|\"102\"
+p bh|\"\" \"\"
+p a4X4x2|\"abcd\"
+p aX9a|\"a\" \"b\"
 p @3|
-p a2X@*a|"ab" "c"
+p a2X@*a|\"ab\" \"c\"
 p x2X2@1|
-p au3xu2|"Mar"
-"#,
-        record,
-    );
-}
+p au3xu2|\"Mar\"
+h |
+h |Packing: refusals and limits
 
-// Numbers 2, 3 and 4, and a count at its limit; 5, 6 and 8; 9 and 10; 11, and a result at the limit.
-pub fn packed_refusals(record: &mut [u8; 4096]) {
-    run(
-        br#"
+Numbers 2, 3 and 4, and a count at its limit; 5, 6 and 8; 9 and 10; 11, and a result at the limit.
 p c 3|{1}
-p cauu|{1} "x"
-p a4096|"x"
-p a32768|"x"
-p c a32769|{1} "x"
-p a@|"x"
+p cauu|{1} \"x\"
+p a4096|\"x\"
+p a32768|\"x\"
+p c a32769|{1} \"x\"
+p a@|\"x\"
 p x*|
 p @u|
 p a|
-p a|"x" "y"
-p aa|"x" -
+p a|\"x\" \"y\"
+p aa|\"x\" -
 p a|{1}
-p ac|"x" "1"
+p ac|\"x\" \"1\"
 p c3|{1 2}
 p s|{}
-p b*|"012"
-p ch2|{1} "0g"
-p a4095c|"x" {7}
-p a4096c|"x" {7}
-"#,
-        record,
+p b*|\"012\"
+p ch2|{1} \"0g\"
+p a4095c|\"x\" {7}
+p a4096c|\"x\" {7}
+
+Number 7: a slot in its place, and one of no kind; its position is not looked at; past the area's end, and an empty value at it.
+s a|slot 1 1 1, area of 2 bytes
+s a|slot 5 0 1, area of 2 bytes
+q a|slot 1 1 1 4294967295, area of 2 bytes
+s a|slot 1 1 2, area of 2 bytes
+s a*|slot 1 2 0, area of 2 bytes
+s a*|slot 1 3 0, area of 2 bytes
+f a|slot 1 4294967295 1, area of 2 bytes
+s c|slot 2 0 1, area of 2 bytes
+",
     );
 }
 
-// The readings of 001 to 003, in the order of 001.
-pub fn read_strings(record: &mut [u8; 4096]) {
+pub fn outputs_and_readings() {
     run(
         b"
+
+Outputs as long as can be, one above, as long as the result, and shorter; an unsigned integer.
+l a|slot 1 0 1, output of 32768 bytes
+a a|slot 1 0 1, output of 32769 bytes
+l a32768|slot 1 0 2, output of 32768 bytes
+o a2|slot 1 0 2, output of 2 bytes
+o a2x|slot 1 0 2, output of 2 bytes
+u c|slot 3 0 1, area of 8 bytes
+
+What a packing does not touch: the output behind the result, and all of it after a refusal.
+k a2x|
+k a2x7|
+k a2xz|
+h |
+h |Reading: layout, record -> number, first, second, steps: values
+
+The readings of 001 to 003, in the order of 001.
 2 s3s|abcdefg
 1 s1|\x00\x80
 1 su1|\x00\x80
@@ -150,14 +170,6 @@ pub fn read_strings(record: &mut [u8; 4096]) {
 2 H3H*|\x07\x86\x05
 2 h3h*|\x07\x86\x05\x12\x34
 2 h3h*|\x07\x86\x05
-",
-        record,
-    );
-}
-
-pub fn read_integers(record: &mut [u8; 4096]) {
-    run(
-        b"
 2 c2c*|\x07\x86\x05
 2 s2s*|\x05\x00\x07\x00\xf0\xff
 2 S2S*|\x00\x05\x00\x07\xff\xf0
@@ -171,15 +183,10 @@ pub fn read_integers(record: &mut [u8; 4096]) {
 1 x2H*|\x01\x02\x03\x04
 2 c2XH*|\x01\x02\x03\x04
 2 c2@1H*|\x01\x02\x03\x04
-",
-        record,
-    );
-}
+h |
+h |Reading: the runs of 004
 
-// The runs of 004. Its text says 21 bytes of the second; its own run shows 16 digits.
-pub fn read_wiki(record: &mut [u8; 4096]) {
-    run(
-        b"
+The runs of 004. Its text says 21 bytes of the second; its own run shows 16 digits.
 1 b*|\x07\x87\x05
 2 b5b*|\xff\xff\xff
 2 b8b*|\xff\xff\xff
@@ -189,15 +196,10 @@ pub fn read_wiki(record: &mut [u8; 4096]) {
 1 B*|Hello!
 2 B*X*H*|Tcl
 1 @0@|Hello!
-",
-        record,
-    );
-}
+h |
+h |Reading: rulings of 01
 
-// The examples of 01, and what it rules beyond them.
-pub fn read_rulings(record: &mut [u8; 4096]) {
-    run(
-        b"
+The examples of 01, and what it rules beyond them.
 1 su|\x00\x80
 1 s|\x00\x80
 1 s*|A
@@ -219,20 +221,49 @@ pub fn read_rulings(record: &mut [u8; 4096]) {
 1 A3| \x00\x20
 1 H|\xaf
 2 c|\x07
+h |
+h |Reading: a table that holds an earlier reading
 ",
-        record,
     );
 }
 
-pub fn read_refusals(record: &mut [u8; 4096]) {
+pub fn places_and_refusals() {
     run(
         b"
+h |
+h |Reading: where each field began
+
+After a skip, also one past the end; before an empty field; again after a step back.
+w xa|
+w x9a0s*|
+w aXa|
+h |
+h |Reading: refusals and limits
 1 c 3|\x01
 2 cd|\x01
 1 a32769|ab
 1 a@|ab
 1 cc|
 ",
-        record,
+    );
+}
+
+pub fn marks() {
+    run(
+        b"
+
+Marks: numbers 11 and 1.
+8 c|mark 0, area of 8 bytes
+8 c|mark 1, area of 8 bytes
+8 a0|mark 8, area of 8 bytes
+8 a0|mark 9, area of 8 bytes
+
+Slots that are not set and bytes that no value covers stay as lent, and all of a refused call does.
+w a2c|
+w b*|
+w a2z|
+h |
+h |Demand 3: both records, every cut, both layouts
+",
     );
 }

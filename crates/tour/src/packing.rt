@@ -17,7 +17,7 @@ fn show(layout: &[u8], told: &[u8], slots: &[u32], area: &[u8], record: &mut [u8
 }
 
 // Packs into eight bytes aa, and prints all that they then hold.
-fn whole(layout: &[u8]) {
+pub fn whole(layout: &[u8]) {
     let mut output = [0xaau8; 8];
     let a = packer::pack(layout, &[1, 0, 2, 0], b"xy", &mut output);
     print::call(b"pack", layout);
@@ -28,143 +28,124 @@ fn whole(layout: &[u8]) {
     print::text(b"\n");
 }
 
-// What a packing does not touch: the output behind the result, and all of it after a refusal.
-pub fn kept() {
-    whole(b"a2x");
-    whole(b"a2x7");
-    whole(b"a2xz");
+// Packs into 4096 bytes.
+fn long(layout: &[u8], told: &[u8], slots: &[u32], area: &[u8], record: &mut [u8; 4096]) {
+    show(layout, told, slots, area, record);
+}
+
+fn fresh(layout: &[u8], told: &[u8], slots: &[u32], area: &[u8]) {
+    long(layout, told, slots, area, &mut [0; 4096]);
 }
 
 // Packs the arguments that a text names.
-pub fn example(layout: &[u8], told: &[u8], record: &mut [u8; 4096]) {
+pub fn example(layout: &[u8], told: &[u8]) {
     let mut slots = [0u32; MAX_NUMBERS];
     let mut area = [0u8; 256];
     let used = notation::parse(told, &mut slots, &mut area);
-    show(
+    fresh(
         layout,
         told,
         notation::slots(&slots, used),
         notation::area(&area, used),
-        record,
     );
 }
 
-// Packs a slot that no text names, over an area of two bytes.
-fn placed(layout: &[u8], told: &[u8], slots: &[u32], record: &mut [u8; 4096]) {
-    show(layout, told, slots, b"xy", record);
+// A digit of a text: the low half of its byte.
+pub fn digit(text: &[u8], at: usize) -> u32 {
+    if text.len() <= at {
+        return 0;
+    }
+    (text[at] % 16) as u32
 }
 
-// A slot in its place, and one of no kind.
-fn kinds(record: &mut [u8; 4096]) {
-    placed(b"a", b"slot 1 1 1, area of 2 bytes", &[1, 1, 1, 0], record);
-    placed(b"a", b"slot 5 0 1, area of 2 bytes", &[5, 0, 1, 0], record);
+// Packs the slot whose three digits a text names, over an area of two bytes.
+pub fn placed(layout: &[u8], told: &[u8]) {
+    fresh(
+        layout,
+        told,
+        &[digit(told, 5), digit(told, 7), digit(told, 9), 0],
+        b"xy",
+    );
 }
 
 // The position in a slot is not looked at.
-fn positions(record: &mut [u8; 4096]) {
-    placed(
-        b"a",
-        b"slot 1 1 1 4294967295, area of 2 bytes",
-        &[1, 1, 1, 4294967295],
-        record,
+pub fn position(layout: &[u8], told: &[u8]) {
+    fresh(layout, told, &[1, 1, 1, 4294967295], b"xy");
+}
+
+pub fn far(layout: &[u8], told: &[u8]) {
+    fresh(layout, told, &[1, 4294967295, 1, 0], b"xy");
+}
+
+pub fn unsigned(layout: &[u8], told: &[u8]) {
+    fresh(
+        layout,
+        told,
+        &[3, 0, 1, 0],
+        b"\x00\x00\x00\x00\x00\x00\x01\xfe",
     );
 }
 
-// A value past the area's end, and an empty one at it.
-fn ends(record: &mut [u8; 4096]) {
-    placed(b"a", b"slot 1 1 2, area of 2 bytes", &[1, 1, 2, 0], record);
-    placed(b"a*", b"slot 1 2 0, area of 2 bytes", &[1, 2, 0, 0], record);
+fn layouts() {
+    fresh(&[b'x'; 256], b"layout of 256 bytes", &[0; 0], b"");
+    fresh(&[b'x'; 257], b"layout of 257 bytes", &[0; 0], b"");
 }
 
-fn past(record: &mut [u8; 4096]) {
-    placed(b"a*", b"slot 1 3 0, area of 2 bytes", &[1, 3, 0, 0], record);
-    placed(
-        b"a",
-        b"slot 1 4294967295 1, area of 2 bytes",
-        &[1, 4294967295, 1, 0],
-        record,
-    );
-}
-
-// Number 7, and an empty value at the area's end.
-pub fn places(record: &mut [u8; 4096]) {
-    kinds(record);
-    positions(record);
-    ends(record);
-    past(record);
-    placed(b"c", b"slot 2 0 1, area of 2 bytes", &[2, 0, 1, 0], record);
-}
-
-fn layouts(record: &mut [u8; 4096]) {
-    show(&[b'x'; 256], b"layout of 256 bytes", &[0; 0], b"", record);
-    show(&[b'x'; 257], b"layout of 257 bytes", &[0; 0], b"", record);
-}
-
-fn tables(record: &mut [u8; 4096]) {
-    placed(&[b'a'; 64], b"64 slots 1 1 1 1", &[1; MAX_NUMBERS], record);
-    placed(
+fn tables() {
+    fresh(&[b'a'; 64], b"64 slots 1 1 1 1", &[1; MAX_NUMBERS], b"xy");
+    fresh(
         &[b'a'; 65],
         b"65 slots 1 1 1 1",
         &[1; MAX_NUMBERS + SLOT_WIDTH],
-        record,
+        b"xy",
     );
 }
 
 // Packs the last byte of an area.
-fn last(told: &[u8], area: &[u8], record: &mut [u8; 4096]) {
-    show(b"a", told, &[1, 524287, 1, 0], area, record);
+fn last(told: &[u8], area: &[u8]) {
+    fresh(b"a", told, &[1, 524287, 1, 0], area);
 }
 
 // A long array is lent as an array, and only its borrower takes it for a slice: where an array is made, the prover counts a slice of it byte by byte.
-fn longest(area: &[u8; MAX_AREA], record: &mut [u8; 4096]) {
-    last(b"slot 1 524287 1, area of 524288 bytes", area, record);
+fn longest(area: &[u8; MAX_AREA]) {
+    last(b"slot 1 524287 1, area of 524288 bytes", area);
 }
 
-fn longer(area: &[u8; MAX_AREA + 1], record: &mut [u8; 4096]) {
-    last(b"slot 1 524287 1, area of 524289 bytes", area, record);
+fn longer(area: &[u8; MAX_AREA + 1]) {
+    last(b"slot 1 524287 1, area of 524289 bytes", area);
 }
 
 // Number 1: layouts, slots and areas at their limits and one above.
-pub fn sizes(record: &mut [u8; 4096]) {
-    layouts(record);
-    tables(record);
-    placed(b"a", b"five numbers", &[1; 5], record);
-    longest(&[b'z'; MAX_AREA], record);
-    longer(&[b'z'; MAX_AREA + 1], record);
+pub fn sizes() {
+    layouts();
+    tables();
+    fresh(b"a", b"five numbers", &[1; 5], b"xy");
+    longest(&[b'z'; MAX_AREA]);
+    longer(&[b'z'; MAX_AREA + 1]);
 }
 
-// Packs a string of n bytes into an output that is lent.
-fn output(layout: &[u8], told: &[u8], n: u32, record: &mut [u8]) {
-    show(layout, told, &[1, 0, n, 0], b"xy", record);
+// Packs a string of as many bytes as a text names, into an output that is lent.
+fn output(layout: &[u8], told: &[u8], record: &mut [u8]) {
+    show(layout, told, &[1, 0, digit(told, 9), 0], b"xy", record);
 }
 
-// Outputs as long as can be, one above, as long as the result, and shorter.
-fn limit(record: &mut [u8; 32768]) {
-    output(b"a", b"slot 1 0 1, output of 32768 bytes", 1, record);
+pub fn two(layout: &[u8], told: &[u8]) {
+    output(layout, told, &mut [0; 2]);
 }
 
-fn above(record: &mut [u8; 32769]) {
-    output(b"a", b"slot 1 0 1, output of 32769 bytes", 1, record);
+// An output as long as can be, and one above.
+fn limit(layout: &[u8], told: &[u8], record: &mut [u8; 32768]) {
+    output(layout, told, record);
 }
 
-fn filled(record: &mut [u8; 32768]) {
-    output(b"a32768", b"slot 1 0 2, output of 32768 bytes", 2, record);
+pub fn at_limit(layout: &[u8], told: &[u8]) {
+    limit(layout, told, &mut [0; 32768]);
 }
 
-pub fn outputs() {
-    limit(&mut [0; 32768]);
-    above(&mut [0; 32769]);
-    filled(&mut [0; 32768]);
-    output(b"a2", b"slot 1 0 2, output of 2 bytes", 2, &mut [0; 2]);
-    output(b"a2x", b"slot 1 0 2, output of 2 bytes", 2, &mut [0; 2]);
+fn above(layout: &[u8], told: &[u8], record: &mut [u8; 32769]) {
+    output(layout, told, record);
 }
 
-pub fn unsigned(record: &mut [u8; 4096]) {
-    show(
-        b"c",
-        b"slot 3 0 1, area of 8 bytes",
-        &[3, 0, 1, 0],
-        b"\x00\x00\x00\x00\x00\x00\x01\xfe",
-        record,
-    );
+pub fn above_limit(layout: &[u8], told: &[u8]) {
+    above(layout, told, &mut [0; 32769]);
 }

@@ -1,4 +1,5 @@
 // Reading: a line for each call, with the layout, the record, the answer's four numbers and the values that the slots then show.
+use super::packing;
 use record::MAX_AREA;
 use record::MAX_NUMBERS;
 use record::MAX_RECORD;
@@ -27,7 +28,7 @@ fn show(
 }
 
 // Reads into two slots of nines and eight bytes aa from the mark 1 on, and prints all that they then hold.
-fn whole(layout: &[u8]) {
+pub fn whole(layout: &[u8]) {
     let mut slots = [9u32; 2 * SLOT_WIDTH];
     let mut area = [0xaau8; 8];
     let r = reader::read(layout, b"xy", &mut slots, &mut area, 1);
@@ -36,20 +37,6 @@ fn whole(layout: &[u8]) {
     print::read_answer(r);
     values::whole(&slots, &area);
     print::text(b"\n");
-}
-
-// Slots that are not set and bytes that no value covers stay as lent, and all of a refused call does.
-pub fn lent() {
-    whole(b"a2c");
-    whole(b"b*");
-    whole(b"a2z");
-}
-
-// The position at which a field began: after a skip, also one past the end; before an empty field; again after a step back.
-pub fn positions() {
-    whole(b"xa");
-    whole(b"x9a0s*");
-    whole(b"aXa");
 }
 
 // One slot and two slots that are not set.
@@ -168,9 +155,15 @@ fn last(told: &[u8], area: &mut [u8]) {
     marked(b"a", b"q", told, area, 524287);
 }
 
-// Reads into an area of 8 bytes.
-fn eight(layout: &[u8], told: &[u8], mark: usize) {
-    marked(layout, b"\x07", told, &mut [0; 8], mark);
+// Reads into an area of 8 bytes, from the mark on that a text names.
+pub fn eight(layout: &[u8], told: &[u8]) {
+    marked(
+        layout,
+        b"\x07",
+        told,
+        &mut [0; 8],
+        packing::digit(told, 5) as usize,
+    );
 }
 
 // Areas at their limit and one above: number 1. A long array is lent as an array, and only its borrower takes it for a slice.
@@ -185,12 +178,4 @@ fn longer(area: &mut [u8; MAX_AREA + 1]) {
 pub fn areas() {
     longest(&mut [0; MAX_AREA]);
     longer(&mut [0; MAX_AREA + 1]);
-}
-
-// Marks: numbers 11 and 1.
-pub fn marks() {
-    eight(b"c", b"mark 0, area of 8 bytes", 0);
-    eight(b"c", b"mark 1, area of 8 bytes", 1);
-    eight(b"a0", b"mark 8, area of 8 bytes", 8);
-    eight(b"a0", b"mark 9, area of 8 bytes", 9);
 }

@@ -47,8 +47,8 @@ fn show(
     report_told(report);
 }
 
-// Into tables and areas of its own.
-fn own(layout: &[u8], first: &[u8], second: &[u8], told: &[u8], report: &mut [u32]) {
+// Into tables and areas of its own: three value fields at most.
+pub fn own(layout: &[u8], first: &[u8], second: &[u8], told: &[u8], report: &mut [u32]) {
     show(
         layout,
         first,
@@ -63,25 +63,30 @@ fn own(layout: &[u8], first: &[u8], second: &[u8], told: &[u8], report: &mut [u3
     print::text(b"\n");
 }
 
-// Three value fields at most; a report of nine numbers.
-pub fn example(layout: &[u8], first: &[u8], second: &[u8]) {
-    own(layout, first, second, b"", &mut [9; 9]);
-}
-
 // Two value fields, of a record with itself.
-fn table(told: &[u8], first: &mut [u32], second: &mut [u32]) {
+fn same(
+    told: &[u8],
+    first_slots: &mut [u32],
+    first_area: &mut [u8],
+    second_slots: &mut [u32],
+    second_area: &mut [u8],
+) {
     show(
         b"a2c",
         b"xy\x07",
         b"xy\x07",
         told,
-        first,
-        &mut [0; 64],
-        second,
-        &mut [0; 64],
+        first_slots,
+        first_area,
+        second_slots,
+        second_area,
         &mut [9; 6],
     );
     print::text(b"\n");
+}
+
+fn table(told: &[u8], first: &mut [u32], second: &mut [u32]) {
+    same(told, first, &mut [0; 64], second, &mut [0; 64]);
 }
 
 // Number 5, of either table.
@@ -123,18 +128,13 @@ pub fn ragged_tables() {
 }
 
 fn area(told: &[u8], first: &mut [u8], second: &mut [u8]) {
-    show(
-        b"a2c",
-        b"xy\x07",
-        b"xy\x07",
+    same(
         told,
         &mut [0; 2 * SLOT_WIDTH],
         first,
         &mut [0; 2 * SLOT_WIDTH],
         second,
-        &mut [9; 6],
     );
-    print::text(b"\n");
 }
 
 // Number 11, of either area.
@@ -189,16 +189,8 @@ pub fn records() {
     longer_second(b"a9z", &[b'x'; MAX_RECORD + 1]);
 }
 
-// Number 11: a report of fewer numbers than three a value field.
-pub fn reports() {
-    own(b"ac", b"x\x07", b"x\x08", b"report of 6", &mut [9; 6]);
-    own(b"ac", b"x\x07", b"x\x08", b"report of 5", &mut [9; 5]);
-    own(b"ac", b"", b"", b"report of 5", &mut [9; 5]);
-    own(b"x3", b"abc", b"x", b"report of 0", &mut [9; 0]);
-}
-
 // Compares into slots of 9 and areas of bytes aa, and prints all that they then hold.
-fn whole(layout: &[u8], first: &[u8], second: &[u8], report: &mut [u32]) {
+pub fn whole(layout: &[u8], first: &[u8], second: &[u8], report: &mut [u32]) {
     let mut first_slots = [9u32; 2 * SLOT_WIDTH];
     let mut second_slots = [9u32; 2 * SLOT_WIDTH];
     let mut first_area = [0xaau8; 12];
@@ -217,12 +209,4 @@ fn whole(layout: &[u8], first: &[u8], second: &[u8], report: &mut [u32]) {
     values::whole(&first_slots, &first_area);
     values::whole(&second_slots, &second_area);
     print::text(b"\n");
-}
-
-// Slots that a reading does not set, bytes that no value covers and the rest of the report stay, and all of a refused call does.
-pub fn kept() {
-    whole(b"a2c", b"xy", b"xy\x07", &mut [9; 7]);
-    whole(b"a2z", b"xy", b"xy\x07", &mut [9; 7]);
-    whole(b"a*", b"xy", b"xyxyxyxyxyxyx", &mut [9; 7]);
-    whole(b"a2c", b"xy", b"xy\x07", &mut [9; 5]);
 }

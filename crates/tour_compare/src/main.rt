@@ -3,29 +3,16 @@
 mod comparing;
 mod examples;
 
-use tour_text::print;
-
-fn verdicts() {
-    print::heading(b"Comparing: layout, first and second record -> number, first, second; report");
-    examples::texts();
-    examples::numbers();
-    examples::cuts();
-}
-
 fn refusals() {
-    print::heading(b"\nRefusals and limits");
-    examples::refusals();
     comparing::short_tables();
     comparing::ragged_tables();
     comparing::short_areas();
     comparing::long_areas();
+    comparing::records();
 }
 
 fn main() {
-    verdicts();
+    examples::verdicts();
     refusals();
-    comparing::records();
-    comparing::reports();
-    print::heading(b"\nWhat stays as lent");
-    comparing::kept();
+    examples::reports();
 }

@@ -3,6 +3,7 @@
 use record::Answer;
 use record::MAX_NUMBERS;
 use record::SLOT_WIDTH;
+use tour_text::lines;
 use tour_text::notation;
 use tour_text::print;
 use tour_text::print::Style;
@@ -25,7 +26,7 @@ fn parts(
     told: &[u8],
 ) {
     let mut out = [0xaau8; 16];
-    let a = gluing::pack_both(first, first_slots, second, second_slots, area, &mut out);
+    let a = gluing_pack::pack_both(first, first_slots, second, second_slots, area, &mut out);
     print::call(b"both", first);
     print::call(b"", second);
     ended(told, a, &out);
@@ -38,74 +39,108 @@ fn whole(layout: &[u8], slots: &[u32], area: &[u8], told: &[u8]) {
     ended(told, a, &out);
 }
 
-// Both lines; the first n numbers of the slots are those of the first template.
-fn show(first: &[u8], second: &[u8], joined: &[u8], n: usize, told: &[u8]) {
+// Both lines: the first k bytes of the joined text are the first template, and the first n numbers of the slots are its own.
+fn both(layout: &[u8], k: usize, slots: &[u32], n: usize, area: &[u8], told: &[u8]) {
+    if layout.len() < k {
+        return;
+    }
+    if slots.len() < n {
+        return;
+    }
+    parts(
+        &layout[0..k],
+        &slots[0..n],
+        &layout[k..],
+        &slots[n..],
+        area,
+        told,
+    );
+    whole(layout, slots, area, told);
+}
+
+// The arguments that a text names.
+fn show(layout: &[u8], k: usize, n: usize, told: &[u8]) {
     let mut slots = [0u32; MAX_NUMBERS];
     let mut area = [0u8; 64];
     let used = notation::parse(told, &mut slots, &mut area);
-    let lent = notation::slots(&slots, used);
-    let values = notation::area(&area, used);
-    if lent.len() < n {
+    both(
+        layout,
+        k,
+        notation::slots(&slots, used),
+        n,
+        notation::area(&area, used),
+        told,
+    );
+}
+
+// The low half of a digit's byte is its number.
+fn example(slots: u8, bytes: u8, layout: &[u8], rest: &[u8]) {
+    if slots == b'h' {
+        print::heading(rest);
         return;
     }
-    parts(first, &lent[0..n], second, &lent[n..], values, told);
-    whole(joined, lent, values, told);
-}
-
-// A cover and a leg; stars and flags; spaces where the texts meet.
-fn records() {
     show(
-        b"A4Iu",
-        b"S2c",
-        b"A4IuS2c",
-        2 * SLOT_WIDTH,
-        b"\"Ada\" {20260117} {17 4} {1}",
+        layout,
+        (bytes % 16) as usize,
+        (slots % 16) as usize * SLOT_WIDTH,
+        rest,
     );
-    show(
-        b"a*xu2",
-        b"B*c*",
-        b"a*xu2B*c*",
-        SLOT_WIDTH,
-        b"\"ok\" \"1011\" {-1 7}",
-    );
-    show(b"a2 ", b" S", b"a2  S", SLOT_WIDTH, b"\"ok\" {3}");
 }
 
-fn empty() {
-    show(b"", b"S2", b"S2", 0, b"{17 4}");
-    show(b"S2", b"", b"S2", SLOT_WIDTH, b"{17 4}");
+fn line(text: &[u8]) {
+    if text.len() < 3 {
+        return;
+    }
+    let bar = lines::find(text, 3, b'|');
+    if bar < text.len() {
+        let rest = bar + 1;
+        example(text[0], text[1], &text[3..bar], &text[rest..]);
+    }
 }
 
-// A cover and two legs, either pair of them joined first.
-fn three() {
-    show(b"a2S", b"c", b"a2Sc", 2 * SLOT_WIDTH, b"\"ok\" {17} {4}");
-    show(b"a2", b"Sc", b"a2Sc", SLOT_WIDTH, b"\"ok\" {17} {4}");
+fn run(list: &[u8]) {
+    let mut at = 0;
+    while at < list.len() {
+        let end = lines::find(list, at, b'\n');
+        line(&list[at..end]);
+        at = end + 1;
+    }
 }
 
-// What goes back goes into the first result, once the texts are joined.
-fn left_out() {
-    show(b"a3", b"@1a1", b"a3@1a1", SLOT_WIDTH, b"\"abc\" \"d\"");
-    show(b"a3", b"X2a1", b"a3X2a1", SLOT_WIDTH, b"\"abc\" \"d\"");
-}
-
-// The place of a refusal is one of the part.
-fn refusals() {
-    show(b"z", b"c", b"zc", 0, b"{1}");
-    show(b"a2", b"c", b"a2c", SLOT_WIDTH, b"\"ok\" \"no\"");
-    show(b"a9", b"a9", b"a9a9", SLOT_WIDTH, b"\"one\" \"two\"");
-}
-
+// Examples, one a line: the number of slots and of bytes that are the first template's, the texts joined, a bar and the arguments; or `hh`, a bar and a
+// heading. A line with no bar is no example.
 fn main() {
-    print::heading(
-        b"Both, and joined: layouts, arguments -> number, first, second; output of sixteen bytes aa",
+    run(
+        br#"
+hh |Both, and joined: layouts, arguments -> number, first, second; output of sixteen bytes aa
+
+A cover and a leg; stars and flags; spaces where the texts meet.
+24 A4IuS2c|"Ada" {20260117} {17 4} {1}
+15 a*xu2B*c*|"ok" "1011" {-1 7}
+13 a2  S|"ok" {3}
+hh |
+hh |The empty layout
+00 S2|{17 4}
+12 S2|{17 4}
+hh |
+hh |Three
+
+A cover and two legs, either pair of them joined first.
+23 a2Sc|"ok" {17} {4}
+12 a2Sc|"ok" {17} {4}
+hh |
+hh |X and @, of which nothing is claimed
+
+What goes back goes into the first result, once the texts are joined.
+12 a3@1a1|"abc" "d"
+12 a3X2a1|"abc" "d"
+hh |
+hh |Refused, and no byte changed
+
+The place of a refusal is one of the part.
+01 zc|{1}
+12 a2c|"ok" "no"
+12 a9a9|"one" "two"
+"#,
     );
-    records();
-    print::heading(b"\nThe empty layout");
-    empty();
-    print::heading(b"\nThree");
-    three();
-    print::heading(b"\nX and @, of which nothing is claimed");
-    left_out();
-    print::heading(b"\nRefused, and no byte changed");
-    refusals();
 }

@@ -1,7 +1,7 @@
 // Means of marked legs (document 02, M-104): a line for each call, with the table, the answer's three numbers, and the pattern of the mean or that no leg is marked.
-ghost use Rattle.mean.specs.Claims.{Numeric};
-use mean::LegMean;
-use mean::Marks;
+ghost use Rattle.marks.specs.Claims.{Numeric};
+use marks::LegMean;
+use marks::Marks;
 use record::MAX_AREA;
 use record::MAX_NUMBERS;
 use record::SLOT_WIDTH;

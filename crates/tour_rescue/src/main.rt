@@ -3,7 +3,7 @@ use record::MAX_AREA;
 use record::MAX_NUMBERS;
 use record::MAX_SLOTS;
 use record::SLOT_WIDTH;
-use rescue::Rescued;
+use rescue_fill::Rescued;
 use tour_text::print;
 use tour_text::print::Style;
 use tour_text::values;

@@ -1,12 +1,17 @@
-// Lists of examples, one a line: `w` and a table to write, or `r` and a sheet to read. No sheet among them has the byte 0a.
+// Lists of examples, one a line: `w` and a table to write, `r` and a sheet to read, `k` and a sheet to read and show all that is lent, or `h` and a heading.
+// A line of no such letter is no example. No sheet among them has the byte 0a.
 use super::reading;
 use super::writing;
 use tour_text::lines;
+use tour_text::print;
 
 fn example(kind: u8, rest: &[u8]) {
     match kind {
+        b'h' => print::heading(rest),
         b'w' => writing::example(rest),
-        _ => reading::example(rest),
+        b'r' => reading::example(rest),
+        b'k' => reading::whole(rest),
+        _ => (),
     }
 }
 
@@ -26,23 +31,28 @@ fn run(list: &[u8]) {
     }
 }
 
-// The request's own table; values that are empty, zero and long, and slots that are not set among them.
 pub fn written() {
     run(
-        br#"
-w - "OK" {-2}
+        b"
+h Writing: table -> number, first, second: sheet. Keeping: the same, then read from the mark 4 on: values
+
+The request's own table; values that are empty, zero and long, and slots that are not set among them.
+w - \"OK\" {-2}
 w - - -
-w "" {} -
+w \"\" {} -
 w {0} - {0}
-w {1 258} - "a"
-"#,
+w {1 258} - \"a\"
+",
     );
 }
 
-// The request's own sheet, the table of no slots, one that is not set, empty values, zero, an unsigned integer, and two integers.
 pub fn read() {
     run(
         b"
+h\x20
+h Reading: sheet -> number, first, second: values
+
+The request's own sheet, the table of no slots, one that is not set, empty values, zero, an unsigned integer, and two integers.
 r \x01\x00\x13\x00\x01\x00\x00\x03\x01OK\x00\x09\x02\xff\xff\xff\xff\xff\xff\xff\xfe
 r \x01\x00\x00
 r \x01\x00\x03\x00\x01\x00
@@ -50,14 +60,11 @@ r \x01\x00\x09\x00\x01\x01\x00\x01\x02\x00\x01\x03
 r \x01\x00\x0b\x00\x09\x02\x00\x00\x00\x00\x00\x00\x00\x00
 r \x01\x00\x0b\x00\x09\x03\xff\xff\xff\xff\xff\xff\xff\xff
 r \x01\x00\x13\x00\x11\x02\x00\x00\x00\x00\x00\x00\x00\x01\x00\x00\x00\x00\x00\x00\x01\x02
-",
-    );
-}
+h\x20
+h Reading: refusals and limits
+r\x20
 
-// Number 13, also where the sheet is too short. Number 12 at the header: too short, too small, too large, the low byte first, counting itself.
-pub fn headers() {
-    run(
-        b"
+Number 13, also where the sheet is too short. Number 12 at the header: too short, too small, too large, the low byte first, counting itself.
 r \x03\x00\x00
 r \x00\x00\x00
 r \x03
@@ -68,29 +75,8 @@ r \x01\x00\x02\x00\x01\x00
 r \x01\x00\x04\x00\x01\x00
 r \x01\x03\x00\x00\x01\x00
 r \x01\x00\x06\x00\x01\x00
-",
-    );
-}
 
-// Version 2 has a header of five bytes and lengths of four; 12 at 0 where its entries would fit version 1, after every entry and before number 5.
-pub fn second_versions() {
-    run(
-        b"
-r \x02
-r \x02\x00\x00
-r \x02\x00\x00\x00
-r \x02\x00\x00\x00\x00
-r \x02\x00\x00\x00\x05\x00\x00\x00\x01\x00
-r \x02\x00\x00\x00\x05\x00\x00\x00\x01\x09
-r \x02\x00\x00\x00\x14\x00\x00\x00\x01\x00\x00\x00\x00\x01\x00\x00\x00\x00\x01\x00\x00\x00\x00\x01\x00
-",
-    );
-}
-
-// Number 12 at the first entry whose length is wrong, by itself or for its kind, or whose kind is; and number 5, which comes after it.
-pub fn entries() {
-    run(
-        b"
+Number 12 at the first entry whose length is wrong, by itself or for its kind, or whose kind is; and number 5, which comes after it.
 r \x01\x00\x01\x00
 r \x01\x00\x04\x00\x01\x00\x00
 r \x01\x00\x02\x00\x00
@@ -106,6 +92,31 @@ r \x01\x00\x06\x00\x01\x00\x00\x01\xff
 r \x01\x00\x06\x00\x01\x05\x00\x01\x05
 r \x01\x00\x0c\x00\x01\x00\x00\x01\x00\x00\x01\x00\x00\x01\x00
 r \x01\x00\x0d\x00\x01\x00\x00\x01\x00\x00\x01\x00\x00\x01\x00\x00
+
+Version 2 has a header of five bytes and lengths of four; 12 at 0 where its entries would fit version 1, after every entry and before number 5.
+r \x02
+r \x02\x00\x00
+r \x02\x00\x00\x00
+r \x02\x00\x00\x00\x00
+r \x02\x00\x00\x00\x05\x00\x00\x00\x01\x00
+r \x02\x00\x00\x00\x05\x00\x00\x00\x01\x09
+r \x02\x00\x00\x00\x14\x00\x00\x00\x01\x00\x00\x00\x00\x01\x00\x00\x00\x00\x01\x00\x00\x00\x00\x01\x00
+",
+    );
+}
+
+pub fn kept() {
+    run(
+        b"
+
+Slots past the last entry and bytes that no value covers stay as lent, and all of a refused call does.
+k \x01\x00\x00
+k \x01\x00\x03\x00\x01\x00
+k \x01\x00\x08\x00\x03\x01xy\x00\x01\x01
+k \x03\x00\x00
+k \x01\x00\x07\x00\x02\x01x\x00\x01\x05
+k \x01\x00\x0c\x00\x01\x01\x00\x01\x01\x00\x01\x01\x00\x01\x01
+k \x01\x00\x0b\x00\x09\x02\x00\x00\x00\x00\x00\x00\x00\x07
 ",
     );
 }

@@ -6,9 +6,6 @@ mod writing;
 use tour_text::print;
 
 fn written() {
-    print::heading(
-        b"Writing: table -> number, first, second: sheet. Keeping: the same, then read from the mark 4 on: values",
-    );
     examples::written();
     writing::slots();
     print::heading(b"\nWriting: refusals and limits");
@@ -17,19 +14,9 @@ fn written() {
     writing::kept();
 }
 
-fn read() {
-    print::heading(b"\nReading: sheet -> number, first, second: values");
-    examples::read();
-    print::heading(b"\nReading: refusals and limits");
-    reading::example(b"");
-    examples::headers();
-    examples::entries();
-    examples::second_versions();
-    reading::sizes();
-    reading::kept();
-}
-
 fn main() {
     written();
-    read();
+    examples::read();
+    reading::sizes();
+    examples::kept();
 }

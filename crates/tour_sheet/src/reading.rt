@@ -87,7 +87,7 @@ pub fn sizes() {
 }
 
 // Reads into three slots of nines and eight bytes aa from the mark 1 on, and prints all that they then hold.
-fn whole(sheet: &[u8]) {
+pub fn whole(sheet: &[u8]) {
     let mut slots = [9u32; 3 * SLOT_WIDTH];
     let mut area = [0xaau8; 8];
     let a = sheet_read::read(sheet, &mut slots, &mut area, 1);
@@ -97,15 +97,4 @@ fn whole(sheet: &[u8]) {
     print::answer(a.number, a.first, a.second);
     values::whole(&slots, &area);
     print::text(b"\n");
-}
-
-// Slots past the last entry and bytes that no value covers stay as lent, and all of a refused call does.
-pub fn kept() {
-    whole(b"\x01\x00\x00");
-    whole(b"\x01\x00\x03\x00\x01\x00");
-    whole(b"\x01\x00\x08\x00\x03\x01xy\x00\x01\x01");
-    whole(b"\x03\x00\x00");
-    whole(b"\x01\x00\x07\x00\x02\x01x\x00\x01\x05");
-    whole(b"\x01\x00\x0c\x00\x01\x01\x00\x01\x01\x00\x01\x01\x00\x01\x01");
-    whole(b"\x01\x00\x0b\x00\x09\x02\x00\x00\x00\x00\x00\x00\x00\x07");
 }

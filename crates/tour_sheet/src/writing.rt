@@ -51,6 +51,10 @@ fn placed(told: &[u8], slots: &[u32]) {
     show(told, slots, b"xy", &mut [0; 64]);
 }
 
+fn single(told: &[u8], kind: u32, start: u32, length: u32) {
+    placed(told, &[kind, start, length, 0]);
+}
+
 // Tables that no text names: no slots, an unsigned integer, a slot that is not set and says more, an empty value at the area's end.
 pub fn slots() {
     placed(b"no slots", &[0; 0]);
@@ -60,42 +64,32 @@ pub fn slots() {
         &[255; 8],
         &mut [0; 64],
     );
-    placed(b"slot 0 4294967295 7", &[0, 4294967295, 7, 0]);
-    placed(b"slot 1 2 0 over two bytes", &[1, 2, 0, 0]);
+    single(b"slot 0 4294967295 7", 0, 4294967295, 7);
+    single(b"slot 1 2 0 over two bytes", 1, 2, 0);
 }
 
 // Number 7.
 fn bad_slots() {
-    placed(b"slot 1 3 0 over two bytes", &[1, 3, 0, 0]);
-    placed(b"slot 1 1 2 over two bytes", &[1, 1, 2, 0]);
-    placed(b"slot 2 0 1 over two bytes", &[2, 0, 1, 0]);
+    single(b"slot 1 3 0 over two bytes", 1, 3, 0);
+    single(b"slot 1 1 2 over two bytes", 1, 1, 2);
+    single(b"slot 2 0 1 over two bytes", 2, 0, 1);
     placed(
         b"slots 0 0 0, 5 0 0, 6 0 0",
         &[0, 0, 0, 0, 5, 0, 0, 0, 6, 0, 0, 0],
     );
 }
 
+// A string over "OK", into a buffer that is lent.
+fn room(told: &[u8], length: u32, sheet: &mut [u8]) {
+    show(told, &[1, 0, length, 0], b"OK", sheet);
+}
+
 // Number 11, which comes after 7.
 fn rooms() {
-    show(
-        b"slot 1 0 2, buffer of 8 bytes",
-        &[1, 0, 2, 0],
-        b"OK",
-        &mut [0; 8],
-    );
-    show(
-        b"slot 1 0 2, buffer of 7 bytes",
-        &[1, 0, 2, 0],
-        b"OK",
-        &mut [0; 7],
-    );
+    room(b"slot 1 0 2, buffer of 8 bytes", 2, &mut [0; 8]);
+    room(b"slot 1 0 2, buffer of 7 bytes", 2, &mut [0; 7]);
     show(b"no slots, buffer of 2 bytes", &[0; 0], b"", &mut [0; 2]);
-    show(
-        b"slot 1 0 3, buffer of 2 bytes",
-        &[1, 0, 3, 0],
-        b"OK",
-        &mut [0; 2],
-    );
+    room(b"slot 1 0 3, buffer of 2 bytes", 3, &mut [0; 2]);
 }
 
 pub fn refusals() {
@@ -117,19 +111,21 @@ fn long(told: &[u8], slots: &[u32]) {
     over(told, slots, &[b'z'; MAX_AREA], &mut [0; ONE_AREA]);
 }
 
+fn long_one(told: &[u8], length: u32) {
+    long(told, &[1, 0, length, 0]);
+}
+
+fn long_two(told: &[u8], second: u32) {
+    long(told, &[1, 0, 32765, 0, 1, 0, second, 0]);
+}
+
 // The longest that version 1 can hold, and a byte more: version 2. The longest value; and number 11.
 fn lengths() {
-    long(b"slot 1 0 65532", &[1, 0, 65532, 0]);
-    long(b"slot 1 0 65533", &[1, 0, 65533, 0]);
-    long(
-        b"slots 1 0 32765, 1 0 32764",
-        &[1, 0, 32765, 0, 1, 0, 32764, 0],
-    );
-    long(
-        b"slots 1 0 32765, 1 0 32765",
-        &[1, 0, 32765, 0, 1, 0, 32765, 0],
-    );
-    long(b"slot 1 0 524288", &[1, 0, 524288, 0]);
+    long_one(b"slot 1 0 65532", 65532);
+    long_one(b"slot 1 0 65533", 65533);
+    long_two(b"slots 1 0 32765, 1 0 32764", 32764);
+    long_two(b"slots 1 0 32765, 1 0 32765", 32765);
+    long_one(b"slot 1 0 524288", 524288);
     long(b"slots 1 0 524288, 0 0 0", &[1, 0, 524288, 0, 0, 0, 0, 0]);
 }
 
@@ -198,12 +194,20 @@ fn whole(told: &[u8], slots: &[u32]) {
     print::text(b"\n");
 }
 
+fn whole_one(told: &[u8], kind: u32, length: u32) {
+    whole(told, &[kind, 0, length, 0]);
+}
+
+fn whole_ones() {
+    whole_one(b"slot 0 0 0", 0, 0);
+    whole_one(b"slot 1 0 2", 1, 2);
+    whole_one(b"slot 1 0 3", 1, 3);
+}
+
 // Bytes past the sheet stay as lent, and all of the buffer of a refused call does.
 pub fn kept() {
     whole(b"no slots", &[0; 0]);
-    whole(b"slot 0 0 0", &[0, 0, 0, 0]);
-    whole(b"slot 1 0 2", &[1, 0, 2, 0]);
-    whole(b"slot 1 0 3", &[1, 0, 3, 0]);
+    whole_ones();
     whole(b"slots 1 0 2, 1 4 1", &[1, 0, 2, 0, 1, 4, 1, 0]);
     whole(b"a number more than a slot", &[0; SLOT_WIDTH + 1]);
 }

@@ -50,7 +50,7 @@ fn text(area: &mut [u8], to: usize, bytes: &[u8], at: usize, n: usize, pad: u8) 
     ensures { λ r. ⌜ ((u : Bool) → LoadedAs (valueAt (now (bytes .entry)) at (Text pad) u n) (now (area .entry)) to r (now (area .exit))) ⌝ }
 {
     let k = text_len(bytes, at, n, pad);
-    text::bytes::copy(area, to, bytes, at, k);
+    byte_runs::copy(area, to, bytes, at, k);
     Loaded {
         kind: 1,
         items: k,

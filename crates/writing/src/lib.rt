@@ -20,13 +20,13 @@ fn put_move(m: Motion, n: Count, c: Cursor, out: &mut [u8]) -> Cursor
     match m {
         Motion::Skip => {
             let bytes = record::amount(n, 0);
-            text::bytes::fill(out, c.at, bytes, 0);
+            byte_runs::fill(out, c.at, bytes, 0);
             c.store(bytes)
         }
         Motion::Back => c.back(n),
         Motion::Goto => {
             let d = c.goto(n);
-            text::bytes::fill(out, c.end, d.end - c.end, 0);
+            byte_runs::fill(out, c.end, d.end - c.end, 0);
             d
         }
     }

@@ -1,7 +1,7 @@
 -- Four stores side by side are one of the four digits.
 use native.Mathlib.Omega.{arith}
 use lib.ListN.{length-set}
-use Rattle.text.proofs.WordLaws.{put-low, put-high}
+use Rattle.byte_runs.proofs.WordLaws.{put-low, put-high}
 use borrow.Author.Needs.{needs}
 use Rattle.digit_chars.proofs.put_four.Statement.{statement}
 use Rattle.digit_chars.proofs.put_four.Tie as tie

@@ -5,7 +5,7 @@ use mathlib.Core.Bool.{false}
 use native.Mathlib.Omega.{arith}
 use Rattle.record.specs.Bytes.{part}
 use Rattle.record.proofs.Stores.{length-part}
-use Rattle.text.proofs.ByteLaws.{Grown, grown-none, grown-done}
+use Rattle.byte_runs.proofs.ByteLaws.{Grown, grown-none, grown-done}
 use Rattle.digits_load.proofs.DigitChars.{shownChars, length-shown, eight-turn}
 use Rattle.digits_load.proofs.load_eights.Statement.{statement}
 use Rattle.digits_load.proofs.load_eights.Tie as tie

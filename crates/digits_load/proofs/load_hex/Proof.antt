@@ -6,7 +6,7 @@ use Rattle.record.specs.Bytes.{part, ceilDiv, storeAt}
 use mathlib.Core.Bool.{true}
 use Rattle.record.proofs.Stores.{add-run, length-part}
 use Rattle.digits.proofs.DigitLaws.{more-bytes}
-use Rattle.text.proofs.ByteLaws.{Grown, grown-none, grown-done}
+use Rattle.byte_runs.proofs.ByteLaws.{Grown, grown-none, grown-done}
 use Rattle.digits_load.proofs.DigitChars.{shownChars, shown-any, length-shown, chars-turn}
 use native.Mathlib.Nat.{zero-mul}
 use Rattle.digits_load.proofs.load_hex.Statement.{statement}

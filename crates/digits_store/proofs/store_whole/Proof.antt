@@ -5,7 +5,7 @@ use mathlib.Core.Bool.{false}
 use native.Mathlib.Omega.{arith}
 use lib.ListN.{drop}
 use Rattle.record.specs.Bytes.{part, storeAt}
-use Rattle.text.proofs.ByteLaws.{part-rest}
+use Rattle.byte_runs.proofs.ByteLaws.{part-rest}
 use Rattle.digits.proofs.DigitLaws.{digits-at, all-rest}
 use Rattle.digits_store.proofs.StripLaws.{stored-both, stored-first}
 use borrow.Author.Needs.{needs}

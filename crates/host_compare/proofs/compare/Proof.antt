@@ -1,9 +1,7 @@
 -- Each way out is one law of the definition; what was tested on the way is its premise.
 use native.Mathlib.Omega.{arith}
 use mathlib.Core.Path.{_≡_, sym, _∙_}
-use mathlib.Core.Bool.{true}
 use borrow.Author.Tests.{not-true, not-false, eqb-true}
-use lib.Dec.{eqb}
 use lib.ListN.{length}
 use lib.Seq.{length-take-le}
 use Rattle.host.specs.Host.{replySize}
@@ -19,8 +17,8 @@ reply-fits-requires c κs = search needs
 returns : tie.Need-returns
 returns c = unwritten _ _ _ _ _ _ _ _ _ (sym (c .before .reply-fits .ensures) ∙ not-true _ (c .if1 .taken))
 
-sized : (c : tie.Else1) → eqb (length (c .before .before .before .before .before .before .before .before .before .before .before .args .reply .now)) replySize ≡ true
-sized c = sym (c .before .reply-fits .ensures) ∙ not-false _ (c .if1 .left)
+sized : (c : tie.Else1) → length (c .before .before .before .before .before .before .before .before .before .before .before .args .reply .now) ≡ replySize
+sized c = eqb-true _ _ (sym (c .before .reply-fits .ensures) ∙ not-false _ (c .if1 .left))
 
 slots-fit-requires : tie.Need-slots-fit-requires
 slots-fit-requires c κs = search needs
@@ -29,17 +27,20 @@ refused-requires : tie.Need-refused-requires
 refused-requires c κs = search needs
 
 reply-with-requires : tie.Need-reply-with-requires
-reply-with-requires c κs = eqb-true _ _ (sized (c .before .before .before .before))
+reply-with-requires c κs = sized (c .before .before .before .before)
 
 same-length : tie.Need-same-length
-same-length c = search needs
+same-length c = c .before .reply .given
 
 returns-2 : tie.Need-returns-2
 returns-2 c =
     let replied = c .before .before in
     let refused = replied .before in
     let tested = refused .before .before in
-    first-cut _ _ _ _ _ _ _ _ _ (sized (tested .before .before)) (sym (tested .before .slots-fit .ensures) ∙ not-true _ (tested .if2 .taken)) (refused .refused .ensures) (replied .reply-with .ensures)
+    let replying = tested .before .before in
+    let a = replying .before .before .before .before .before .before .before .before .before .before .before .args in
+    first-cut (a .layout .now) (a .first .now) (a .second .now) (a .first-slots .now) (a .first-area .now) (a .second-slots .now) (a .second-area .now) (a .report .now) (a .reply .now) (sized replying)
+    {r = replied .reply-with .result} {a = refused .refused .result} {reply′ = replied .reply-with .last .0} (sym (tested .before .slots-fit .ensures) ∙ not-true _ (tested .if2 .taken)) (refused .refused .ensures) (replied .reply-with .ensures)
 
 first-fits : (c : tie.Else2) → Fit (length (c .before .before .before .before .before .before .before .before .before .before .before .before .before .args .first-slots .now))
 first-fits c = fit _ (sym (c .before .slots-fit .ensures) ∙ not-false _ (c .if2 .left))
@@ -54,20 +55,23 @@ slice-aggregate-refuse-second : tie.Need-slice-aggregate-refuse-second
 slice-aggregate-refuse-second c = sym (length-take-le _ _ (array-share-prefix-first-room (c .before)))
 
 refuse-second-requires : tie.Need-refuse-second-requires
-refuse-second-requires c κs = eqb-true _ _ (sized (c .before .before .before .before .before .before .before))
+refuse-second-requires c κs = sized (c .before .before .before .before .before .before .before)
 
 same-length-2 : tie.Need-same-length-2
 same-length-2 c = search needs
 
 same-length-3 : tie.Need-same-length-3
-same-length-3 c = search needs
+same-length-3 c = c .before .reply2 .given
 
 returns-3 : tie.Need-returns-3
 returns-3 c =
     let called = c .before .before in
     let tested = called .before .before .before .before in
     let served = tested .before .before in
-    second-cut _ _ _ _ _ _ _ _ _ (sized (served .before .before)) (first-fits served) _ (length-take-le _ _ (array-share-prefix-first-room tested)) (sym (tested .before .slots-fit2 .ensures) ∙ not-true _ (tested .if3 .taken))
+    let replying = served .before .before in
+    let a = replying .before .before .before .before .before .before .before .before .before .before .before .args in
+    second-cut (a .layout .now) (a .first .now) (a .second .now) (a .first-slots .now) (a .first-area .now) (a .second-slots .now) (a .second-area .now) (a .report .now) (a .reply .now) (sized replying) (first-fits served) _
+    {r = called .refuse-second .result} {reply′ = called .refuse-second .last .1 .1 .1 .1 .0} (length-take-le _ _ (array-share-prefix-first-room tested)) (sym (tested .before .slots-fit2 .ensures) ∙ not-true _ (tested .if3 .taken))
     (called .refuse-second .ensures)
 
 second-fits : (c : tie.Else3) → Fit (length (c .before .before .before .before .before .before .before .before .before .before .before .before .before .before .before .args .second-slots .now))
@@ -101,7 +105,7 @@ compare-by-requires c κs =
     let first = left .before .before in
     let room-2 = c .before .before in
     let room-1 = room-2 .before in (
-      (eqb-true _ _ (sized (first .before .before)), length-take-le _ _ (array-borrow-prefix-rows (c .before)) ∙ counted .least .ensures),
+      (sized (first .before .before), length-take-le _ _ (array-borrow-prefix-rows (c .before)) ∙ counted .least .ensures),
       (
         (room-for _ (first-fits first) (array-borrow-prefix-first-room room-1), room-whole _ (first-fits first) (array-borrow-prefix-first-room room-1)),
         (room-for _ (second-fits left) (array-borrow-prefix-second-room room-2), room-whole _ (second-fits left) (array-borrow-prefix-second-room room-2)),
@@ -109,29 +113,33 @@ compare-by-requires c κs =
     )
 
 same-length-4 : tie.Need-same-length-4
-same-length-4 c = search needs
+same-length-4 c = c .before .before .before .before .before .before .before .before .before .before .before .before .before .before .first-slots .given
 
 same-length-5 : tie.Need-same-length-5
-same-length-5 c = search needs
+same-length-5 c = c .before .before .before .before .before .before .before .before .before .before .before .before .first-area .given
 
 same-length-6 : tie.Need-same-length-6
-same-length-6 c = search needs
+same-length-6 c = c .before .before .before .before .before .before .before .before .before .before .second-slots .given
 
 same-length-7 : tie.Need-same-length-7
-same-length-7 c = search needs
+same-length-7 c = c .before .before .before .before .before .before .before .before .second-area .given
 
 same-length-8 : tie.Need-same-length-8
-same-length-8 c = search needs
+same-length-8 c = c .before .before .before .before .before .before .report .given
 
 same-length-9 : tie.Need-same-length-9
-same-length-9 c = search needs
+same-length-9 c = c .before .before .before .before .reply3 .given
 
 returns-4 : tie.Need-returns-4
 returns-4 c =
     let called = c .before .before .before .before .before .before .before .before .before .before .before .before .before .before .before in
     let left = called .before .before .before .before .before .before .before .before .before .before .before in
     let first = left .before .before in
-    called .compare-by .ensures ∙ served _ _ _ _ _ _ _ _ _ (sized (first .before .before)) (first-fits first) (second-fits left)
+    let replying = first .before .before in
+    let a = replying .before .before .before .before .before .before .before .before .before .before .before .args in
+    let l = called .compare-by .last .1 .1 .1 in
+    served (a .layout .now) (a .first .now) (a .second .now) (a .first-slots .now) (a .first-area .now) (a .second-slots .now) (a .second-area .now) (a .report .now) (a .reply .now) (sized replying) (first-fits first) (second-fits left)
+    {r = called .compare-by .result} {fslots′ = l .0} {farea′ = l .1 .0} {sslots′ = l .1 .1 .0} {sarea′ = l .1 .1 .1 .0} {report′ = l .1 .1 .1 .1 .0} {reply′ = l .1 .1 .1 .1 .1 .0} (called .compare-by .ensures)
 
 pub compare-spec : {M : Type 1} → statement M
 compare-spec =

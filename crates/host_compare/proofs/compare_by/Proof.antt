@@ -1,5 +1,6 @@
 -- The numbers of both tables are decoded, the call on numbers compares, and what it left is written back.
 use native.Mathlib.Omega.{arith}
+use mathlib.Core.Path.{_∙_}
 use Rattle.record.proofs.Bytes.{all-below}
 use Rattle.host_compare.proofs.Calls.{fits, left-by}
 use borrow.Author.Needs.{needs}
@@ -21,34 +22,40 @@ write-back-requires c κs =
     let second = called .before .before .before .before .before .before .before .before in
     let first = second .before .before .before .before .before in
     let start = first .before .before .before .before .before .before .before .before .before .before .before .before .before .before .before in
-    (start .pre .0 .0, fits _ _ _ (start .args .first-slots .now) _ (start .args .second-slots .now) _ (start .args .report .now) _ (start .pre .0 .1) (first .decode .ensures) (second .decode2 .ensures) (called .compare .ensures))
+    let a = start .args in
+    let l = called .compare .last .1 .1 .1 in (
+      start .pre .0 .0,
+      fits (a .layout .now) (a .first .now) (a .second .now) (a .first-slots .now) (a .first-area .now) (a .second-slots .now) (a .second-area .now) (a .report .now) (a .rows .now) (start .pre .0 .1)
+          {ns = first .decode .last .1 .0} {ms = second .decode2 .last .1 .0} (first .decode .ensures) (second .decode2 .ensures)
+          {ns′ = l .0} {farea′ = l .1 .0} {ms′ = l .1 .1 .0} {sarea′ = l .1 .1 .1 .0} {rows′ = l .1 .1 .1 .1 .0} {a = called .compare .result} (called .compare .ensures),
+    )
 
 same-length : tie.Need-same-length
-same-length c = search needs
+same-length c = c .before .before .before .before .before .before .before .first-slots .given
 
 same-length-2 : tie.Need-same-length-2
-same-length-2 c = search needs
+same-length-2 c = c .before .before .before .before .before .before .before .before .before .before .before .before .before .before .before .before .before .before .before .before .before .before .before .first-area .given
 
 same-length-3 : tie.Need-same-length-3
-same-length-3 c = search needs
+same-length-3 c = c .before .before .before .before .before .second-slots .given
 
 same-length-4 : tie.Need-same-length-4
-same-length-4 c = search needs
+same-length-4 c = c .before .before .before .before .before .before .before .before .before .before .before .before .before .before .before .before .before .before .before .second-area .given
 
 same-length-5 : tie.Need-same-length-5
-same-length-5 c = search needs
+same-length-5 c = c .before .before .before .report .given
 
 same-length-6 : tie.Need-same-length-6
-same-length-6 c = search needs
+same-length-6 c = c .before .reply .given
 
 same-length-7 : tie.Need-same-length-7
-same-length-7 c = search (needs, c .before .before .before .before .before .before .before .before .before .before .before .before .before .before .before .before .before .before .before .before .before .before .before .before .before .first-room2 .given, c .before .before .before .before .before .before .before .before .before .before .before .before .before .before .before .before .before .before .before .before .before .before .before .before .before .before .before .before .before .before .before .before .before .before .before .before .before .before .first-room .given)
+same-length-7 c = c .before .before .before .before .before .before .before .before .before .before .before .before .before .before .before .before .before .before .before .before .before .before .before .before .before .first-room2 .given ∙ c .before .before .before .before .before .before .before .before .before .before .before .before .before .before .before .before .before .before .before .before .before .before .before .before .before .before .before .before .before .before .before .before .before .before .before .before .before .before .first-room .given
 
 same-length-8 : tie.Need-same-length-8
-same-length-8 c = search needs
+same-length-8 c = c .before .before .before .before .before .before .before .before .before .before .before .before .before .before .before .before .before .before .before .before .before .second-room2 .given ∙ c .before .before .before .before .before .before .before .before .before .before .before .before .before .before .before .before .before .before .before .before .before .before .before .before .before .before .before .before .before .before .before .before .before .second-room .given
 
 same-length-9 : tie.Need-same-length-9
-same-length-9 c = search needs
+same-length-9 c = c .before .before .before .before .before .before .before .before .before .before .before .before .before .before .before .before .before .rows .given
 
 returns : tie.Need-returns
 returns c =
@@ -59,10 +66,16 @@ returns c =
     let known-2 = first .before .before .before .before .before .before .before .before .before in
     let known-1 = known-2 .before .before in
     let start = known-1 .before .before .before .before in
-    let fslots = start .args .first-slots .now in
-    let sslots = start .args .second-slots .now in
+    let a = start .args in
+    let fslots = a .first-slots .now in
+    let sslots = a .second-slots .now in
+    let l = called .compare .last .1 .1 .1 in
+    let w = back .write-back .last in
     let b = back .write-back .ensures in
-    left-by _ _ _ fslots _ sslots _ (start .args .report .now) _ (start .pre .0 .1) (first .decode .ensures) (second .decode2 .ensures) (called .compare .ensures) (b .0, b .1)
+    left-by (a .layout .now) (a .first .now) (a .second .now) fslots (a .first-area .now) sslots (a .second-area .now) (a .report .now) (a .rows .now) (start .pre .0 .1)
+    {ns = first .decode .last .1 .0} {ms = second .decode2 .last .1 .0} (first .decode .ensures) (second .decode2 .ensures)
+    {ns′ = l .0} {farea′ = l .1 .0} {ms′ = l .1 .1 .0} {sarea′ = l .1 .1 .1 .0} {rows′ = l .1 .1 .1 .1 .0} {a = called .compare .result} (called .compare .ensures)
+    {fslots′ = w .0} {sslots′ = w .1 .0} {report′ = w .1 .1 .0} {reply′ = w .1 .1 .1 .0} {r = back .write-back .result} (b .0, b .1)
     (omega arith) (all-below fslots (λ i. known-1 .slice-known .given i .fits)) (omega arith) (all-below sslots (λ i. known-2 .slice-known3 .given i .fits))
     (b .2 .0) (b .2 .1) (b .2 .2)
 

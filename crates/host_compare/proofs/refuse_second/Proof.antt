@@ -12,7 +12,7 @@ reply-with-requires : tie.Need-reply-with-requires
 reply-with-requires c κs = search needs
 
 same-length : tie.Need-same-length
-same-length c = search needs
+same-length c = c .before .reply .given
 
 returns : tie.Need-returns
 returns c =

@@ -6,7 +6,8 @@ use borrow.Author.Tests.{not-true, not-false, eqb-true}
 use mathlib.Core.Bool.{true}
 use lib.Dec.{eqb}
 use lib.ListN.{length}
-use Rattle.host.specs.Host.{numberSize, replySize, fewNumbers}
+use Rattle.host_numbers.specs.Numbers.{numberSize}
+use Rattle.host.specs.Host.{replySize, fewNumbers}
 use lib.Seq.{length-take-le}
 use Rattle.host.proofs.Guards.{Fit, fit, room-for, room-whole, few}
 use Rattle.host_pack.proofs.Calls.{pack-unwritten, pack-refused, pack-served}
@@ -33,7 +34,7 @@ reply-with-requires : tie.Need-reply-with-requires
 reply-with-requires c κs = eqb-true _ _ (sized (c .before .before .before .before))
 
 same-length : tie.Need-same-length
-same-length c = search needs
+same-length c = c .before .reply .given
 
 returns-2 : tie.Need-returns-2
 returns-2 c =
@@ -62,10 +63,10 @@ reply-with-requires-2 : tie.Need-reply-with-requires-2
 reply-with-requires-2 c κs = eqb-true _ _ (sized (c .before .before .before .before .before .before .before .before .before .before .before))
 
 same-length-2 : tie.Need-same-length-2
-same-length-2 c = search needs
+same-length-2 c = c .before .before .before .before .before .before .out .given
 
 same-length-3 : tie.Need-same-length-3
-same-length-3 c = search needs
+same-length-3 c = c .before .reply2 .given
 
 returns-3 : tie.Need-returns-3
 returns-3 c =
@@ -89,10 +90,10 @@ reply-with-requires-3 : tie.Need-reply-with-requires-3
 reply-with-requires-3 c κs = eqb-true _ _ (sized (c .before .before .before .before .before .before .before .before .before .before .before))
 
 same-length-4 : tie.Need-same-length-4
-same-length-4 c = search needs
+same-length-4 c = c .before .before .before .before .before .before .out2 .given
 
 same-length-5 : tie.Need-same-length-5
-same-length-5 c = search needs
+same-length-5 c = c .before .reply3 .given
 
 returns-4 : tie.Need-returns-4
 returns-4 c =

@@ -11,10 +11,10 @@ pack-requires : tie.Need-pack-requires
 pack-requires c κs = search needs
 
 same-length : tie.Need-same-length
-same-length c = search needs
+same-length c = c .before .out .given
 
 same-length-2 : tie.Need-same-length-2
-same-length-2 c = search needs
+same-length-2 c = c .before .before .before .before .before .before .room .given
 
 returns : tie.Need-returns
 returns c =

@@ -6,7 +6,8 @@ use borrow.Author.Tests.{not-true, not-false, eqb-true}
 use mathlib.Core.Bool.{true}
 use lib.Dec.{eqb}
 use lib.ListN.{length}
-use Rattle.host.specs.Host.{numberSize, longReplySize, fewNumbers}
+use Rattle.host_numbers.specs.Numbers.{numberSize}
+use Rattle.host.specs.Host.{longReplySize, fewNumbers}
 use lib.Seq.{length-take-le}
 use Rattle.host.proofs.Guards.{Fit, fit, room-for, few}
 use Rattle.host_read.proofs.Calls.{read-unwritten, read-refused, read-served}
@@ -33,7 +34,7 @@ reply-long-requires : tie.Need-reply-long-requires
 reply-long-requires c κs = eqb-true _ _ (sized (c .before .before .before .before))
 
 same-length : tie.Need-same-length
-same-length c = search needs
+same-length c = c .before .reply .given
 
 returns-2 : tie.Need-returns-2
 returns-2 c =
@@ -59,13 +60,13 @@ read-short-requires c κs =
     (eqb-true _ _ (sized (tested .before .before .before .before)), room-for _ (served (tested .before .before)) (array-borrow-prefix-room (c .before)))
 
 same-length-2 : tie.Need-same-length-2
-same-length-2 c = search needs
+same-length-2 c = c .before .before .before .before .before .before .slots .given
 
 same-length-3 : tie.Need-same-length-3
-same-length-3 c = search needs
+same-length-3 c = c .before .before .before .before .area .given
 
 same-length-4 : tie.Need-same-length-4
-same-length-4 c = search needs
+same-length-4 c = c .before .before .reply2 .given
 
 returns-3 : tie.Need-returns-3
 returns-3 c =
@@ -85,13 +86,13 @@ read-long-requires c κs =
     (eqb-true _ _ (sized (tested .before .before .before .before)), room-for _ (served (tested .before .before)) (array-borrow-prefix-room-2 (c .before)))
 
 same-length-5 : tie.Need-same-length-5
-same-length-5 c = search needs
+same-length-5 c = c .before .before .before .before .before .before .slots2 .given
 
 same-length-6 : tie.Need-same-length-6
-same-length-6 c = search needs
+same-length-6 c = c .before .before .before .before .area2 .given
 
 same-length-7 : tie.Need-same-length-7
-same-length-7 c = search needs
+same-length-7 c = c .before .before .reply3 .given
 
 returns-4 : tie.Need-returns-4
 returns-4 c =

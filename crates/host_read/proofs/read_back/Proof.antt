@@ -8,7 +8,7 @@ reply-long-requires : tie.Need-reply-long-requires
 reply-long-requires c κs = search needs
 
 same-length : tie.Need-same-length
-same-length c = search needs
+same-length c = c .before .reply .given
 
 returns : tie.Need-returns
 returns c =
@@ -25,10 +25,10 @@ reply-long-requires-2 : tie.Need-reply-long-requires-2
 reply-long-requires-2 c κs = search needs
 
 same-length-2 : tie.Need-same-length-2
-same-length-2 c = search needs
+same-length-2 c = c .before .before .before .before .before .slots .given
 
 same-length-3 : tie.Need-same-length-3
-same-length-3 c = search needs
+same-length-3 c = c .before .reply2 .given
 
 returns-2 : tie.Need-returns-2
 returns-2 c =

@@ -15,16 +15,16 @@ read-back-requires c κs =
     (search needs, search needs, set-room _ _ _ _ (start .args .room .now) (called .read-short .ensures) (search needs))
 
 same-length : tie.Need-same-length
-same-length c = search needs
+same-length c = c .before .before .before .slots .given
 
 same-length-2 : tie.Need-same-length-2
-same-length-2 c = search needs
+same-length-2 c = c .before .before .before .before .before .before .before .before .before .area .given
 
 same-length-3 : tie.Need-same-length-3
-same-length-3 c = search needs
+same-length-3 c = c .before .reply .given
 
 same-length-4 : tie.Need-same-length-4
-same-length-4 c = search needs
+same-length-4 c = c .before .before .before .before .before .before .before .before .before .before .before .room .given
 
 returns : tie.Need-returns
 returns c =

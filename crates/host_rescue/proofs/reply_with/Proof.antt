@@ -2,7 +2,7 @@
 use mathlib.Core.Path.{refl, _∙_}
 use mathlib.Core.List.{[], _∷_}
 use Rattle.host_rescue.specs.Calls.{rescueReply}
-use Rattle.host.proofs.NumberLaws.{bytes-whole}
+use Rattle.host_numbers.proofs.NumberLaws.{bytes-whole}
 use borrow.Author.Needs.{needs}
 use Rattle.host_rescue.proofs.reply_with.Statement.{statement}
 use Rattle.host_rescue.proofs.reply_with.Tie as tie

@@ -2,7 +2,7 @@
 use Prim.Native.Nat.{_+_}
 use mathlib.Core.Path.{refl}
 use native.Mathlib.Omega.{arith}
-use Rattle.text.proofs.WordLaws.{pair-read}
+use Rattle.byte_runs.proofs.WordLaws.{pair-read}
 use borrow.Author.Needs.{needs}
 use Rattle.integers.proofs.pair_at.Statement.{statement}
 use Rattle.integers.proofs.pair_at.Tie as tie

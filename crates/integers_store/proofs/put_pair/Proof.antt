@@ -1,7 +1,7 @@
 -- Two stores side by side are one of the two digits.
 use native.Mathlib.Omega.{arith}
 use lib.ListN.{length-set}
-use Rattle.text.proofs.WordLaws.{pair-low, pair-high}
+use Rattle.byte_runs.proofs.WordLaws.{pair-low, pair-high}
 use borrow.Author.Needs.{needs}
 use Rattle.integers_store.proofs.put_pair.Statement.{statement}
 use Rattle.integers_store.proofs.put_pair.Tie as tie

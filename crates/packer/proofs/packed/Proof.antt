@@ -46,8 +46,8 @@ returns c layout j =
     let l = learnt (c .before .before .before) layout j in
     rw (c .refused2 .ensures) (pack-slots _ _ _ _ (j .fine) _ (l .fields) (other-slots _ _ _ (l .taken) (λ e. omega (arith, c .before .if1 .taken))))
 
-finish-requires : tie.Need-finish-requires
-finish-requires c κs =
+pack-requires : tie.Need-pack-requires
+pack-requires c κs =
     let i = c .before in
     let (layout, j) = i .before .before .before .before .before .before .before .before .pre in
     let l = learnt (i .before .before) layout j in
@@ -65,7 +65,7 @@ returns-3 c layout j =
     let f = c .before .before in
     let i = f .before .before in
     let l = learnt (i .before .before) layout j in
-    f .finish .ensures ∙ pack-finish _ _ _ _ (j .fine) _ (l .fields) (same-slots _ _ _ (l .taken) (omega (arith, i .if1 .left)))
+    f .pack .ensures ∙ pack-finish _ _ _ _ (j .fine) _ (l .fields) (same-slots _ _ _ (l .taken) (omega (arith, i .if1 .left)))
 
 pub packed-spec : {M : Type 1} → statement M
 packed-spec =
@@ -77,7 +77,7 @@ packed-spec =
     enum-known-p-2
     refused-requires-2
     returns
-    finish-requires
+    pack-requires
     returns-2
     same-length
     returns-3)

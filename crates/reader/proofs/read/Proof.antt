@@ -44,11 +44,11 @@ refused-requires-2 c κs = search needs
 enum-known-p-2 : tie.Need-enum-known-p-2
 enum-known-p-2 c = search needs
 
-slice-aggregate-read-words : tie.Need-slice-aggregate-read-words
-slice-aggregate-read-words c = search needs
+slice-aggregate-read : tie.Need-slice-aggregate-read
+slice-aggregate-read c = search needs
 
-read-words-requires : tie.Need-read-words-requires
-read-words-requires c κs = ready _ _ _ _ _ (sized (c .before .before .before .before .before .before .before .before .before)) (parsed-fields _ _ _ _ _ (c .before .before .before .before .before .before .before .parse .ensures) (c .before .before .before .before .p2 .given .1))
+read-requires : tie.Need-read-requires
+read-requires c κs = ready _ _ _ _ _ (sized (c .before .before .before .before .before .before .before .before .before)) (parsed-fields _ _ _ _ _ (c .before .before .before .before .before .before .before .parse .ensures) (c .before .before .before .before .p2 .given .1))
 
 returns-2 : tie.Need-returns-2
 returns-2 c = read-refused _ _ _ _ _ (parse-refuses _ _ _ _ _ (sized (c .before .before .before .before .before .before .before)) (parsed-refused _ _ _ _ _ (c .before .before .before .before .before .parse .ensures) (c .before .before .p .given .1))) (c .refused2 .ensures)
@@ -60,7 +60,7 @@ same-length-2 : tie.Need-same-length-2
 same-length-2 c = search needs
 
 returns-3 : tie.Need-returns-3
-returns-3 c = words-read _ _ _ _ _ (sized (c .before .before .before .before .before .before .before .before .before .before .before .before .before .before)) (parsed-fields _ _ _ _ _ (c .before .before .before .before .before .before .before .before .before .before .before .before .parse .ensures) (c .before .before .before .before .before .before .before .before .before .p2 .given .1)) (c .before .before .before .before .read-words .ensures)
+returns-3 c = words-read _ _ _ _ _ (sized (c .before .before .before .before .before .before .before .before .before .before .before .before .before .before)) (parsed-fields _ _ _ _ _ (c .before .before .before .before .before .before .before .before .before .before .before .before .parse .ensures) (c .before .before .before .before .before .before .before .before .before .p2 .given .1)) (c .before .before .before .before .read .ensures)
 
 pub read-spec : {M : Type 1} → statement M
 read-spec =
@@ -75,8 +75,8 @@ read-spec =
     cast-refused
     refused-requires-2
     enum-known-p-2
-    slice-aggregate-read-words
-    read-words-requires
+    slice-aggregate-read
+    read-requires
     returns-2
     same-length
     same-length-2

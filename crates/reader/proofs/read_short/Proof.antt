@@ -7,7 +7,8 @@ use borrow.Author.Tests.{not-true, not-false}
 use Rattle.layout.proofs.Decoded.{parsed-fields, parsed-refused}
 use Rattle.layout.proofs.Places.{refused-inside}
 use Rattle.checking.proofs.Calls.{Fit, fit, sizes-refuse, parse-refuses}
-use Rattle.reader.proofs.Calls.{read-refused, ready, words-read, sure-room, sure-put}
+use Rattle.read_words.proofs.Calls.{sure-room, sure-put}
+use Rattle.reader.proofs.Calls.{read-refused, ready, words-read}
 use borrow.Author.Needs.{needs}
 use Rattle.reader.proofs.read_short.Statement.{statement}
 use Rattle.reader.proofs.read_short.Tie as tie
@@ -83,11 +84,11 @@ returns-3 c =
     let l = parsed-fields _ _ _ _ _ (c .before .before .before .before .before .before .before .before .before .before .before .before .before .before .parse .ensures) (c .before .before .before .before .before .before .before .before .before .before .before .p2 .given .1) in
     words-read _ _ _ _ _ k l (sure-put (ready _ _ _ _ _ k l) (sym (c .before .before .before .before .before .before .before .before .before .surely-fits .ensures) ∙ c .before .before .before .before .before .before .before .before .if3 .taken) (c .before .before .before .before .fill .ensures))
 
-slice-aggregate-read-words : tie.Need-slice-aggregate-read-words
-slice-aggregate-read-words c = search needs
+slice-aggregate-read : tie.Need-slice-aggregate-read
+slice-aggregate-read c = search needs
 
-read-words-requires : tie.Need-read-words-requires
-read-words-requires c κs = ready _ _ _ _ _ (sized (c .before .before .before .before .before .before .before .before .before .before .before)) (parsed-fields _ _ _ _ _ (c .before .before .before .before .before .before .before .before .before .parse .ensures) (c .before .before .before .before .before .before .p2 .given .1))
+read-requires-2 : tie.Need-read-requires-2
+read-requires-2 c κs = ready _ _ _ _ _ (sized (c .before .before .before .before .before .before .before .before .before .before .before)) (parsed-fields _ _ _ _ _ (c .before .before .before .before .before .before .before .before .before .parse .ensures) (c .before .before .before .before .before .before .p2 .given .1))
 
 returns-4 : tie.Need-returns-4
 returns-4 c = read-refused _ _ _ _ _ (parse-refuses _ _ _ _ _ (sized (c .before .before .before .before .before .before .before)) (parsed-refused _ _ _ _ _ (c .before .before .before .before .before .parse .ensures) (c .before .before .p .given .1))) (c .refused2 .ensures)
@@ -99,7 +100,7 @@ same-length-6 : tie.Need-same-length-6
 same-length-6 c = search needs
 
 returns-5 : tie.Need-returns-5
-returns-5 c = words-read _ _ _ _ _ (sized (c .before .before .before .before .before .before .before .before .before .before .before .before .before .before .before .before)) (parsed-fields _ _ _ _ _ (c .before .before .before .before .before .before .before .before .before .before .before .before .before .before .parse .ensures) (c .before .before .before .before .before .before .before .before .before .before .before .p2 .given .1)) (c .before .before .before .before .read-words .ensures)
+returns-5 c = words-read _ _ _ _ _ (sized (c .before .before .before .before .before .before .before .before .before .before .before .before .before .before .before .before)) (parsed-fields _ _ _ _ _ (c .before .before .before .before .before .before .before .before .before .before .before .before .before .before .parse .ensures) (c .before .before .before .before .before .before .before .before .before .before .before .p2 .given .1)) (c .before .before .before .before .read2 .ensures)
 
 pub read-short-spec : {M : Type 1} → statement M
 read-short-spec =
@@ -125,8 +126,8 @@ read-short-spec =
     same-length-3
     same-length-4
     returns-3
-    slice-aggregate-read-words
-    read-words-requires
+    slice-aggregate-read
+    read-requires-2
     returns-4
     same-length-5
     same-length-6

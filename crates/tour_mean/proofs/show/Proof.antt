@@ -1,5 +1,5 @@
 -- The mean of every table is no NaN.
-use Rattle.mean.proofs.Theorems.{mean-numeric}
+use Rattle.marks.proofs.Theorems.{mean-numeric}
 use borrow.Author.Needs.{needs}
 use Rattle.tour_mean.proofs.show.Statement.{statement}
 use Rattle.tour_mean.proofs.show.Tie as tie

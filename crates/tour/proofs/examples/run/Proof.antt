@@ -6,10 +6,10 @@ use Rattle.tour.proofs.examples.run.Statement.{statement}
 use Rattle.tour.proofs.examples.run.Tie as tie
 
 abbrev Inv-loop : tie.InvT-loop
-Inv-loop list record₀ at₀ «record» at = at ≤ length list + 1
+Inv-loop list at₀ at = at ≤ length list + 1
 
 abbrev μ-loop : tie.MeasureT-loop
-μ-loop list record₀ at₀ «record» at = length list - at
+μ-loop list at₀ at = length list - at
 
 loop-holds : tie.Need-loop-holds Inv-loop μ-loop
 loop-holds c = search needs

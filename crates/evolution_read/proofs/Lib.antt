@@ -1,0 +1,2 @@
+-- Laws of the two calls.
+mod Calls

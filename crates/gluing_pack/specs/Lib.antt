@@ -1,0 +1,2 @@
+-- The call that packs two templates, and M-113 of it.
+pub mod Calls

@@ -1,0 +1,2 @@
+-- Laws of numbers as bytes, for the calls for a C host.
+pub mod NumberLaws

@@ -1,0 +1,2 @@
+-- Numbers as the bytes that a C host lends.
+pub mod Numbers

@@ -1,0 +1,2 @@
+-- Laws of the end of a call.
+mod Finish

@@ -1,0 +1,101 @@
+-- The values so far are a ghost of the invariant: their bytes are counted, and the fields that are left complete them.
+use Prim.Native.Nat.{_-_, _≤_}
+use native.Mathlib.Omega.{arith}
+use Rattle.layout.specs.Words.{decoded}
+use Rattle.positions.proofs.Turns.{ran-end, ran-short, ran-moved, ran-found}
+use Rattle.read_measure.proofs.Run.{found-inside}
+use Rattle.read_measure.proofs.Measured.{Measured, measured-start, measured-moved, measured-more, measured-done}
+use Rattle.read_measure.proofs.measure.Statement.{statement}
+use Rattle.read_measure.proofs.measure.Tie as tie
+
+abbrev Inv-loop : tie.InvT-loop
+Inv-loop words n bytes at₀ size₀ i₀ at size i = (i ≤ n) × Measured bytes (decoded n words) i at size
+
+abbrev μ-loop : tie.MeasureT-loop
+μ-loop words n bytes at₀ size₀ i₀ at size i = n - i
+
+loop-holds : tie.Need-loop-holds Inv-loop μ-loop
+loop-holds c = (omega arith, measured-start _ _)
+
+mul-word : tie.Need-mul-word Inv-loop μ-loop
+mul-word c = omega arith
+
+shared-slice-read-word : tie.Need-shared-slice-read-word Inv-loop μ-loop
+shared-slice-read-word c = omega arith
+
+add-i : tie.Need-add-i Inv-loop μ-loop
+add-i c = omega arith
+
+position-requires : tie.Need-position-requires Inv-loop μ-loop
+position-requires c κs = (c .before .before .before .loop .inv .1 .ran .inside, c .before .before .before .before .before .before .pre .2)
+
+loop-less : tie.Need-loop-less Inv-loop μ-loop
+loop-less c = omega arith
+
+loop-again : tie.Need-loop-again Inv-loop μ-loop
+loop-again c =
+    let m = c .before .before .before .before .loop .inv .1 in
+    (omega arith, measured-moved m (ran-moved _ _ (c .before .before .before .before .before .before .before .pre .0) (m .ran) (c .before .before .before .loop-test .taken) (c .before .if1 .taken) (c .position .ensures)))
+
+sub-left : tie.Need-sub-left Inv-loop μ-loop
+sub-left c = omega (arith, c .before .before .before .loop .inv .1 .ran .inside)
+
+items-requires : tie.Need-items-requires Inv-loop μ-loop
+items-requires c κs = (omega (arith, c .before .before .before .before .before .before .pre .2), c .if1 .left)
+
+bytes-numbered-requires : tie.Need-bytes-numbered-requires Inv-loop μ-loop
+bytes-numbered-requires c κs = (omega (arith, c .items .ensures .1), c .before .if1 .left)
+
+returns : tie.Need-returns Inv-loop μ-loop
+returns c =
+    let m = c .before .before .before .before .before .before .loop .inv .1 in
+    measured-done m (ran-short _ _ (c .before .before .before .before .before .before .before .before .before .pre .0) (m .ran) (c .before .before .before .before .before .loop-test .taken) (c .before .before .before .if1 .left) (c .before .before .items .ensures .0) (c .before .bytes-numbered .ensures) (c .if2 .taken))
+
+size-of-requires : tie.Need-size-of-requires Inv-loop μ-loop
+size-of-requires c κs =
+    let m = c .before .before .before .before .before .before .loop .inv .1 in
+    (c .before .before .before .if1 .left, found-inside _ _ (c .before .before .before .before .before .before .before .before .before .pre .0) (m .ran) (c .before .before .before .before .before .loop-test .taken) (c .before .before .before .if1 .left) (c .before .before .items .ensures .0) (c .before .bytes-numbered .ensures) (c .if2 .left) (c .before .before .before .before .before .before .before .before .before .pre .2))
+
+add-size : tie.Need-add-size Inv-loop μ-loop
+add-size c = omega (arith, c .before .before .before .before .before .before .before .loop .inv .1 .small, c .size-of .ensures .small)
+
+add-at : tie.Need-add-at Inv-loop μ-loop
+add-at c = omega (arith, c .before .before .before .before .before .before .before .loop .inv .1 .ran .inside)
+
+loop-less-2 : tie.Need-loop-less-2 Inv-loop μ-loop
+loop-less-2 c = omega arith
+
+loop-again-2 : tie.Need-loop-again-2 Inv-loop μ-loop
+loop-again-2 c =
+    let m = c .before .before .before .before .before .before .before .loop .inv .1 in
+    let z = c .size-of .ensures in
+    (omega arith, measured-more m _ (z .size _) (z .small) (ran-found _ _ (c .before .before .before .before .before .before .before .before .before .before .pre .0) (m .ran) (c .before .before .before .before .before .before .loop-test .taken) (c .before .before .before .before .if1 .left) (c .before .before .before .items .ensures .0) (c .before .before .bytes-numbered .ensures) (c .before .if2 .left)))
+
+returns-2 : tie.Need-returns-2 Inv-loop μ-loop
+returns-2 c =
+    let m = c .before .loop .inv .1 in
+    measured-done m (ran-end _ _ (c .before .before .before .before .pre .0) (m .ran) (c .loop-test .left))
+
+pub measure-spec : {M : Type 1} → statement M
+measure-spec =
+    tie.close
+    (tie.spec
+    Inv-loop
+    μ-loop
+    loop-holds
+    mul-word
+    shared-slice-read-word
+    add-i
+    position-requires
+    loop-less
+    loop-again
+    sub-left
+    items-requires
+    bytes-numbered-requires
+    returns
+    size-of-requires
+    add-size
+    add-at
+    loop-less-2
+    loop-again-2
+    returns-2)

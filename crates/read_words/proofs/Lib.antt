@@ -1,0 +1,2 @@
+-- The laws of each way out.
+pub mod Calls

@@ -1,0 +1,2 @@
+-- The worked examples of sheets hold.
+pub mod Examples

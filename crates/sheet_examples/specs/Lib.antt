@@ -1,0 +1,2 @@
+-- The worked examples of sheets (document 02, M-100 and M-111).
+pub mod Examples

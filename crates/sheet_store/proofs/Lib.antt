@@ -1,0 +1,2 @@
+-- The laws that the two passes go by.
+mod Writing

@@ -1,0 +1,2 @@
+-- What the functions of the writer's two passes promise each other.
+pub mod Steps
