@@ -94,10 +94,11 @@ impl Answer {
     }
 }
 
-// A position in a record and an end: in packing the highest position reached, in reading the end of the record.
-// Every move hands back the next cursor.
+// A position in a record and an end. Every move hands back the next cursor.
 pub struct Cursor {
+    // counted from the front of the record
     pub at: usize,
+    // in packing the highest position reached, in reading the end of the record
     pub end: usize,
 }
 
