@@ -22,6 +22,8 @@ use Rattle.layout.specs.Layout.{takesSlot}
 use Rattle.layout.specs.Words.{lastData, realSize, shapeNumbered, fieldOf, countFrom, decoded, FieldOf, flagUnit, countUnit}
 use Rattle.layout.proofs.Decoded.{next-field, no-field}
 use Rattle.record.specs.Table.{maxRecord, noPosition, Value}
+use Rattle.record.specs.declared.Cursor.{Cursor}
+use Rattle.record.specs.Cursor.{over}
 use Rattle.record.specs.Geometry.{perByte, bytesFor, itemsIn, movedIn, itemsOf}
 use Rattle.record.specs.Reading.{valuesFrom, positionsFrom, stepsFrom, valueAt}
 use Rattle.record.proofs.Bounds.{per-byte-small, product-small}
@@ -57,10 +59,11 @@ module _ (bs : List ℕ) (at : ℕ) (u : Bool) (n : Count) (fs : List Field) whe
     unfolding valuesFrom
     values-found h = let l : bytesFor s (itemsOf s n (length bs - at)) ≤ length bs - at = rw (← items, ← bytes) h in rw (le-leb _ _ l, bytes, items)
 
-  values-moved : (k : Code) → takesSlot k ≡ false → valuesFrom bs at (record { code = k; unsigned = u; count = n } ∷ fs) ≡ valuesFrom bs (movedBy (length bs) at k n) fs
-  unfolding valuesFrom movedBy
-  values-moved (Data s) e = let z : _≡_ {A = ℕ} 0 1 = cc (e) in absurd (omega arith)
-  values-moved (Move m) e = refl
+values-moved : (bs : List ℕ) (c : Cursor) → c .end ≡ length bs → (k : Code) (u : Bool) (n : Count) (fs : List Field) → takesSlot k ≡ false
+    → valuesFrom bs (c .at) (record { code = k; unsigned = u; count = n } ∷ fs) ≡ valuesFrom bs (movedBy c k n .at) fs
+unfolding valuesFrom movedBy
+values-moved bs c size (Data s) u n fs e = let z : _≡_ {A = ℕ} 0 1 = cc (e) in absurd (omega arith)
+values-moved bs c size (Move m) u n fs e = rw size
 
 -- and the positions
 
@@ -69,11 +72,11 @@ positions-found : (size at : ℕ) (s : Shape) (u : Bool) (n : Count) (fs : List 
 unfolding positionsFrom
 positions-found size at s u n fs items bytes = rw (bytes, items)
 
-positions-moved : (size at : ℕ) (k : Code) (u : Bool) (n : Count) (fs : List Field) → takesSlot k ≡ false
-    → positionsFrom size at (record { code = k; unsigned = u; count = n } ∷ fs) ≡ positionsFrom size (movedBy size at k n) fs
+positions-moved : (c : Cursor) (k : Code) (u : Bool) (n : Count) (fs : List Field) → takesSlot k ≡ false
+    → positionsFrom (c .end) (c .at) (record { code = k; unsigned = u; count = n } ∷ fs) ≡ positionsFrom (c .end) (movedBy c k n .at) fs
 unfolding positionsFrom movedBy
-positions-moved size at (Data s) u n fs e = let z : _≡_ {A = ℕ} 0 1 = cc (e) in absurd (omega arith)
-positions-moved size at (Move m) u n fs e = refl
+positions-moved c (Data s) u n fs e = let z : _≡_ {A = ℕ} 0 1 = cc (e) in absurd (omega arith)
+positions-moved c (Move m) u n fs e = refl
 
 -- and the steps
 
@@ -87,24 +90,25 @@ module _ (size at : ℕ) (u : Bool) (n : Count) (fs : List Field) where
     unfolding stepsFrom
     steps-found h = let l : bytesFor s (itemsOf s n (size - at)) ≤ size - at = rw (← items, ← bytes) h in rw (le-leb _ _ l, bytes, items)
 
-  steps-moved : (k : Code) → takesSlot k ≡ false → stepsFrom size at (record { code = k; unsigned = u; count = n } ∷ fs) ≡ suc (stepsFrom size (movedBy size at k n) fs)
-  unfolding stepsFrom movedBy
-  steps-moved (Data s) e = let z : _≡_ {A = ℕ} 0 1 = cc (e) in absurd (omega arith)
-  steps-moved (Move m) e = refl
+steps-moved : (c : Cursor) (k : Code) (u : Bool) (n : Count) (fs : List Field) → takesSlot k ≡ false
+    → stepsFrom (c .end) (c .at) (record { code = k; unsigned = u; count = n } ∷ fs) ≡ suc (stepsFrom (c .end) (movedBy c k n .at) fs)
+unfolding stepsFrom movedBy
+steps-moved c (Data s) u n fs e = let z : _≡_ {A = ℕ} 0 1 = cc (e) in absurd (omega arith)
+steps-moved c (Move m) u n fs e = refl
 
 moved-within : (m : Motion) (n : Count) (size at : ℕ) → at ≤ size → movedIn size m n at ≤ size
 moved-within Skip n size at h = omega arith
 moved-within Back n size at h = omega arith
 moved-within Goto n size at h = omega arith
 
-within : (k : Code) (n : Count) (size at : ℕ) → at ≤ size → movedBy size at k n ≤ size
+within : (k : Code) (n : Count) (c : Cursor) → c .at ≤ c .end → (movedBy c k n .at ≤ c .end) × (movedBy c k n .end ≡ c .end)
 unfolding movedBy
-within (Data s) n size at h = h
-within (Move m) n size at h = moved-within m n size at h
+within (Data s) n c h = (h, refl)
+within (Move m) n c h = (moved-within m n (c .end) (c .at) h, refl)
 
 -- a move by a word's field is a move by the word
-pub moved-as : {word r : ℕ} {f : Field} (at size : ℕ) → FieldOf word f → r ≡ movedBy size at (f .code) (f .count) → r ≡ movedBy size at (fieldOf word .code) (fieldOf word .count)
-moved-as at size f e = rw (f .same) at e
+pub moved-as : {word : ℕ} {r : Cursor} {f : Field} (c : Cursor) → FieldOf word f → r ≡ movedBy c (f .code) (f .count) → r ≡ movedBy c (fieldOf word .code) (fieldOf word .count)
+moved-as c f e = rw (f .same) at e
 
 -- the field of a word whose type takes a slot
 data-field : (w : ℕ) → w % flagUnit ≤ lastData → fieldOf w ≡ record { code = Data (shapeNumbered (w % flagUnit)); unsigned = eqb (w / flagUnit % 2) 1; count = countFrom (w / countUnit) }
@@ -115,78 +119,110 @@ move-field : (w : ℕ) → lastData < w % flagUnit → takesSlot (fieldOf w .cod
 unfolding fieldOf
 move-field w h = move-code (w % flagUnit) h
 
--- ---- the run: vs are the values so far, and what follows completes them
+-- ---- the run: c is its cursor, vs are the values so far, and what follows completes them
 
-pub record Ran (bs : List ℕ) (fs : List Field) (i at : ℕ) (vs : List Value) : Type 0 where
-  pub inside : at ≤ length bs
-  pub same : vs ++ valuesFrom bs at (drop i fs) ≡ valuesFrom bs 0 fs
-  pub begin : drop (length vs) (positionsFrom (length bs) 0 fs) ≡ positionsFrom (length bs) at (drop i fs)
-  pub stepped : i + stepsFrom (length bs) at (drop i fs) ≡ stepsFrom (length bs) 0 fs
+pub record Ran (bs : List ℕ) (fs : List Field) (i : ℕ) (c : Cursor) (vs : List Value) : Type 0 where
+  pub size : c .end ≡ length bs
+  pub inside : c .at ≤ c .end
+  pub same : vs ++ valuesFrom bs (c .at) (drop i fs) ≡ valuesFrom bs 0 fs
+  pub begin : drop (length vs) (positionsFrom (c .end) 0 fs) ≡ positionsFrom (c .end) (c .at) (drop i fs)
+  pub stepped : i + stepsFrom (c .end) (c .at) (drop i fs) ≡ stepsFrom (c .end) 0 fs
 
 -- the run is over after k steps
 pub record Ended (bs : List ℕ) (fs : List Field) (vs : List Value) (k : ℕ) : Type 0 where
   pub values : vs ≡ valuesFrom bs 0 fs
   pub steps : k ≡ stepsFrom (length bs) 0 fs
 
--- one more value, of a field that began at `at`
-pub record Found (bs : List ℕ) (fs : List Field) (i at d : ℕ) (vs : List Value) (v : Value) : Type 0 where
+-- one more value, of a field that began at `at`; d is the cursor behind it
+pub record Found (bs : List ℕ) (fs : List Field) (i at : ℕ) (d : Cursor) (vs : List Value) (v : Value) : Type 0 where
   pub ran : Ran bs fs (i + 1) d (vs ++ (v ∷ []))
   pub begins : getD (drop (length vs) (positionsFrom (length bs) 0 fs)) 0 noPosition ≡ at
 
-pub ran-start : (bs : List ℕ) (fs : List Field) → Ran bs fs 0 0 []
-ran-start bs fs = record { inside = omega arith; same = refl; begin = refl; stepped = zero-add (stepsFrom (length bs) 0 fs) }
+pub ran-start : {bs : List ℕ} (fs : List Field) {c : Cursor} → c ≡ record { at = 0; end = length bs } → Ran bs fs 0 c []
+ran-start {bs} fs e = rw e (record { size = refl; inside = omega arith; same = refl; begin = refl; stepped = zero-add (stepsFrom (length bs) 0 fs) })
 
-module _ {bs : List ℕ} (n : ℕ) (ws : List ℕ) {i at : ℕ} {vs : List Value} (few : n ≤ length ws) (ran : Ran bs (decoded n ws) i at vs) where
+module _ {bs : List ℕ} (n : ℕ) (ws : List ℕ) {i : ℕ} {c : Cursor} {vs : List Value} (few : n ≤ length ws) (ran : Ran bs (decoded n ws) i c vs) where
   pub ran-end : n ≤ i → Ended bs (decoded n ws) vs i
   unfolding valuesFrom stepsFrom
-  ran-end l = record { values = sym (append-nil vs) ∙ (rw (no-field n ws few i l) at (ran .same)); steps = sym (add-zero i) ∙ (rw (no-field n ws few i l) at (ran .stepped)) }
+  ran-end l =
+      record {
+        values = sym (append-nil vs) ∙ (rw (no-field n ws few i l) at (ran .same));
+        steps = sym (add-zero i) ∙ (rw (no-field n ws few i l, ran .size) at (ran .stepped));
+      }
 
   module _ (l : i < n) where
-    on : {f : Field} → fieldOf (getD ws i 0) ≡ f → vs ++ valuesFrom bs at (f ∷ drop (i + 1) (decoded n ws)) ≡ valuesFrom bs 0 (decoded n ws)
+    abbrev rest : List Field
+    rest = drop (i + 1) (decoded n ws)
+
+    on : {f : Field} → fieldOf (getD ws i 0) ≡ f → vs ++ valuesFrom bs (c .at) (f ∷ rest) ≡ valuesFrom bs 0 (decoded n ws)
     on e = rw (← e, ← next-field n ws few i l) (ran .same)
 
-    begin-on : {f : Field} → fieldOf (getD ws i 0) ≡ f → drop (length vs) (positionsFrom (length bs) 0 (decoded n ws)) ≡ positionsFrom (length bs) at (f ∷ drop (i + 1) (decoded n ws))
+    begin-on : {f : Field} → fieldOf (getD ws i 0) ≡ f → drop (length vs) (positionsFrom (c .end) 0 (decoded n ws)) ≡ positionsFrom (c .end) (c .at) (f ∷ rest)
     begin-on e = rw (← e, ← next-field n ws few i l) (ran .begin)
 
-    step-on : {f : Field} → fieldOf (getD ws i 0) ≡ f → i + stepsFrom (length bs) at (f ∷ drop (i + 1) (decoded n ws)) ≡ stepsFrom (length bs) 0 (decoded n ws)
+    step-on : {f : Field} → fieldOf (getD ws i 0) ≡ f → i + stepsFrom (c .end) (c .at) (f ∷ rest) ≡ stepsFrom (c .end) 0 (decoded n ws)
     step-on e = rw (← e, ← next-field n ws few i l) (ran .stepped)
 
-    pub ran-moved : {d : ℕ} → lastData < getD ws i 0 % flagUnit → d ≡ movedBy (length bs) at (fieldOf (getD ws i 0) .code) (fieldOf (getD ws i 0) .count) → Ran bs (decoded n ws) (i + 1) d vs
-    ran-moved h e =
-        let f : Field = fieldOf (getD ws i 0) in
-        record {
-          inside = rw e (within (f .code) (f .count) (length bs) at (ran .inside));
-          same = rw (e, ← values-moved bs at (f .unsigned) (f .count) (drop (i + 1) (decoded n ws)) (f .code) (move-field (getD ws i 0) h)) (on refl);
-          begin = rw (e, ← positions-moved (length bs) at (f .code) (f .unsigned) (f .count) (drop (i + 1) (decoded n ws)) (move-field (getD ws i 0) h)) (begin-on refl);
-          stepped =
-              let rest : List Field = drop (i + 1) (decoded n ws) in
-              let here : i + stepsFrom (length bs) at (f ∷ rest) ≡ stepsFrom (length bs) 0 (decoded n ws) = step-on refl in
-              let one : stepsFrom (length bs) at (f ∷ rest) ≡ suc (stepsFrom (length bs) (movedBy (length bs) at (f .code) (f .count)) rest) =
-              steps-moved (length bs) at (f .unsigned) (f .count) rest (f .code) (move-field (getD ws i 0) h) in
-              rw e (omega arith);
-        }
+    module _ (h : lastData < getD ws i 0 % flagUnit) where
+      abbrev f : Field
+      f = fieldOf (getD ws i 0)
 
-    module _ (slot : getD ws i 0 % flagUnit ≤ lastData) {k b : ℕ} (items : k ≡ itemsOf (shapeNumbered (getD ws i 0 % flagUnit)) (countFrom (getD ws i 0 / countUnit)) (length bs - at))
-        (bytes : b ≡ bytesFor (shapeNumbered (getD ws i 0 % flagUnit)) k) where
-      pub ran-short : length bs - at < b → Ended bs (decoded n ws) vs (i + 1)
-      ran-short h =
+      abbrev next : Cursor
+      next = movedBy c (f .code) (f .count)
+
+      still : next .end ≡ c .end
+      still = within (f .code) (f .count) c (ran .inside) .1
+
+      after-move : Ran bs (decoded n ws) (i + 1) next vs
+      after-move =
+          let here : i + stepsFrom (c .end) (c .at) (f ∷ rest) ≡ stepsFrom (c .end) 0 (decoded n ws) = step-on refl in
+          let one : stepsFrom (c .end) (c .at) (f ∷ rest) ≡ suc (stepsFrom (c .end) (next .at) rest) = steps-moved c (f .code) (f .unsigned) (f .count) rest (move-field (getD ws i 0) h) in
           record {
-            values = sym (append-nil vs) ∙ (rw (values-short bs at (eqb (getD ws i 0 / flagUnit % 2) 1) (countFrom (getD ws i 0 / countUnit)) (drop (i + 1) (decoded n ws)) (shapeNumbered (getD ws i 0 % flagUnit)) items bytes h) at (on (data-field _ slot)));
-            steps = rw (steps-short (length bs) at (eqb (getD ws i 0 / flagUnit % 2) 1) (countFrom (getD ws i 0 / countUnit)) (drop (i + 1) (decoded n ws)) (shapeNumbered (getD ws i 0 % flagUnit)) items bytes h) at (step-on (data-field _ slot));
+            size = still ∙ ran .size;
+            inside = rw still (within (f .code) (f .count) c (ran .inside) .0);
+            same = rw (← values-moved bs c (ran .size) (f .code) (f .unsigned) (f .count) rest (move-field (getD ws i 0) h)) (on refl);
+            begin = rw (still, ← positions-moved c (f .code) (f .unsigned) (f .count) rest (move-field (getD ws i 0) h)) (begin-on refl);
+            stepped = rw still (omega arith);
           }
 
-      module _ (h : b ≤ length bs - at) where
-        placed : drop (length vs) (positionsFrom (length bs) 0 (decoded n ws)) ≡ at ∷ positionsFrom (length bs) (at + b) (drop (i + 1) (decoded n ws))
-        placed = begin-on (data-field _ slot) ∙ positions-found (length bs) at (shapeNumbered (getD ws i 0 % flagUnit)) (eqb (getD ws i 0 / flagUnit % 2) 1) (countFrom (getD ws i 0 / countUnit)) (drop (i + 1) (decoded n ws)) items bytes
+      pub ran-moved : {d : Cursor} → d ≡ movedBy c (fieldOf (getD ws i 0) .code) (fieldOf (getD ws i 0) .count) → Ran bs (decoded n ws) (i + 1) d vs
+      ran-moved e = rw e after-move
 
-        pub ran-found : Found bs (decoded n ws) i at (at + b) vs (valueAt bs at (shapeNumbered (getD ws i 0 % flagUnit)) (eqb (getD ws i 0 / flagUnit % 2) 1) k)
-        ran-found =
+    module _ (slot : getD ws i 0 % flagUnit ≤ lastData) {k b : ℕ} (items : k ≡ itemsOf (shapeNumbered (getD ws i 0 % flagUnit)) (countFrom (getD ws i 0 / countUnit)) (c .end - c .at))
+        (bytes : b ≡ bytesFor (shapeNumbered (getD ws i 0 % flagUnit)) k) where
+      abbrev s : Shape
+      s = shapeNumbered (getD ws i 0 % flagUnit)
+
+      abbrev u : Bool
+      u = eqb (getD ws i 0 / flagUnit % 2) 1
+
+      abbrev m : Count
+      m = countFrom (getD ws i 0 / countUnit)
+
+      -- the same of the record's own length
+      counted : k ≡ itemsOf s m (length bs - c .at)
+      counted = rw (ran .size) at items
+
+      pub ran-short : c .end - c .at < b → Ended bs (decoded n ws) vs (i + 1)
+      ran-short h =
+          record {
+            values = sym (append-nil vs) ∙ (rw (values-short bs (c .at) u m rest s counted bytes (rw (ran .size) at h)) at (on (data-field _ slot)));
+            steps = rw (steps-short (c .end) (c .at) u m rest s items bytes h, ran .size) at (step-on (data-field _ slot));
+          }
+
+      module _ (h : b ≤ c .end - c .at) where
+        placed : drop (length vs) (positionsFrom (c .end) 0 (decoded n ws)) ≡ c .at ∷ positionsFrom (c .end) (c .at + b) rest
+        placed = begin-on (data-field _ slot) ∙ positions-found (c .end) (c .at) s u m rest items bytes
+
+        behind : Ran bs (decoded n ws) (i + 1) (over c b) (vs ++ (valueAt bs (c .at) s u k ∷ []))
+        behind =
             record {
-              ran = record {
-                inside = omega (arith, ran .inside);
-                stepped = omega (arith, step-on (data-field _ slot), steps-found (length bs) at (eqb (getD ws i 0 / flagUnit % 2) 1) (countFrom (getD ws i 0 / countUnit)) (drop (i + 1) (decoded n ws)) (shapeNumbered (getD ws i 0 % flagUnit)) items bytes h);
-                begin = rw length-append (sym (drop-drop 1 (length vs) (positionsFrom (length bs) 0 (decoded n ws))) ∙ ap (drop 1) placed);
-                same = append-assoc vs _ _ ∙ (rw (values-found bs at (eqb (getD ws i 0 / flagUnit % 2) 1) (countFrom (getD ws i 0 / countUnit)) (drop (i + 1) (decoded n ws)) (shapeNumbered (getD ws i 0 % flagUnit)) items bytes h) at (on (data-field _ slot)));
-              };
-              begins = rw placed;
+              size = ran .size;
+              inside = omega (arith, ran .inside);
+              stepped = omega (arith, step-on (data-field _ slot), steps-found (c .end) (c .at) u m rest s items bytes h);
+              begin = rw length-append (sym (drop-drop 1 (length vs) (positionsFrom (c .end) 0 (decoded n ws))) ∙ ap (drop 1) placed);
+              same = append-assoc vs _ _ ∙ (rw (values-found bs (c .at) u m rest s counted bytes (rw (ran .size) at h)) at (on (data-field _ slot)));
             }
+
+        pub ran-found : {d : Cursor} → d ≡ over c b → Found bs (decoded n ws) i (c .at) d vs (valueAt bs (c .at) (shapeNumbered (getD ws i 0 % flagUnit)) (eqb (getD ws i 0 / flagUnit % 2) 1) k)
+        ran-found e = record { ran = rw e behind; begins = rw (← ran .size, placed) }

@@ -1,10 +1,10 @@
-// One field of a run over a record, by the numbers of its word: how many items it has, and where a move takes the cursor.
-// (Numbers go in and out: a form that a call hands over in memory costs more than the step.)
+// One field of a run over a record, by the numbers of its word: how many items it has, and the cursor that a move hands back.
 ghost use mathlib.Core.Path.{_≡_};
 ghost use Prim.Native.Nat.{_≤_, _<_};
 ghost use Rattle.layout.specs.Words.{lastData, FitCount, shapeNumbered, countFrom, fieldOf};
 ghost use Rattle.record.specs.Table.{maxRecord};
-ghost use Rattle.record.specs.Geometry.{itemsIn, movedIn, itemsOf};
+ghost use Rattle.record.specs.Geometry.{itemsIn, itemsOf};
+ghost use Rattle.record.specs.Cursor.{movedInside};
 ghost use Rattle.positions.specs.Turns.{movedBy};
 use layout::Code;
 use layout::Count;
@@ -40,9 +40,10 @@ pub fn items(d: u32, n: u32, left: usize) -> usize
     if n == 0 { 1 } else { n as usize - 2 }
 }
 
+// `x X @`
 fn moved(c: Cursor, m: Motion, n: Count) -> Cursor
     requires { ⌜ (c .at ≤ c .end) × (c .end ≤ maxRecord) × FitCount n ⌝ }
-    ensures { λ r. ⌜ r ≡ record { at = movedIn (c .end) m n (c .at); end = c .end } ⌝ }
+    ensures { λ r. ⌜ r ≡ movedInside c m n ⌝ }
 {
     match m {
         Motion::Skip => c.skip(n),
@@ -51,17 +52,16 @@ fn moved(c: Cursor, m: Motion, n: Count) -> Cursor
     }
 }
 
-// Where the field of a word takes the cursor by a move.
-pub fn position(word: u32, at: usize, end: usize) -> usize
-    requires { ⌜ (at ≤ end) × (end ≤ maxRecord) ⌝ }
-    ensures { λ r. ⌜ r ≡ movedBy end at (fieldOf word .code) (fieldOf word .count) ⌝ }
+// The cursor after the field of a word, where that is a move.
+pub fn moved_by(word: u32, c: Cursor) -> Cursor
+    requires { ⌜ (c .at ≤ c .end) × (c .end ≤ maxRecord) ⌝ }
+    ensures { λ r. ⌜ r ≡ movedBy c (fieldOf word .code) (fieldOf word .count) ⌝ }
 {
     let f = layout::field_of(word);
     let k = f.code;
     let n = f.count;
     let Code::Move(m) = k else {
-        return at;
+        return c;
     };
-    let c = moved(Cursor { at: at, end: end }, m, n);
-    c.at
+    moved(c, m, n)
 }

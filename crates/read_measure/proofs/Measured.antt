@@ -5,27 +5,28 @@ use mathlib.Core.Path.{_≡_, refl, sym, ap, _∙_}
 use mathlib.Core.List.{List, [], _∷_, _++_}
 use lib.ListN.{length, length-append}
 use Rattle.layout.specs.declared.Field.{Field}
+use Rattle.record.specs.declared.Cursor.{Cursor}
 use Rattle.record.specs.Bytes.{join}
 use Rattle.record.specs.Table.{maxRecord, Value, areaBytes, valueBytes}
 use Rattle.record.specs.Reading.{valuesFrom}
 use Rattle.positions.proofs.Turns.{Ran, Ended, ran-start, Found}
 use Rattle.read_measure.proofs.Run.{value-bytes-append, value-bytes-one}
 
-pub record Measured (bs : List ℕ) (fs : List Field) (i at size : ℕ) : Type 0 where
+pub record Measured (bs : List ℕ) (fs : List Field) (i : ℕ) (c : Cursor) (size : ℕ) : Type 0 where
   pub vs : List Value
-  pub ran : Ran bs fs i at vs
+  pub ran : Ran bs fs i c vs
   pub is : size ≡ length (valueBytes vs)
   pub small : size ≤ i * (8 * maxRecord)
 
-pub measured-start : (bs : List ℕ) (fs : List Field) → Measured bs fs 0 0 0
+pub measured-start : {bs : List ℕ} (fs : List Field) {c : Cursor} → c ≡ record { at = 0; end = length bs } → Measured bs fs 0 c 0
 unfolding valueBytes join
-measured-start bs fs = record { vs = []; ran = ran-start bs fs; is = refl; small = omega arith }
+measured-start fs e = record { vs = []; ran = ran-start fs e; is = refl; small = omega arith }
 
-module _ {bs : List ℕ} {fs : List Field} {i at d size : ℕ} (m : Measured bs fs i at size) where
+module _ {bs : List ℕ} {fs : List Field} {i : ℕ} {c d : Cursor} {size : ℕ} (m : Measured bs fs i c size) where
   pub measured-moved : Ran bs fs (i + 1) d (m .vs) → Measured bs fs (i + 1) d size
   measured-moved ran = record { vs = m .vs; ran = ran; is = m .is; small = omega (arith, m .small) }
 
-  pub measured-more : (v : Value) {r : ℕ} → r ≡ length (areaBytes v) → r ≤ 8 * maxRecord → Found bs fs i at d (m .vs) v → Measured bs fs (i + 1) d (size + r)
+  pub measured-more : (v : Value) {r : ℕ} → r ≡ length (areaBytes v) → r ≤ 8 * maxRecord → Found bs fs i (c .at) d (m .vs) v → Measured bs fs (i + 1) d (size + r)
   measured-more v {r} e h found =
       record {
         vs = m .vs ++ (v ∷ []);
@@ -34,5 +35,5 @@ module _ {bs : List ℕ} {fs : List Field} {i at d size : ℕ} (m : Measured bs 
         small = omega (arith, m .small);
       }
 
-pub measured-done : {bs : List ℕ} {fs : List Field} {i at size k : ℕ} (m : Measured bs fs i at size) → Ended bs fs (m .vs) k → size ≡ length (valueBytes (valuesFrom bs 0 fs))
+pub measured-done : {bs : List ℕ} {fs : List Field} {i : ℕ} {c : Cursor} {size k : ℕ} (m : Measured bs fs i c size) → Ended bs fs (m .vs) k → size ≡ length (valueBytes (valuesFrom bs 0 fs))
 measured-done m e = m .is ∙ ap (λ (vs : List Value). length (valueBytes vs)) (e .values)

@@ -6,6 +6,7 @@ use mathlib.Core.List.{List, [], _∷_, _++_, append-assoc, append-nil}
 use lib.ListN.{length, getD}
 use Rattle.layout.specs.Words.{lastData, shapeNumbered, countFrom, decoded, flagUnit, countUnit}
 use Rattle.layout.proofs.Numbered.{shape-fits}
+use Rattle.record.specs.declared.Cursor.{Cursor}
 use Rattle.record.specs.Bytes.{join}
 use Rattle.record.specs.Table.{maxRecord, Value, areaBytes, valueBytes}
 use Rattle.record.specs.Geometry.{bytesFor, itemsOf}
@@ -23,7 +24,7 @@ value-bytes-one v = append-nil (areaBytes v)
 
 -- the bytes of a field that is found lie in the record
 
-module _ {bs : List ℕ} (n : ℕ) (ws : List ℕ) {i at : ℕ} {vs : List Value} (few : n ≤ length ws) (ran : Ran bs (decoded n ws) i at vs) (l : i < n) (slot : getD ws i 0 % flagUnit ≤ lastData) {k b : ℕ}
-    (items : k ≡ itemsOf (shapeNumbered (getD ws i 0 % flagUnit)) (countFrom (getD ws i 0 / countUnit)) (length bs - at)) (bytes : b ≡ bytesFor (shapeNumbered (getD ws i 0 % flagUnit)) k) (h : b ≤ length bs - at) where
-  pub found-inside : length bs ≤ maxRecord → Inside bs at (shapeNumbered (getD ws i 0 % flagUnit)) k
-  found-inside m = record { form = shape-fits _ slot; within = omega (arith, ran .inside); limit = m }
+module _ {bs : List ℕ} (n : ℕ) (ws : List ℕ) {i : ℕ} {c : Cursor} {vs : List Value} (few : n ≤ length ws) (ran : Ran bs (decoded n ws) i c vs) (l : i < n) (slot : getD ws i 0 % flagUnit ≤ lastData) {k b : ℕ}
+    (items : k ≡ itemsOf (shapeNumbered (getD ws i 0 % flagUnit)) (countFrom (getD ws i 0 / countUnit)) (c .end - c .at)) (bytes : b ≡ bytesFor (shapeNumbered (getD ws i 0 % flagUnit)) k) (h : b ≤ c .end - c .at) where
+  pub found-inside : length bs ≤ maxRecord → Inside bs (c .at) (shapeNumbered (getD ws i 0 % flagUnit)) k
+  found-inside m = record { form = shape-fits _ slot; within = omega (arith, ran .inside, ran .size); limit = m }

@@ -6,13 +6,14 @@ ghost use Rattle.layout.specs.Layout.{maxLayout};
 ghost use Rattle.layout.specs.Lent.{before};
 ghost use Rattle.record.specs.Table.{maxRecord, valueBytes};
 ghost use Rattle.read_measure.specs.Run.{valuesOf};
+use record::Cursor;
 use values::value;
 
 pub fn measure(words: &[u32], n: usize, bytes: &[u8]) -> usize
     requires { ⌜ (n ≤ length (now words)) × (length (now words) ≤ maxLayout) × (length (now bytes) ≤ maxRecord) ⌝ }
     ensures { λ r. ⌜ r ≡ length (valueBytes (valuesOf n (before words) (before bytes))) ⌝ }
 {
-    let mut at: usize = 0;
+    let mut c = Cursor::new(bytes.len());
     let mut size: usize = 0;
     let mut i: usize = 0;
     while i < n {
@@ -20,16 +21,17 @@ pub fn measure(words: &[u32], n: usize, bytes: &[u8]) -> usize
         let d = word % layout::FLAG_UNIT;
         i += 1;
         if layout::LAST_DATA < d {
-            at = positions::position(word, at, bytes.len());
+            c = positions::moved_by(word, c);
         } else {
-            let left = bytes.len() - at;
+            let at = c.at;
+            let left = c.end - at;
             let items = positions::items(d, word / layout::COUNT_UNIT, left);
             let need = sizes::bytes_numbered(d, items);
             if left < need {
                 return size;
             }
+            c = c.load(need);
             size += value::size_of(bytes, at, d, items);
-            at += need;
         }
     }
     size

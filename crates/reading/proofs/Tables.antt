@@ -7,6 +7,7 @@ use mathlib.Core.List.{List, [], _∷_, _++_}
 use lib.ListN.{length, getD, drop, length-append}
 use lib.Seq.{drop-drop}
 use Rattle.layout.specs.declared.Field.{Field}
+use Rattle.record.specs.declared.Cursor.{Cursor}
 use Rattle.record.specs.Bytes.{storeAt, join}
 use Rattle.record.specs.Table.{slotWidth, maxSlots, maxArea, noPosition, Value, areaBytes, slotNumbers, valueBytes}
 use Rattle.record.specs.Packing.{accepted}
@@ -39,9 +40,9 @@ slot-numbers-one start at v e = rw e
 
 -- ---- the pass
 
-pub record Written (bs : List ℕ) (fs : List Field) (slots₀ area₀ : List ℕ) (mark i at n place : ℕ) (slots area : List ℕ) : Type 0 where
+pub record Written (bs : List ℕ) (fs : List Field) (slots₀ area₀ : List ℕ) (mark i : ℕ) (c : Cursor) (n place : ℕ) (slots area : List ℕ) : Type 0 where
   pub vs : List Value
-  pub ran : Ran bs fs i at vs
+  pub ran : Ran bs fs i c vs
   pub count : n ≡ length vs
   pub next : place ≡ mark + length (valueBytes vs)
   pub table : slots ≡ storeAt slots₀ 0 (slotNumbers mark (positionsFrom (length bs) 0 fs) vs)
@@ -49,12 +50,12 @@ pub record Written (bs : List ℕ) (fs : List Field) (slots₀ area₀ : List �
   pub rows : length slots ≡ length slots₀
   pub room : length area ≡ length area₀
 
-pub written-start : (bs : List ℕ) (fs : List Field) (slots area : List ℕ) (mark : ℕ) → Written bs fs slots area mark 0 0 0 mark slots area
+pub written-start : {bs : List ℕ} (fs : List Field) (slots area : List ℕ) (mark : ℕ) {c : Cursor} → c ≡ record { at = 0; end = length bs } → Written bs fs slots area mark 0 c 0 mark slots area
 unfolding valueBytes join slotNumbers
-written-start bs fs slots area mark =
+written-start fs slots area mark e =
     record {
       vs = [];
-      ran = ran-start bs fs;
+      ran = ran-start fs e;
       count = refl;
       next = sym (add-zero mark);
       table = sym (store-none slots 0);
@@ -72,10 +73,10 @@ front-few vs ws all e =
     (omega arith, omega arith)
 
 module _ {bs : List ℕ} {fs : List Field} {slots₀ area₀ : List ℕ} {mark : ℕ} (all : TableRoom (valuesFrom bs 0 fs) slots₀ area₀ mark)
-    {i at n place : ℕ} {slots area : List ℕ} (w : Written bs fs slots₀ area₀ mark i at n place slots area) where
+    {i : ℕ} {c : Cursor} {n place : ℕ} {slots area : List ℕ} (w : Written bs fs slots₀ area₀ mark i c n place slots area) where
   pub written-bounds : (n ≤ maxSlots) × (place ≤ maxArea)
   written-bounds =
-      let f = front-few (w .vs) (valuesFrom bs at (drop i fs)) (valuesFrom bs 0 fs) (w .ran .same) in
+      let f = front-few (w .vs) (valuesFrom bs (c .at) (drop i fs)) (valuesFrom bs 0 fs) (w .ran .same) in
       (omega (arith, f .0, all .rows, all .table, w .count), omega (arith, f .1, all .room, all .limit, w .next))
 
   pub written-done : {r : ReadAnswer} {k : ℕ} → Ended bs fs (w .vs) k → r ≡ record { answer = accepted n place; steps = k }
@@ -88,7 +89,7 @@ module _ {bs : List ℕ} {fs : List Field} {slots₀ area₀ : List ℕ} {mark :
       let v : area ≡ storeAt area₀ mark (valueBytes vs) = w .values ∙ rw (e .values) in
       rw (a, t, v)
 
-  module _ {d : ℕ} where
+  module _ {d : Cursor} where
     pub written-moved : Ran bs fs (i + 1) d (w .vs) → Written bs fs slots₀ area₀ mark (i + 1) d n place slots area
     written-moved ran =
         record {
@@ -102,7 +103,7 @@ module _ {bs : List ℕ} {fs : List Field} {slots₀ area₀ : List ℕ} {mark :
           room = w .room;
         }
 
-    module _ (v : Value) (found : Found bs fs i at d (w .vs) v) where
+    module _ (v : Value) (found : Found bs fs i (c .at) d (w .vs) v) where
       grown : length (valueBytes (w .vs ++ (v ∷ []))) ≡ length (valueBytes (w .vs)) + length (areaBytes v)
       grown = ap length (value-bytes-append (w .vs) (v ∷ [])) ∙ rw (value-bytes-one, length-append)
 
@@ -110,7 +111,7 @@ module _ {bs : List ℕ} {fs : List Field} {slots₀ area₀ : List ℕ} {mark :
       longer = length-append (w .vs) (v ∷ [])
 
       fits : (length (w .vs ++ (v ∷ [])) ≤ length (valuesFrom bs 0 fs)) × (length (valueBytes (w .vs ++ (v ∷ []))) ≤ length (valueBytes (valuesFrom bs 0 fs)))
-      fits = front-few (w .vs ++ (v ∷ [])) (valuesFrom bs d (drop (i + 1) fs)) (valuesFrom bs 0 fs) (found .ran .same)
+      fits = front-few (w .vs ++ (v ∷ [])) (valuesFrom bs (d .at) (drop (i + 1) fs)) (valuesFrom bs 0 fs) (found .ran .same)
 
       pub written-room : PutRoom v slots n area place
       written-room =
@@ -121,15 +122,15 @@ module _ {bs : List ℕ} {fs : List Field} {slots₀ area₀ : List ℕ} {mark :
             limit = omega (arith, all .limit, w .room);
           }
 
-      pub written-more : {r : ℕ} {slots′ area′ : List ℕ} → PutAs v at slots n area place r slots′ area′ → Written bs fs slots₀ area₀ mark (i + 1) d (n + 1) r slots′ area′
+      pub written-more : {r : ℕ} {slots′ area′ : List ℕ} → PutAs v (c .at) slots n area place r slots′ area′ → Written bs fs slots₀ area₀ mark (i + 1) d (n + 1) r slots′ area′
       written-more {r} {slots′} {area′} p =
           let ps : List ℕ = positionsFrom (length bs) 0 fs in
-          let numbers : slotNumbers mark ps (w .vs ++ (v ∷ [])) ≡ slotNumbers mark ps (w .vs) ++ slotNumbers place (at ∷ []) (v ∷ []) =
+          let numbers : slotNumbers mark ps (w .vs ++ (v ∷ [])) ≡ slotNumbers mark ps (w .vs) ++ slotNumbers place (c .at ∷ []) (v ∷ []) =
           slot-numbers-append mark ps (w .vs) (v ∷ []) ∙ rw (← w .next, slot-numbers-one place (drop (length (w .vs)) ps) v (found .begins)) in
           let bytes : valueBytes (w .vs ++ (v ∷ [])) ≡ valueBytes (w .vs) ++ areaBytes v = value-bytes-append (w .vs) (v ∷ []) ∙ rw value-bytes-one in
           let len : length (slotNumbers mark ps (w .vs ++ (v ∷ []))) ≡ slotWidth * length (w .vs ++ (v ∷ [])) = length-slot-numbers mark ps (w .vs ++ (v ∷ [])) in
           let table : slots′ ≡ storeAt slots₀ 0 (slotNumbers mark ps (w .vs ++ (v ∷ []))) =
-          store-next {to = slotWidth * n} slots₀ 0 (slotNumbers mark ps (w .vs)) (slotNumbers place (at ∷ []) (v ∷ [])) (w .table) (omega (arith, length-slot-numbers mark ps (w .vs), w .count)) (p .table) numbers (omega (arith, fits .0, all .rows)) in
+          store-next {to = slotWidth * n} slots₀ 0 (slotNumbers mark ps (w .vs)) (slotNumbers place (c .at ∷ []) (v ∷ [])) (w .table) (omega (arith, length-slot-numbers mark ps (w .vs), w .count)) (p .table) numbers (omega (arith, fits .0, all .rows)) in
           let values : area′ ≡ storeAt area₀ mark (valueBytes (w .vs ++ (v ∷ []))) = store-next area₀ mark (valueBytes (w .vs)) (areaBytes v) (w .values) (w .next) (p .values) bytes (omega (arith, fits .1, all .room)) in
           record {
             vs = w .vs ++ (v ∷ []);

@@ -9,6 +9,7 @@ ghost use Rattle.record.specs.Packing.{accepted};
 ghost use Rattle.read_measure.specs.Run.{valuesOf};
 ghost use Rattle.reading.specs.Tables.{putAll, TableRoom};
 use record::Answer;
+use record::Cursor;
 use record::ReadAnswer;
 
 fn answer(set: usize, place: usize, steps: usize) -> ReadAnswer
@@ -33,7 +34,7 @@ pub fn fill(
     requires { ⌜ TableRoom (valuesOf n (now words) (now bytes)) (now slots) (now area) mark ⌝ }
     ensures { λ r. ⌜ record { answer = r; slots = after slots; area = after area } ≡ putAll n (before words) (before bytes) (before slots) (before area) mark ⌝ }
 {
-    let mut at: usize = 0;
+    let mut c = Cursor::new(bytes.len());
     let mut set: usize = 0;
     let mut place = mark;
     let mut i: usize = 0;
@@ -42,18 +43,19 @@ pub fn fill(
         let d = word % layout::FLAG_UNIT;
         i += 1;
         if layout::LAST_DATA < d {
-            at = positions::position(word, at, bytes.len());
+            c = positions::moved_by(word, c);
         } else {
-            let left = bytes.len() - at;
+            let at = c.at;
+            let left = c.end - at;
             let items = positions::items(d, word / layout::COUNT_UNIT, left);
             let need = sizes::bytes_numbered(d, items);
             if left < need {
                 return answer(set, place, i);
             }
             let u = word / layout::FLAG_UNIT % 2 == 1;
+            c = c.load(need);
             place = read_put::put(slots, set, area, place, bytes, at, d, u, items);
             set += 1;
-            at += need;
         }
     }
     answer(set, place, i)

@@ -24,5 +24,10 @@ moved c Goto n = record { at = gotoIn (c .end) n; end = max (c .end) (gotoIn (c 
 
 -- ---- reading
 
+-- past so many bytes that are read
+abbrev pub over : Cursor → ℕ → Cursor
+over c bytes = record { at = c .at + bytes; end = c .end }
+
+-- `x X @`
 abbrev pub movedInside : Cursor → Motion → Count → Cursor
 movedInside c m n = record { at = movedIn (c .end) m n (c .at); end = c .end }

@@ -6,7 +6,7 @@ ghost use Rattle.layout.specs.Words.{FitCount};
 ghost use Rattle.layout.specs.declared.Motion.the-variants.{Skip, Back, Goto};
 ghost use Rattle.record.specs.Geometry.{amount, wordLimit};
 ghost use Rattle.record.specs.Table.{numberLimit};
-ghost use Rattle.record.specs.Cursor.{past, moved, movedInside};
+ghost use Rattle.record.specs.Cursor.{past, moved, over, movedInside};
 ghost use Rattle.record.specs.Packing.{accepted, refusal};
 use layout::Count;
 use layout::Refusal;
@@ -142,6 +142,17 @@ impl Cursor {
         Cursor {
             at: at,
             end: most(self.end, at),
+        }
+    }
+
+    // Past so many bytes that are read here.
+    pub fn load(self, bytes: usize) -> Cursor
+        requires { ⌜ self .at + bytes < wordLimit ⌝ }
+        ensures { λ r. ⌜ r ≡ over self bytes ⌝ }
+    {
+        Cursor {
+            at: self.at + bytes,
+            end: self.end,
         }
     }
 

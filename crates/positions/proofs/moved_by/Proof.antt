@@ -2,8 +2,8 @@
 use Rattle.positions.specs.Turns.{movedBy}
 use Rattle.positions.proofs.Turns.{moved-as}
 use borrow.Author.Needs.{needs}
-use Rattle.positions.proofs.position.Statement.{statement}
-use Rattle.positions.proofs.position.Tie as tie
+use Rattle.positions.proofs.moved_by.Statement.{statement}
+use Rattle.positions.proofs.moved_by.Tie as tie
 
 field-of-requires : tie.Need-field-of-requires
 field-of-requires c κs = search needs
@@ -16,15 +16,15 @@ enum-told c = search needs
 
 returns : tie.Need-returns
 unfolding movedBy
-returns c = moved-as _ _ (c .before .before .field-of .ensures) (rw (c .enum-told .given .1))
+returns c = moved-as _ (c .before .before .field-of .ensures) (rw (c .enum-told .given .1))
 
 moved-requires : tie.Need-moved-requires
 moved-requires c κs = search needs
 
 returns-2 : tie.Need-returns-2
 unfolding movedBy
-returns-2 c = moved-as _ _ (c .before .before .before .before .field-of .ensures) (rw (c .before .before .k .given .1, c .moved .ensures))
+returns-2 c = moved-as _ (c .before .before .before .before .field-of .ensures) (rw (c .before .before .k .given .1, c .moved .ensures))
 
-pub position-spec : {M : Type 1} → statement M
-position-spec =
+pub moved-by-spec : {M : Type 1} → statement M
+moved-by-spec =
     tie.close (tie.spec field-of-requires enum-known-k enum-told returns moved-requires returns-2)
