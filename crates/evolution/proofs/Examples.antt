@@ -1,11 +1,10 @@
 -- The examples hold: each list is one statement, which the checker computes.
-use lib.Dec.{T}
-use Rattle.evolution.specs.Examples.{all, checked, more}
+use Rattle.evolution.specs.Examples.{all, checked, more, CheckedHold, MoreHold}
 
-checked-hold : T (all checked)
+checked-hold : CheckedHold
 unfolding all checked
 checked-hold = tt
 
-more-hold : T (all more)
+more-hold : MoreHold
 unfolding all more
 more-hold = tt

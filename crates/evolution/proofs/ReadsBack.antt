@@ -7,25 +7,26 @@ use mathlib.Core.Path.{_≡_, refl, sym, ap, _∙_, subst}
 use mathlib.Core.Bool.{Bool, true, false, _&&_}
 use mathlib.Core.List.{List, [], _∷_, _++_, map, append-nil}
 use lib.ListN.{length, getD, take, drop, length-append}
-use lib.Seq.{take-at, take-append-le, length-take-le}
+use lib.Seq.{take-at, take-append-le, take-length, length-take-le}
 use lib.Dec.{T}
 use Rattle.layout.specs.declared.Field.{Field}
 use Rattle.layout.specs.Layout.{takesSlot, fieldsOf, slotCount}
 use Rattle.layout.specs.Refusals.{if_then_else_, ok}
 use Rattle.layout.proofs.Laws.{AllSound, packed-reads}
-use Rattle.record.specs.Table.{slotsOf, noPosition, shown}
+use Rattle.record.specs.Table.{slotsOf, noPosition, Value, shown, valueBytes}
 use Rattle.record.specs.Slots.{slotAt}
-use Rattle.record.specs.Packing.{accepted, Filled, filled, argumentsFit, packed, pack, packEffect, Packed}
+use Rattle.record.specs.Packing.{accepted, Filled, filled, argumentsFit, packed, pack, packEffect}
 use Rattle.record.specs.Geometry.{sizesFit}
 use Rattle.record.specs.Reading.{Read, valuesFrom, positionsFrom, read, readSteps, putInto}
 use Rattle.runs.specs.Ends.{plainCode, plainCount, endOf, recordOf}
 use Rattle.runs.proofs.Joined.{joined, joined-append, packed-joined}
 use Rattle.runs.proofs.Calls.{T→true, packs-by, read-by, steps-by}
 use Rattle.runs.proofs.Shown.{shows-put, put-same, position-put}
-use Rattle.evolution.specs.Claim.{startsFrom, starts, carriedOut, plain, Layouts, packedBy, textOf, outputBy, slotsBy, fieldsBy, due, cutRecord, Reading, ReadsBack}
+use Rattle.evolution.specs.Claim.{recordBytes, allBack, setBy, startsFrom, starts, carriedOut, plain, Layouts, packedBy, packedWhole, recordBy, textOf, outputBy, slotsBy, fieldsBy, argumentsBy, due, cutRecord, Reading, AsLent, Whole, OwnFields, ReadsBack, Demand3}
 use Rattle.record.proofs.Tables.{slots-take}
 use Rattle.record.proofs.Bytes.{both}
-use Rattle.evolution.proofs.Run.{AllGood, length-joined, all-forward, agree, begun, carried}
+use Rattle.evolution.proofs.Run.{AllGood, fieldsIn, length-joined, all-forward, agree, begun, carried}
+use Rattle.evolution.proofs.Whole.{joined-bytes, due-first, all-due, none-due, due-both, good-behind, count-back, rest-stays}
 use Rattle.evolution.proofs.Proper.{set-proper}
 use Rattle.evolution.proofs.Arguments.{fields-filled, front, spare, fit-front, all-good}
 
@@ -55,7 +56,7 @@ plain-front (f ∷ fs) gs h =
 
 module _ (l : Layouts) where
   abbrev args : Bool → List Filled
-  args b = filled (l .area) (slotsOf (l .slots)) (fieldsBy l b)
+  args b = argumentsBy l b
 
   fits : (b : Bool) → argumentsFit (l .area) 0 (slotsOf (l .slots)) (fieldsBy l b) ≡ ok tt
   fits true = l .served
@@ -117,8 +118,14 @@ module _ (l : Layouts) where
   record-is : (b : Bool) → recordOf (packedBy l b) ≡ joined (args b)
   record-is b = ap recordOf (packing-is b) ∙ take-at (joined (args b)) _ (length (joined (args b))) refl
 
-  packings : (b : Bool) → packedBy l b .answer ≡ accepted (endOf (fieldsBy l b)) 0
-  packings b = ap (λ (p : Packed). p .answer) (packing-is b) ∙ ap (λ (n : ℕ). accepted n 0) (end-by b)
+  packings : (b : Bool) → packedBy l b ≡ packedWhole l b
+  packings b = packing-is b ∙ rw (end-by b, joined-bytes (args b) (good b))
+
+  records : (b : Bool) → recordBy l b ≡ recordBytes (args b)
+  records b = record-is b ∙ joined-bytes (args b) (good b)
+
+  ends : (b : Bool) → length (recordBy l b) ≡ endOf (fieldsBy l b)
+  ends b = ap length (record-is b) ∙ end-by b
 
   -- ---- the readings
 
@@ -132,6 +139,13 @@ module _ (l : Layouts) where
     joined (filled (l .area) (drop (slotCount (l .fields)) (slotsOf (l .slots))) (l .added)),
     ap joined (front (l .area) (l .fields) (l .added) (slotsOf (l .slots))) ∙ joined-append (args false) _,
   )
+
+  old-front : recordBy l false ≡ take (endOf (l .fields)) (recordBy l true)
+  unfolding whole
+  old-front =
+      record-is false
+      ∙ sym (take-at (joined (args false)) (begins false .0) (endOf (l .fields)) (end-by false))
+      ∙ ap (take (endOf (l .fields))) (sym (begins false .1) ∙ sym (record-is true))
 
   cut-is : (b : Bool) (cut : ℕ) → cut ≤ length (recordOf (packedBy l b)) → take cut (recordOf (packedBy l b)) ≡ take cut whole
   cut-is b cut h =
@@ -187,5 +201,71 @@ module _ (l : Layouts) where
         steps-by (textOf l q) (cutRecord l p cut) slots area mark (fieldsBy l q) (text-reads q .0) (T→true _ (h .sizes)) (h .enough-slots) (rw v (h .room))
         ∙ rw (cut-is p cut (h .within), length-take-le cut whole (inside p cut (h .within)), ← fields-filled (l .area) (slotsOf (l .slots)) (fieldsBy l q)) (carried cut (args q) (good q) 0 (omega arith))
 
+    answering : read (textOf l q) (cutRecord l p cut) slots area mark .answer ≡ accepted (length (due l q cut)) (mark + length (valueBytes (due l q cut)))
+    unfolding putInto
+    answering = ap (λ (r : Read). r .answer) reading
+
+    staying : AsLent slots area mark (length (due l q cut)) (length (valueBytes (due l q cut))) (read (textOf l q) (cutRecord l p cut) slots area mark)
+    staying = rw reading (rest-stays slots area mark (starts l) (due l q cut) (omega (arith, h .room)))
+
+  -- ---- records that are not cut
+
+  abbrev own : List Value
+  own = allBack (args false)
+
+  old-due : due l false (length (recordBy l true)) ≡ own
+  unfolding whole
+  old-due =
+      let few : length (recordBy l false) ≤ length whole = inside false (length (recordBy l false)) (le-refl _) in
+      let long : length (recordBy l true) ≡ length whole = ap length (record-is true) in
+      all-due (length (recordBy l true)) 0 (args false) (omega (arith, length-joined (args false) (good false), ap length (record-is false)))
+
+  -- the arguments of the added fields
+  more : List Filled
+  more = filled (l .area) (drop (slotCount (l .fields)) (slotsOf (l .slots))) (l .added)
+
+  new-args : args true ≡ args false ++ more
+  unfolding more
+  new-args = front (l .area) (l .fields) (l .added) (slotsOf (l .slots))
+
+  new-due : due l true (length (recordBy l false)) ≡ own
+  new-due =
+      let k : ℕ = length (recordBy l false) in
+      let end : k ≡ endOf (fieldsIn (args false)) = ap length (record-is false) ∙ length-joined (args false) (good false) in
+      let good-more : AllGood more = good-behind (args false) more (rw (← new-args) (good true)) in
+      ap (setBy k 0) new-args
+      ∙ due-both k 0 (args false) more
+      ∙ rw (all-due k 0 (args false) (omega arith), none-due k (0 + endOf (fieldsIn (args false))) more good-more (omega arith)) (append-nil own)
+
+  own-read : (p q : Bool) → due l q (length (recordBy l p)) ≡ own → (slots area : List ℕ) (mark : ℕ) → Whole l p q slots area mark → OwnFields l slots area mark (read (textOf l q) (recordBy l p) slots area mark)
+  own-read p q e slots area mark h =
+      let count : length own ≡ slotCount (l .fields) = count-back (l .area) (slotsOf (l .slots)) (l .fields) in
+      let values : read (textOf l q) (recordBy l p) slots area mark ≡ putInto slots area mark (starts l) own =
+      rw (take-length (recordBy l p), e) at (reading p q (length (recordBy l p)) slots area mark h) in
+      record {
+        values = values;
+        count = count;
+        others = rw (values, ← count) (rest-stays slots area mark (starts l) own (omega (arith, h .room)));
+      }
+
   pub reads-back : ReadsBack l
-  reads-back = record { packings = packings; readings = reading; shows = showing; positions = placing; steps = working }
+  reads-back =
+      record {
+        packings = packings;
+        records = records;
+        ends = ends;
+        front = old-front;
+        readings = reading;
+        answers = answering;
+        others = staying;
+        shows = showing;
+        positions = placing;
+        in-order = λ q cut. due-first cut 0 (args q);
+        steps = working;
+        old-reads-new = own-read true false old-due;
+        new-reads-old = own-read false true new-due;
+      }
+
+-- DEMAND 3
+pub demand3 : Demand3
+demand3 l = reads-back l

@@ -69,7 +69,7 @@ unfolding joined fieldsIn endOf
 length-joined [] h = refl
 length-joined (a ∷ rest) h = rw (length-append, length-bytes (a .field .code) (a .field .count) (a .items) (h .0), length-joined rest (h .1))
 
-abbrev one : Code → Bool → Count → List ℕ → Filled
+abbrev pub one : Code → Bool → Count → List ℕ → Filled
 one k u n xs = record { field = record { code = k; unsigned = u; count = n }; items = xs }
 
 -- past the cut nothing is due
@@ -79,7 +79,7 @@ unfolding setBy
 past-due-step cut before rest ih h (Data s) u n xs = rw (lt-leb (before + bytesFor s (amount n 0)) cut (omega arith)) (ih _ (omega arith))
 past-due-step cut before rest ih h (Move m) u n xs = ih _ (omega arith)
 
-past-due : (cut before : ℕ) (fs : List Filled) → cut < before → setBy cut before fs ≡ []
+pub past-due : (cut before : ℕ) (fs : List Filled) → cut < before → setBy cut before fs ≡ []
 unfolding setBy
 past-due cut before [] h = refl
 past-due cut before (a ∷ rest) h =

@@ -1,10 +1,10 @@
--- Demand 3 (document 01, "What demand 3 reads back"): one claim about both packings and every reading.
+-- Demand 3 (document 01, "What demand 3 reads back"): one claim about both packings and every reading. THE THEOREM is `Demand3`, at the end.
 -- Each definition names the part of that section that it states. The proof is in proofs/ReadsBack.antt.
 use Prim.Native.Nat.{ℕ, suc, _+_, _*_, _%_, _^_, _≤_, _<_}
 use mathlib.Core.Path.{_≡_}
 use mathlib.Core.Bool.{Bool, true, false, _&&_}
 use mathlib.Core.List.{List, [], _∷_, _++_, map}
-use lib.ListN.{length, getD, take}
+use lib.ListN.{length, getD, take, drop, replicate}
 use lib.Dec.{T, leb, eqb}
 use Rattle.layout.specs.declared.Code.the-variants.{Data, Move}
 use Rattle.layout.specs.declared.Shape.{Shape}
@@ -17,8 +17,8 @@ use Rattle.record.specs.Bytes.{fit}
 use Rattle.record.specs.Table.{string, real, integerKind, slotsOf, Value, shown, slotWidth, noPosition, valueBytes}
 use Rattle.record.specs.Slots.{slotAt}
 use Rattle.record.specs.Geometry.{amount, sizesFit}
-use Rattle.record.specs.Packing.{patterns, Filled, filled, argumentsFit, accepted, Packed, pack}
-use Rattle.record.specs.Reading.{trimmed, widened, doubles, putInto, read, readSteps}
+use Rattle.record.specs.Packing.{patterns, stored, Filled, filled, argumentsFit, accepted, Packed, pack}
+use Rattle.record.specs.Reading.{trimmed, widened, doubles, Read, putInto, read, readSteps}
 use Rattle.runs.specs.Ends.{plainCode, plainCount, fills, endOf, recordOf}
 
 -- ---- a plain layout: no star, no `X`, no `@`, no count of 0
@@ -26,6 +26,20 @@ use Rattle.runs.specs.Ends.{plainCode, plainCount, fills, endOf, recordOf}
 unfoldable pub plain : List Field → Bool
 plain [] = true
 plain (f ∷ fs) = plainCode (f .code) && plainCount (f .count) && plain fs
+
+-- ---- the bytes of a record
+
+-- Those of its fields, one behind the other: of a field that takes a slot what is stored of its argument's items, of an `x` as many zeros as it fills
+-- (01, Packing).
+unfoldable pub recordBytes : List Filled → List ℕ
+unfolding fills stored
+recordBytes [] = []
+recordBytes (a ∷ rest) =
+    let later = recordBytes rest in
+    elim (a .field .code) [
+      | Data s ↦ stored s (amount (a .field .count) 0) (a .items) ++ later
+      | Move m ↦ replicate (fills (Move m) (a .field .count)) 0 ++ later
+    ]
 
 -- ---- what comes back of an argument's items xs, in a field of n items
 
@@ -46,6 +60,17 @@ readBack (Integers w big) u n xs =
 -- 256 ^ 4 and every double below 256 ^ 8, so cutting them to their bits changes none: proofs/Reals.antt.)
 readBack (Reals single big) u n xs =
     record { kind = real; items = doubles single (map (λ x. x % 256 ^ realSize single) (patterns single (take n xs))) }
+
+-- the values of all fields that take a slot, in their order: the first slot is due to the first of them, and so on
+unfoldable pub allBack : List Filled → List Value
+unfolding readBack
+allBack [] = []
+allBack (a ∷ rest) =
+    let later = allBack rest in
+    elim (a .field .code) [
+      | Data s ↦ readBack s (a .field .unsigned) (amount (a .field .count) 0) (a .items) ∷ later
+      | Move m ↦ later
+    ]
 
 -- ---- what a reading of a cut record sets
 
@@ -137,16 +162,32 @@ abbrev pub outputBy : Layouts → Bool → List ℕ
 outputBy l true = l .newOutput
 outputBy l false = l .oldOutput
 
+-- the fields with their arguments
+abbrev pub argumentsBy : Layouts → Bool → List Filled
+argumentsBy l which = filled (l .area) (slotsOf (l .slots)) (fieldsBy l which)
+
+-- the packing, and the record that it makes
 abbrev pub packedBy : Layouts → Bool → Packed
 packedBy l which = pack (textOf l which) (slotsBy l which) (l .area) (outputBy l which)
 
+abbrev pub recordBy : Layouts → Bool → List ℕ
+recordBy l which = recordOf (packedBy l which)
+
+-- ALL THAT A PACKING LEAVES: its answer is 0, the end of the last field and 0; the fields' bytes are at the front of its buffer, whose other bytes stay
+abbrev pub packedWhole : Layouts → Bool → Packed
+packedWhole l which =
+    record {
+      answer = accepted (endOf (fieldsBy l which)) 0;
+      output = recordBytes (argumentsBy l which) ++ drop (endOf (fieldsBy l which)) (outputBy l which);
+    }
+
 -- a record cut at k: its first k bytes
 abbrev pub cutRecord : Layouts → Bool → ℕ → List ℕ
-cutRecord l which k = take k (recordOf (packedBy l which))
+cutRecord l which k = take k (recordBy l which)
 
 -- the values due to a reading by a layout of a record that is cut at k
 abbrev pub due : Layouts → Bool → ℕ → List Value
-due l layout k = setBy k 0 (filled (l .area) (slotsOf (l .slots)) (fieldsBy l layout))
+due l layout k = setBy k 0 (argumentsBy l layout)
 
 -- where the fields begin, those of the old layout first
 abbrev pub starts : Layouts → List ℕ
@@ -158,20 +199,52 @@ starts l = startsFrom 0 (l .fields ++ l .added)
 -- before; what is asked is that they, and the mark, keep to the sizes (no number 1), that there is a slot for each field of the layout (no number 5), and
 -- that the values due have room after the mark (no number 11). Room is asked for no other value, so the claim covers more readings.
 pub record Reading (l : Layouts) (packing layout : Bool) (k : ℕ) (slots area : List ℕ) (mark : ℕ) : Type 0 where
-  pub within : k ≤ length (recordOf (packedBy l packing))
+  pub within : k ≤ length (recordBy l packing)
   pub sizes : T (sizesFit (textOf l layout) slots (cutRecord l packing k) area && leb mark (length area))
   pub enough-slots : slotCount (fieldsBy l layout) ≤ length (slotsOf slots)
   pub room : mark + length (valueBytes (due l layout k)) ≤ length area
 
+-- What values leave as lent that are put into the first n slots and, with so many bytes, into the area from the mark on.
+pub record AsLent (slots area : List ℕ) (mark n bytes : ℕ) (after : Read) : Type 0 where
+  -- every other slot
+  pub slots-behind : drop (slotWidth * n) (after .slots) ≡ drop (slotWidth * n) slots
+  -- every byte of the area outside the values
+  pub area-before : take mark (after .area) ≡ take mark area
+  pub area-behind : drop (mark + bytes) (after .area) ≡ drop (mark + bytes) area
+
+-- A reading set the values of the old layout's fields, all of them, and nothing else.
+pub record OwnFields (l : Layouts) (slots area : List ℕ) (mark : ℕ) (after : Read) : Type 0 where
+  -- answer, table and area are those of these values ..
+  pub values : after ≡ putInto slots area mark (starts l) (allBack (argumentsBy l false))
+  -- .. of which there is one for each field that takes a slot; so the slots of added fields stay
+  pub count : length (allBack (argumentsBy l false)) ≡ slotCount (l .fields)
+  pub others : AsLent slots area mark (slotCount (l .fields)) (length (valueBytes (allBack (argumentsBy l false)))) after
+
+-- a reading of a record that is not cut
+abbrev pub Whole : Layouts → Bool → Bool → List ℕ → List ℕ → ℕ → Type 0
+Whole l packing layout slots area mark = Reading l packing layout (length (recordBy l packing)) slots area mark
+
 pub record ReadsBack (l : Layouts) : Type 0 where
-  -- both packings are accepted, with the end of the last field as the length
-  pub packings : (which : Bool) → packedBy l which .answer ≡ accepted (endOf (fieldsBy l which)) 0
+  -- both packings are accepted, with every byte of their records and of their buffers
+  pub packings : (which : Bool) → packedBy l which ≡ packedWhole l which
+  -- so a record has the fields' bytes and no others, as many as the end of the last field says
+  pub records : (which : Bool) → recordBy l which ≡ recordBytes (argumentsBy l which)
+  pub ends : (which : Bool) → length (recordBy l which) ≡ endOf (fieldsBy l which)
+  -- and the old record is the front of the new one
+  pub front : recordBy l false ≡ take (endOf (l .fields)) (recordBy l true)
   -- Every reading leaves what `putInto` says of the values due: its answer counts them and gives the place after the last one; slot by slot they
   -- have their kind, the place where the value before ended, their length and where their field begins, and there the area holds them. All other
   -- slots and bytes stay.
   pub readings :
       (packing layout : Bool) (k : ℕ) (slots area : List ℕ) (mark : ℕ) → Reading l packing layout k slots area mark
       → read (textOf l layout) (cutRecord l packing k) slots area mark ≡ putInto slots area mark (starts l) (due l layout k)
+  -- so the count that it reports is the number of the values due, and all else stays
+  pub answers :
+      (packing layout : Bool) (k : ℕ) (slots area : List ℕ) (mark : ℕ) → Reading l packing layout k slots area mark
+      → read (textOf l layout) (cutRecord l packing k) slots area mark .answer ≡ accepted (length (due l layout k)) (mark + length (valueBytes (due l layout k)))
+  pub others :
+      (packing layout : Bool) (k : ℕ) (slots area : List ℕ) (mark : ℕ) → Reading l packing layout k slots area mark
+      → AsLent slots area mark (length (due l layout k)) (length (valueBytes (due l layout k))) (read (textOf l layout) (cutRecord l packing k) slots area mark)
   -- and each set slot shows its value
   pub shows :
       (packing layout : Bool) (k : ℕ) (slots area : List ℕ) (mark : ℕ) → Reading l packing layout k slots area mark
@@ -182,7 +255,19 @@ pub record ReadsBack (l : Layouts) : Type 0 where
       (packing layout : Bool) (k : ℕ) (slots area : List ℕ) (mark : ℕ) → Reading l packing layout k slots area mark
       → (i : ℕ) → i < length (due l layout k)
       → slotAt (read (textOf l layout) (cutRecord l packing k) slots area mark .slots) i .position ≡ getD (starts l) i noPosition
+  -- The values due are the first ones of the layout's fields, so each stands in the slot of its own field.
+  pub in-order : (layout : Bool) (k : ℕ) → due l layout k ≡ take (length (due l layout k)) (allBack (argumentsBy l layout))
   -- The fourth number of the answer: the steps.
   pub steps :
       (packing layout : Bool) (k : ℕ) (slots area : List ℕ) (mark : ℕ) → Reading l packing layout k slots area mark
       → readSteps (textOf l layout) (cutRecord l packing k) slots area mark ≡ carriedOut k 0 (fieldsBy l layout)
+  -- The old layout reads from the whole new record its own fields and nothing else ..
+  pub old-reads-new :
+      (slots area : List ℕ) (mark : ℕ) → Whole l true false slots area mark → OwnFields l slots area mark (read (l .old) (recordBy l true) slots area mark)
+  -- .. and the new layout reads from the whole old record those same values; the slots of the added fields stay as lent.
+  pub new-reads-old :
+      (slots area : List ℕ) (mark : ℕ) → Whole l false true slots area mark → OwnFields l slots area mark (read (l .new) (recordBy l false) slots area mark)
+
+-- DEMAND 3: so it is for all layouts, arguments and buffers
+abbrev pub Demand3 : Type 0
+Demand3 = (l : Layouts) → ReadsBack l

@@ -1,11 +1,11 @@
 -- Worked examples, computed from the definitions: the 13 checked examples of document 01, and a dozen more.
--- Each list is one statement, proved in proofs/Examples.antt.
+-- Each list is one statement, `CheckedHold` and `MoreHold`, proved in proofs/Examples.antt.
 use Prim.Native.Nat.{ℕ, zero, suc, _+_, _-_, _*_, _^_}
 use Prim.Native.String.{String}
 use mathlib.Core.Bool.{Bool, true, false, _&&_}
 use mathlib.Core.List.{List, [], _∷_, _++_, map}
 use lib.ListN.{length, take, drop, replicate}
-use lib.Dec.{eqb}
+use lib.Dec.{T, eqb}
 use Rattle.layout.specs.Quoted.{bytes}
 use Rattle.record.specs.declared.Answer.{Answer}
 use Rattle.record.specs.Table.{slotsOf, Value, shown, slotNumbers, valueBytes, slotWidth}
@@ -115,6 +115,10 @@ checked =
     ∷ reading [] "a0" 1 (str "" ∷ [])
     ∷ []
 
+-- THEY ALL HOLD
+abbrev pub CheckedHold : Type 0
+CheckedHold = T (all checked)
+
 -- ---- a dozen more, each for something that the thirteen leave open; the other examples of 001 to 003 are run by the program `tour`
 
 unfoldable pub more : List Example
@@ -145,3 +149,6 @@ more =
     ∷ packAnswers (bytes "auu") 1 (str "M") 1 (2 ∷ 2 ∷ 0 ∷ [])
     ∷ packAnswers (bytes "c @u") 1 (ints (1 ∷ [])) 1 (4 ∷ 2 ∷ 0 ∷ [])
     ∷ []
+
+abbrev pub MoreHold : Type 0
+MoreHold = T (all more)

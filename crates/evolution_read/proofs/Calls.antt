@@ -13,13 +13,12 @@ use Rattle.record.specs.declared.Answer.{Answer}
 use Rattle.record.specs.declared.ReadAnswer.{ReadAnswer}
 use Rattle.record.specs.Table.{slotsOf, shown}
 use Rattle.record.specs.Slots.{slotAt}
-use Rattle.record.specs.Packing.{packs, pack, packEffect, Packed, accepted}
+use Rattle.record.specs.Packing.{packs, pack, packEffect, Packed}
 use Rattle.record.specs.Reading.{Read, putInto, withSteps, readAll}
 use Rattle.record.proofs.Fields.{split}
-use Rattle.runs.specs.Ends.{endOf}
 use Rattle.evolution.specs.Claim.{Layouts, packedBy, fieldsBy, due, starts, carriedOut, ReadsBack}
 use Rattle.evolution_read.specs.Calls.{Lent, PackedAndRead, packing, thenRead, packedAndRead, Meant, KeepsBack, ReadsBackAs}
-use Rattle.evolution.proofs.ReadsBack.{reads-back}
+use Rattle.evolution.proofs.ReadsBack.{demand3}
 
 -- an accepted record lies in the buffer
 effect-room : (output : List ℕ) (r : Result (List ℕ)) → packEffect output r .answer .number ≡ 0 → packEffect output r .answer .first ≤ length (packEffect output r .output)
@@ -65,10 +64,10 @@ module _ (c : Lent) where
     same-packing = rw (h .writer, h .arguments, h .items, h .buffer)
 
     back : ReadsBack l
-    back = reads-back l
+    back = demand3 l
 
     accepts : packedBy l packed .answer .number ≡ 0
-    accepts = ap (λ (a : Answer). a .number) (back .packings packed)
+    accepts = ap (λ (p : Packed). p .answer .number) (back .packings packed)
 
     -- what is left, as the claim says it
     left : packedAndRead c ≡ thenRead (packedBy l packed) (withSteps (putInto (c .table) (c .values) (c .mark) (starts l) (due l layout (c .cut))) (carriedOut (c .cut) 0 (fieldsBy l layout)))
@@ -82,10 +81,8 @@ module _ (c : Lent) where
     kept : KeepsBack l packed layout c (packedAndRead c)
     kept =
         record {
-          packings =
-              same-packing
-              ∙ ap (λ (a : Answer). record { answer = a; output = packedBy l packed .output }) (back .packings packed)
-              ∙ ap (λ (x : PackedAndRead). record { answer = accepted (endOf (fieldsBy l packed)) 0; output = x .output }) (sym left);
+          packings = same-packing ∙ back .packings packed;
+          output = ap (λ (x : PackedAndRead). x .output) left ∙ ap (λ (p : Packed). p .output) (back .packings packed);
           readings = ap readPart left;
           shows =
               ap (λ (x : PackedAndRead). map (shown (x .values)) (take (length (due l layout (c .cut))) (slotsOf (x .table)))) left

@@ -9,10 +9,10 @@ use Rattle.layout.specs.Refusals.{if_then_else_}
 use Rattle.record.specs.declared.ReadAnswer.{ReadAnswer}
 use Rattle.record.specs.Table.{slotsOf, noPosition, shown}
 use Rattle.record.specs.Slots.{slotAt}
-use Rattle.record.specs.Packing.{Packed, pack, accepted}
+use Rattle.record.specs.Packing.{Packed, pack}
 use Rattle.record.specs.Reading.{putInto, ReadAll, readAll}
-use Rattle.runs.specs.Ends.{endOf, recordOf}
-use Rattle.evolution.specs.Claim.{Layouts, Reading, textOf, fieldsBy, slotsBy, outputBy, due, starts, carriedOut}
+use Rattle.runs.specs.Ends.{recordOf}
+use Rattle.evolution.specs.Claim.{Layouts, Reading, textOf, fieldsBy, slotsBy, outputBy, packedWhole, due, starts, carriedOut}
 
 -- all that the two calls are lent: the packer's four runs, the cut, and what the reader has beside the record
 pub record Lent : Type 0 where
@@ -61,8 +61,9 @@ pub record Meant (l : Layouts) (packed layout : Bool) (c : Lent) : Type 0 where
 
 -- the parts of the claim, of what the calls leave
 pub record KeepsBack (l : Layouts) (packed layout : Bool) (c : Lent) (x : PackedAndRead) : Type 0 where
-  -- the packing was accepted with the end of the last field, and left this output
-  pub packings : packing c ≡ record { answer = accepted (endOf (fieldsBy l packed)) 0; output = x .output }
+  -- the packing was accepted and left, with every byte of the output, what the claim says
+  pub packings : packing c ≡ packedWhole l packed
+  pub output : x .output ≡ packedWhole l packed .output
   -- answer, table and area are those of the values due
   pub readings : record { answer = x .answer .answer; slots = x .table; area = x .values } ≡ putInto (c .table) (c .values) (c .mark) (starts l) (due l layout (c .cut))
   -- and each set slot shows its value
