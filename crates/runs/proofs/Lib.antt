@@ -2,3 +2,4 @@
 pub mod Joined
 pub mod Calls
 pub mod Shown
+pub mod OneRun

@@ -1,2 +1,3 @@
 -- What the theorems about packing and reading say of a layout's fields.
 pub mod Ends
+pub mod OneRun
