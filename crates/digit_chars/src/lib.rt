@@ -32,31 +32,19 @@ fn char_of(d: usize) -> u8
     }
 }
 
-// Writes the first `count` digits of a byte. A digit is a step.
-pub fn write(
-    area: &mut [u8],
-    to: usize,
-    b: u8,
-    count: usize,
-    hex: bool,
-    high: bool,
-    budget: usize,
-) -> usize
-    requires { ⌜ (count ≤ perByte hex) × (to + count ≤ length (now area)) × (count ≤ budget) ⌝ }
-    ensures steps { λ left. ⌜ count + left ≡ budget ⌝ }
+// Writes the first `count` digits of a byte, one in each turn.
+pub fn write(area: &mut [u8], to: usize, b: u8, count: usize, hex: bool, high: bool)
+    requires { ⌜ (count ≤ perByte hex) × (to + count ≤ length (now area)) ⌝ }
     ensures { λ _. ⌜ after area ≡ storeAt (before area) to (take count (charsOf hex high b)) ⌝ }
 {
     let x = byte_runs::wide(b);
     let per = sizes::per_byte(hex);
-    let mut left = budget;
     let mut j = 0;
     while j < count {
         let q = digits::place(high, per, j);
         area[to + j] = char_of(digit_of(x, q, hex));
         j += 1;
-        left -= 1; // a digit read
     }
-    left
 }
 
 // The characters of four binary digits, the lowest first, as the bytes of a number. From a table the compiler loads and stores them at once.

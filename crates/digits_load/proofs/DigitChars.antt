@@ -52,7 +52,7 @@ length-shown hex high n bs e =
     rw (chars-join hex high bs)
     (length-take-le n (join (map (charsOf hex high) bs)) (rw (length-join (charsOf hex high) (perByte hex) (length-chars hex high) bs, e) (bytes-hold hex n)))
 
-shown-part : (hex high : Bool) (n : ℕ) (bs : List ℕ) (k count : ℕ) → k < length bs → count ≤ perByte hex → k * perByte hex + count ≤ n
+pub shown-part : (hex high : Bool) (n : ℕ) (bs : List ℕ) (k count : ℕ) → k < length bs → count ≤ perByte hex → k * perByte hex + count ≤ n
     → part (shownChars hex high n bs) (k * perByte hex) count ≡ take count (charsOf hex high (getD bs k 0))
 unfolding loaded
 shown-part hex high n bs k count h l m =
@@ -91,12 +91,12 @@ eight-turn high bytes at m k {d₀} {d} {d′} {to} fits h room g q =
 
 -- ---- a field cut after whole bytes
 
-join-append : (f : ℕ → List ℕ) (xs ys : List ℕ) → join (map f (xs ++ ys)) ≡ join (map f xs) ++ join (map f ys)
+pub join-append : (f : ℕ → List ℕ) (xs ys : List ℕ) → join (map f (xs ++ ys)) ≡ join (map f xs) ++ join (map f ys)
 unfolding join
 join-append f [] ys = refl
 join-append f (x ∷ xs) ys = rw (join-append f xs ys, append-assoc)
 
-shown-is : (high : Bool) (n : ℕ) (bs : List ℕ) → shownChars false high n bs ≡ take n (join (map (charsOf false high) bs))
+pub shown-is : (high : Bool) (n : ℕ) (bs : List ℕ) → shownChars false high n bs ≡ take n (join (map (charsOf false high) bs))
 unfolding loaded
 shown-is high n bs = rw (chars-join false high bs)
 

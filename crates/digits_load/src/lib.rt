@@ -8,35 +8,35 @@ ghost use Rattle.layout.specs.Lent.{before, after};
 ghost use Rattle.record.specs.Bytes.{part, storeAt, ceilDiv};
 ghost use Rattle.record.specs.Table.{maxArea};
 ghost use Rattle.record.specs.Reading.{loaded};
-ghost use Rattle.digits.specs.Steps.{binarySteps, binaryBudget};
+ghost use Rattle.digits.specs.Steps.{showing, steps, binaryBudget};
 ghost use Rattle.digit_chars.specs.Shown.{charsOf};
 
-// Reads m whole bytes of binary digits, one in each step. The answer is what is left of a budget of steps.
-fn load_eights(
-    area: &mut [u8],
-    to: usize,
-    bytes: &[u8],
-    at: usize,
-    m: usize,
-    high: bool,
-    budget: usize,
-) -> usize
-    requires { ⌜ (m ≤ budget) × (to + 8 * m ≤ length (now area)) × (at + m ≤ length (now bytes)) ⌝ }
-    ensures steps { λ left. ⌜ m + left ≡ budget ⌝ }
+// Reads m whole bytes of binary digits, one in each turn.
+fn load_eights(area: &mut [u8], to: usize, bytes: &[u8], at: usize, m: usize, high: bool)
+    requires { ⌜ (to + 8 * m ≤ length (now area)) × (at + m ≤ length (now bytes)) ⌝ }
     ensures { λ _. ⌜ after area ≡ storeAt (before area) to (loaded (Digits false high) false (8 * m) (part (before bytes) at m) .items) ⌝ }
 {
-    let mut left = budget;
     let mut k = 0;
     while k < m {
         digit_chars::write_eight(area, to + 8 * k, bytes[at + k], high);
         k += 1;
-        left -= 1; // eight digits read
     }
-    left
 }
 
-// Reads n binary digits that do not fill a byte. A digit is a step.
-fn load_last(
+// Reads n binary digits that do not fill a byte, one in each turn of the loop in `write`.
+fn load_last(area: &mut [u8], to: usize, bytes: &[u8], at: usize, n: usize, high: bool)
+    requires { ⌜ (n < 8) × (to + n ≤ length (now area)) × (at + ceilDiv n 8 ≤ length (now bytes)) ⌝ }
+    ensures { λ _. ⌜ after area ≡ storeAt (before area) to (loaded (Digits false high) false n (part (before bytes) at (ceilDiv n 8)) .items) ⌝ }
+{
+    if n == 0 {
+        return;
+    }
+    digit_chars::write(area, to, bytes[at], n, false, high)
+}
+
+// Reads n binary digits as far as a budget of steps goes, whatever it is. A step is a turn of one of two loops: over whole bytes, and over the digits
+// that are left.
+pub fn load_steps(
     area: &mut [u8],
     to: usize,
     bytes: &[u8],
@@ -44,33 +44,23 @@ fn load_last(
     n: usize,
     high: bool,
     budget: usize,
-) -> usize
-    requires { ⌜ (n < 8) × (to + n ≤ length (now area)) × (at + ceilDiv n 8 ≤ length (now bytes)) × (n ≤ budget) ⌝ }
-    ensures steps { λ left. ⌜ n + left ≡ budget ⌝ }
-    ensures { λ _. ⌜ after area ≡ storeAt (before area) to (loaded (Digits false high) false n (part (before bytes) at (ceilDiv n 8)) .items) ⌝ }
+)
+    requires { ⌜ (n ≤ maxArea) × (to + n ≤ length (now area)) × (at + ceilDiv n 8 ≤ length (now bytes)) ⌝ }
+    ensures { λ _. ⌜ after area ≡ steps (showing high (before bytes) at to) n (before area) budget .bytes ⌝ }
 {
-    if n == 0 {
-        return budget;
-    }
-    digit_chars::write(area, to, bytes[at], n, false, high, budget)
+    let m = record::least(n / 8, budget); // whole bytes: a step each
+    load_eights(area, to, bytes, at, m, high);
+    let last = record::least(n % 8, budget - m); // digits: a step each
+    load_last(area, to + 8 * m, bytes, at + m, last, high)
 }
 
-// Reads n binary digits within their budget of steps; the answer is what is left of it.
-pub fn load_binary(
-    area: &mut [u8],
-    to: usize,
-    bytes: &[u8],
-    at: usize,
-    n: usize,
-    high: bool,
-) -> usize
+// Reads n binary digits by a budget that is enough for all of them.
+pub fn load_binary(area: &mut [u8], to: usize, bytes: &[u8], at: usize, n: usize, high: bool)
     requires { ⌜ (n ≤ maxArea) × (to + n ≤ length (now area)) × (at + ceilDiv n 8 ≤ length (now bytes)) ⌝ }
-    ensures steps { λ left. ⌜ binarySteps n + left ≡ binaryBudget n ⌝ }
+    ensures within { λ _. ⌜ after area ≡ steps (showing high (before bytes) at to) n (before area) (binaryBudget n) .bytes ⌝ }
     ensures { λ _. ⌜ ((u : Bool) → after area ≡ storeAt (before area) to (loaded (Digits false high) u n (part (before bytes) at (ceilDiv n 8)) .items)) ⌝ }
 {
-    let m = n / 8; // whole bytes read
-    let left = load_eights(area, to, bytes, at, m, high, m + digits::SPARE);
-    load_last(area, to + 8 * m, bytes, at + m, n - 8 * m, high, left)
+    load_steps(area, to, bytes, at, n, high, n / 8 + digits::SPARE)
 }
 
 // Writes the two hex digits of a byte, or one where only one is left, and tells how many.
@@ -80,10 +70,10 @@ fn write_hex(area: &mut [u8], to: usize, b: u8, left: usize, high: bool) -> usiz
     ensures { λ r. ⌜ after area ≡ storeAt (before area) to (take r (charsOf true high b)) ⌝ }
 {
     if left < 2 {
-        digit_chars::write(area, to, b, left, true, high, left);
+        digit_chars::write(area, to, b, left, true, high);
         return left;
     }
-    digit_chars::write(area, to, b, 2, true, high, 2);
+    digit_chars::write(area, to, b, 2, true, high);
     2
 }
 

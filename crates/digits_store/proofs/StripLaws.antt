@@ -49,7 +49,7 @@ module _ (high : Bool) (cs : List ℕ) (n m : ℕ) (h : 8 * m ≤ n) where
   abbrev back : List ℕ
   back = stored (Digits false high) (n - 8 * m) (drop (8 * m) cs)
 
-  front-long : length front ≡ m
+  pub front-long : length front ≡ m
   front-long = length-stored false high (8 * m) cs ∙ (omega arith)
 
   in-front : (k : ℕ) → k < m → getD (front ++ back) k 0 ≡ getD whole k 0
@@ -68,7 +68,7 @@ module _ (high : Bool) (cs : List ℕ) (n m : ℕ) (h : 8 * m ≤ n) where
       ap (λ (i : ℕ). getD (front ++ back) i 0) past ∙ getD-append-add front back (k - m) 0 ∙ stored-at false high (n - 8 * m) (drop (8 * m) cs) (k - m) (omega arith)
       ∙ ap (byteOf false high) rest ∙ sym (stored-at false high n cs k i)
 
-  stored-cut : front ++ back ≡ whole
+  pub stored-cut : front ++ back ≡ whole
   stored-cut =
       let lb : length back ≡ ceilDiv (n - 8 * m) 8 = length-stored false high (n - 8 * m) (drop (8 * m) cs) in
       let lw : length whole ≡ ceilDiv n 8 = length-stored false high n cs in
@@ -172,7 +172,7 @@ pub record Last (high : Bool) (d₀ : List ℕ) (at : ℕ) (cs ds d : List ℕ) 
   pub is : d ≡ storeAt d₀ at (stored (Digits false high) j cs)
   pub sum : byte ≡ byteOf false high (take j ds)
 
-single : (l : List ℕ) → length l ≡ 1 → l ≡ getD l 0 0 ∷ []
+pub single : (l : List ℕ) → length l ≡ 1 → l ≡ getD l 0 0 ∷ []
 single [] e = absurd (omega arith)
 single (x ∷ []) e = refl
 single (x ∷ y ∷ l) e = absurd (omega arith)
@@ -183,7 +183,7 @@ one-set d at b h =
     rw add-zero at (put-done (put-more none (omega arith) (omega arith) refl) refl)
 
 -- a byte stored over one that is stored there, or over none
-set-over : (d : List ℕ) (at b : ℕ) (s : List ℕ) → at < length d → length s ≤ 1 → set (storeAt d at s) at b ≡ storeAt d at (b ∷ [])
+pub set-over : (d : List ℕ) (at b : ℕ) (s : List ℕ) → at < length d → length s ≤ 1 → set (storeAt d at s) at b ≡ storeAt d at (b ∷ [])
 set-over d at b [] h k = rw (store-none d at) (one-set d at b h)
 set-over d at b (x ∷ []) h k = rw (← one-set d at x h, set-set) (one-set d at b h)
 set-over d at b (x ∷ y ∷ s) h k = absurd (omega arith)

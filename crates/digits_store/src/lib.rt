@@ -8,35 +8,23 @@ ghost use Rattle.layout.specs.Lent.{before, after};
 ghost use Rattle.record.specs.Bytes.{part, storeAt, ceilDiv};
 ghost use Rattle.record.specs.Table.{maxArea};
 ghost use Rattle.record.specs.Packing.{stored};
-ghost use Rattle.digits.specs.Steps.{binarySteps, binaryBudget};
+ghost use Rattle.digits.specs.Steps.{storing, steps, binaryBudget};
 ghost use Rattle.digits.specs.Numerals.{placeOf, DigitsAt, valuesAt};
 ghost use Rattle.digits_store.specs.Stored.{bytesOf, FirstDigits, FirstBits};
 
-// Stores m whole bytes of binary digits, one in each step. The answer is what is left of a budget of steps.
-fn store_eights(
-    out: &mut [u8],
-    at: usize,
-    area: &[u8],
-    start: usize,
-    m: usize,
-    high: bool,
-    budget: usize,
-) -> usize
-    requires { ⌜ (m ≤ budget) × (start + 8 * m ≤ length (now area)) × (at + m ≤ length (now out)) × DigitsAt false (now area) start (8 * m) ⌝ }
-    ensures steps { λ left. ⌜ m + left ≡ budget ⌝ }
+// Stores m whole bytes of binary digits, one in each turn.
+fn store_eights(out: &mut [u8], at: usize, area: &[u8], start: usize, m: usize, high: bool)
+    requires { ⌜ (start + 8 * m ≤ length (now area)) × (at + m ≤ length (now out)) × DigitsAt false (now area) start (8 * m) ⌝ }
     ensures { λ _. ⌜ after out ≡ storeAt (before out) at (stored (Digits false high) (8 * m) (part (before area) start (8 * m))) ⌝ }
 {
-    let mut left = budget;
     let mut k = 0;
     while k < m {
         out[at + k] = digit_bytes::eight_at(area, start + 8 * k, high);
         k += 1;
-        left -= 1; // eight digits stored
     }
-    left
 }
 
-// Stores n digits, a byte in each step, with padding. The answer is what is left of a budget of steps.
+// Stores n digits with padding, a byte in each turn.
 fn store_bytes(
     out: &mut [u8],
     at: usize,
@@ -46,56 +34,19 @@ fn store_bytes(
     n: usize,
     hex: bool,
     high: bool,
-    budget: usize,
-) -> usize
+)
     requires { ⌜ (n ≤ maxArea) × (start + len ≤ length (now area)) × (at + bytesOf hex n ≤ length (now out)) × FirstDigits hex n (now area) start len ⌝ }
-    requires { ⌜ bytesOf hex n ≤ budget ⌝ }
-    ensures steps { λ left. ⌜ bytesOf hex n + left ≡ budget ⌝ }
     ensures { λ _. ⌜ after out ≡ storeAt (before out) at (stored (Digits hex high) n (part (before area) start len)) ⌝ }
 {
     let per = sizes::per_byte(hex);
     let have = record::least(n, len);
-    let mut left = budget;
     let mut i = 0;
     let mut k = 0;
     while i < n {
         out[at + k] = digit_bytes::next_byte(area, start, have, i, hex, high);
         i += per;
         k += 1;
-        left -= 1; // a byte stored
     }
-    left
-}
-
-// Stores m whole bytes of binary digits: those whose digits are all there, then those with padding. A byte is a step.
-fn store_whole(
-    out: &mut [u8],
-    at: usize,
-    area: &[u8],
-    start: usize,
-    len: usize,
-    m: usize,
-    high: bool,
-    budget: usize,
-) -> usize
-    requires { ⌜ (8 * m ≤ maxArea) × (start + len ≤ length (now area)) × (at + m ≤ length (now out)) × FirstBits (8 * m) (now area) start len ⌝ }
-    requires { ⌜ m ≤ budget ⌝ }
-    ensures steps { λ left. ⌜ m + left ≡ budget ⌝ }
-    ensures { λ _. ⌜ after out ≡ storeAt (before out) at (stored (Digits false high) (8 * m) (part (before area) start len)) ⌝ }
-{
-    let full = record::least(8 * m, len) / 8;
-    let left = store_eights(out, at, area, start, full, high, budget);
-    store_bytes(
-        out,
-        at + full,
-        area,
-        start + 8 * full,
-        len - 8 * full,
-        8 * m - 8 * full,
-        false,
-        high,
-        left,
-    )
 }
 
 // A binary digit, 0 past those that are there, at its place in a byte.
@@ -108,7 +59,7 @@ fn bit_at(area: &[u8], from: usize, count: usize, j: usize, high: bool) -> u8
     (digit << p) as u8
 }
 
-// Stores n binary digits that do not fill a byte. A digit is a step.
+// Stores n binary digits that do not fill a byte, one in each turn.
 fn store_last(
     out: &mut [u8],
     at: usize,
@@ -117,26 +68,55 @@ fn store_last(
     len: usize,
     n: usize,
     high: bool,
-    budget: usize,
-) -> usize
-    requires { ⌜ (n < 8) × (start + len ≤ length (now area)) × (at + ceilDiv n 8 ≤ length (now out)) × FirstBits n (now area) start len × (n ≤ budget) ⌝ }
-    ensures steps { λ left. ⌜ n + left ≡ budget ⌝ }
+)
+    requires { ⌜ (n < 8) × (start + len ≤ length (now area)) × (at + ceilDiv n 8 ≤ length (now out)) × FirstBits n (now area) start len ⌝ }
     ensures { λ _. ⌜ after out ≡ storeAt (before out) at (stored (Digits false high) n (part (before area) start len)) ⌝ }
 {
     let have = record::least(n, len);
-    let mut left = budget;
     let mut byte: u8 = 0;
     let mut j = 0;
     while j < n {
         byte += bit_at(area, start, have, j, high);
         out[at] = byte;
         j += 1;
-        left -= 1; // a digit stored
     }
-    left
 }
 
-// Stores n binary digits, padding counted, within their budget of steps; the answer is what is left of it.
+// Stores n binary digits, padding counted, as far as a budget of steps goes, whatever it is. A step is a turn of one of three loops: over the bytes
+// whose digits are all there, over the whole bytes with padding, and over the digits that are left.
+pub fn store_steps(
+    out: &mut [u8],
+    at: usize,
+    area: &[u8],
+    start: usize,
+    len: usize,
+    n: usize,
+    high: bool,
+    budget: usize,
+)
+    requires { ⌜ (n ≤ maxArea) × (start + len ≤ length (now area)) × (at + ceilDiv n 8 ≤ length (now out)) × FirstBits n (now area) start len ⌝ }
+    ensures { λ _. ⌜ after out ≡ steps (storing high (part (before area) start len) at) n (before out) budget .bytes ⌝ }
+{
+    let whole = n / 8;
+    let m = record::least(whole, budget); // whole bytes: a step each
+    let full = record::least(8 * m, len) / 8;
+    store_eights(out, at, area, start, full, high);
+    store_bytes(
+        out,
+        at + full,
+        area,
+        start + 8 * full,
+        len - 8 * full,
+        8 * m - 8 * full,
+        false,
+        high,
+    );
+    let past = record::least(8 * m, len);
+    let last = record::least(n % 8, budget - m); // digits: a step each
+    store_last(out, at + m, area, start + past, len - past, last, high)
+}
+
+// Stores n binary digits, padding counted, by a budget that is enough for all of them.
 pub fn store_binary(
     out: &mut [u8],
     at: usize,
@@ -145,24 +125,12 @@ pub fn store_binary(
     len: usize,
     n: usize,
     high: bool,
-) -> usize
+)
     requires { ⌜ (n ≤ maxArea) × (start + len ≤ length (now area)) × (at + ceilDiv n 8 ≤ length (now out)) × FirstBits n (now area) start len ⌝ }
-    ensures steps { λ left. ⌜ binarySteps n + left ≡ binaryBudget n ⌝ }
+    ensures within { λ _. ⌜ after out ≡ steps (storing high (part (before area) start len) at) n (before out) (binaryBudget n) .bytes ⌝ }
     ensures { λ _. ⌜ after out ≡ storeAt (before out) at (stored (Digits false high) n (part (before area) start len)) ⌝ }
 {
-    let m = n / 8; // whole bytes stored
-    let left = store_whole(out, at, area, start, len, m, high, m + digits::SPARE);
-    let past = record::least(8 * m, len);
-    store_last(
-        out,
-        at + m,
-        area,
-        start + past,
-        len - past,
-        n - 8 * m,
-        high,
-        left,
-    )
+    store_steps(out, at, area, start, len, n, high, n / 8 + digits::SPARE)
 }
 
 // Stores n hex digits, padding counted.
@@ -178,5 +146,5 @@ pub fn store_hex(
     requires { ⌜ (n ≤ maxArea) × (start + len ≤ length (now area)) × (at + ceilDiv n 2 ≤ length (now out)) × FirstDigits true n (now area) start len ⌝ }
     ensures { λ _. ⌜ after out ≡ storeAt (before out) at (stored (Digits true high) n (part (before area) start len)) ⌝ }
 {
-    store_bytes(out, at, area, start, len, n, true, high, n / 2 + 1);
+    store_bytes(out, at, area, start, len, n, true, high)
 }

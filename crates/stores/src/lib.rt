@@ -1,14 +1,8 @@
 // The value of a field, stored in the output by the number of its type.
-ghost use mathlib.Core.Path.{_≡_};
-ghost use mathlib.Core.Bool.{false};
-ghost use Prim.Native.Nat.{_+_, _≤_};
+ghost use Prim.Native.Nat.{_≤_};
 ghost use lib.ListN.{length};
 ghost use Rattle.layout.specs.declared.Shape.the-variants.{Text, Digits, Integers, Reals};
 ghost use Rattle.layout.specs.Words.{lastData, shapeNumbered};
-ghost use Rattle.record.specs.Bytes.{storeAt};
-ghost use Rattle.record.specs.Table.{shown};
-ghost use Rattle.record.specs.Packing.{stored};
-ghost use Rattle.digits.specs.Steps.{binarySteps, binaryBudget};
 ghost use Rattle.stores.specs.Stored.{StoredAs, Storable};
 use layout::Shape;
 use record::slots::Slot;
@@ -20,15 +14,6 @@ fn store_text(n: usize, a: Slot, area: &[u8], out: &mut [u8], at: usize, pad: u8
 {
     text::store(out, at, area, a.start, a.len, n, pad);
     n
-}
-
-// n binary digits, within their budget of steps; tells what is left of it.
-fn store_binary(n: usize, a: Slot, area: &[u8], out: &mut [u8], at: usize, high: bool) -> usize
-    requires { ⌜ Storable (now area) (Digits false high) n a at (length (now out)) ⌝ }
-    ensures steps { λ left. ⌜ binarySteps n + left ≡ binaryBudget n ⌝ }
-    ensures { λ _. ⌜ now (out .exit) ≡ storeAt (now (out .entry)) at (stored (Digits false high) n (shown (now (area .entry)) a .items)) ⌝ }
-{
-    digits_store::store_binary(out, at, area, a.start, a.len, n, high)
 }
 
 // n digits.
@@ -48,7 +33,7 @@ fn store_digits(
         digits_store::store_hex(out, at, area, a.start, a.len, n, high);
         return sizes::bytes_for(Shape::Digits(true, high), n);
     }
-    store_binary(n, a, area, out, at, high);
+    digits_store::store_binary(out, at, area, a.start, a.len, n, high);
     sizes::bytes_for(Shape::Digits(false, high), n)
 }
 

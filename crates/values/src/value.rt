@@ -5,10 +5,8 @@ ghost use Prim.Native.Nat.{_+_, _*_, _≤_};
 ghost use lib.ListN.{length};
 ghost use Rattle.layout.specs.declared.Shape.the-variants.{Text, Digits, Integers, Reals};
 ghost use Rattle.layout.specs.Words.{lastData, shapeNumbered};
-ghost use Rattle.record.specs.Bytes.{storeAt};
 ghost use Rattle.record.specs.Table.{areaBytes, integerKind};
 ghost use Rattle.record.specs.Reading.{valueAt};
-ghost use Rattle.digits.specs.Steps.{binarySteps, binaryBudget};
 ghost use Rattle.values.specs.Values.{Inside, TextOf, SizeOf, LoadedAs};
 
 // What a slot says of a value, and the bytes that the value takes in the area.
@@ -58,16 +56,6 @@ fn text(area: &mut [u8], to: usize, bytes: &[u8], at: usize, n: usize, pad: u8) 
     }
 }
 
-// Puts n binary digits into the area, within their budget of steps; tells what is left of it.
-fn binary(area: &mut [u8], to: usize, bytes: &[u8], at: usize, n: usize, high: bool) -> usize
-    requires { ⌜ Inside (now bytes) at (Digits false high) n ⌝ }
-    requires { ⌜ to + n ≤ length (now area) ⌝ }
-    ensures steps { λ left. ⌜ binarySteps n + left ≡ binaryBudget n ⌝ }
-    ensures { λ _. ⌜ ((u : Bool) → now (area .exit) ≡ storeAt (now (area .entry)) to (valueAt (now (bytes .entry)) at (Digits false high) u n .items)) ⌝ }
-{
-    digits_load::load_binary(area, to, bytes, at, n, high)
-}
-
 // Puts n digits into the area.
 fn digits(
     area: &mut [u8],
@@ -90,7 +78,7 @@ fn digits(
             size: n,
         };
     }
-    binary(area, to, bytes, at, n, high);
+    digits_load::load_binary(area, to, bytes, at, n, high);
     Loaded {
         kind: 1,
         items: n,

@@ -1,6 +1,6 @@
--- The loop keeps that the first j characters are in their place, and that j steps of the budget are taken; what is left of it is the measure.
-use Prim.Native.Nat.{_+_, _≤_}
-use mathlib.Core.Path.{_≡_, _∙_}
+-- The loop keeps that the first j characters are in their place; those that are left are the measure.
+use Prim.Native.Nat.{_-_, _≤_}
+use mathlib.Core.Path.{_∙_}
 use native.Mathlib.Omega.{arith}
 use lib.ListN.{take}
 use Rattle.record.proofs.Stores.{Put, put-none, put-more, put-done}
@@ -11,10 +11,10 @@ use Rattle.digit_chars.proofs.write.Statement.{statement}
 use Rattle.digit_chars.proofs.write.Tie as tie
 
 abbrev Inv-loop : tie.InvT-loop
-Inv-loop area₀ to b count hex high budget x per left₀ j₀ area left j = (j ≤ count) × (j + left ≡ budget) × Put area₀ to (take count (charsOf hex high b)) area j
+Inv-loop area₀ to b count hex high x per j₀ area j = (j ≤ count) × Put area₀ to (take count (charsOf hex high b)) area j
 
 abbrev μ-loop : tie.MeasureT-loop
-μ-loop area₀ to b count hex high budget x per left₀ j₀ area left j = left
+μ-loop area₀ to b count hex high x per j₀ area j = count - j
 
 wide-requires : tie.Need-wide-requires Inv-loop μ-loop
 wide-requires c κs = search needs
@@ -23,7 +23,7 @@ per-byte-requires : tie.Need-per-byte-requires Inv-loop μ-loop
 per-byte-requires c κs = search needs
 
 loop-holds : tie.Need-loop-holds Inv-loop μ-loop
-loop-holds c = (omega arith, omega arith, put-none)
+loop-holds c = (omega arith, put-none)
 
 place-requires : tie.Need-place-requires Inv-loop μ-loop
 place-requires c κs = search needs
@@ -43,9 +43,6 @@ slice-write-area c = search needs
 add-j : tie.Need-add-j Inv-loop μ-loop
 add-j c = search needs
 
-sub-left : tie.Need-sub-left Inv-loop μ-loop
-sub-left c = omega arith
-
 loop-less : tie.Need-loop-less Inv-loop μ-loop
 loop-less c = omega arith
 
@@ -58,16 +55,16 @@ loop-again c =
     let char =
     char-turn (a .hex) (a .high) (a .b) (a .count) (l .j) _ _ _ _ _ (c .before .before .before .loop-test .taken) (start .pre .0) (c .before .before .before .before .before .per-byte .ensures)
     (c .before .before .place .ensures .0) (c .before .before .before .before .before .before .wide .ensures .0) (c .before .digit-of .ensures .0) (c .char-of .ensures) in
-    (omega arith, omega arith, put-more (l .inv .2) (omega arith) (omega arith) char)
+    (omega arith, put-more (l .inv .1) (omega arith) (omega arith) char)
 
 same-length : tie.Need-same-length Inv-loop μ-loop
-same-length c = c .before .loop .inv .2 .long
+same-length c = c .before .loop .inv .1 .long
 
 returns : tie.Need-returns Inv-loop μ-loop
 returns c =
     let start = c .before .before .before .before .before in
     let a = start .args in
-    (omega arith, put-done (c .before .loop .inv .2) (length-first (a .hex) (a .high) (a .b) (a .count) (start .pre .0) ∙ (omega arith)))
+    put-done (c .before .loop .inv .1) (length-first (a .hex) (a .high) (a .b) (a .count) (start .pre .0) ∙ (omega arith))
 
 pub write-spec : {M : Type 1} → statement M
-write-spec = tie.close (tie.spec Inv-loop μ-loop wide-requires per-byte-requires loop-holds place-requires digit-of-requires char-of-requires add-area slice-write-area add-j sub-left loop-less loop-again same-length returns)
+write-spec = tie.close (tie.spec Inv-loop μ-loop wide-requires per-byte-requires loop-holds place-requires digit-of-requires char-of-requires add-area slice-write-area add-j loop-less loop-again same-length returns)

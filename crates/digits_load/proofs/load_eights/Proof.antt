@@ -1,5 +1,5 @@
--- The loop keeps that the first k bytes' characters are in their place, and that k steps of the budget are taken. The budget is the measure, so there are no more turns than it allows.
-use Prim.Native.Nat.{_+_, _*_, _≤_}
+-- The loop keeps that the first k bytes' characters are in their place; the bytes that are left are the measure.
+use Prim.Native.Nat.{_+_, _-_, _*_, _≤_}
 use mathlib.Core.Path.{_≡_}
 use mathlib.Core.Bool.{false}
 use native.Mathlib.Omega.{arith}
@@ -11,14 +11,14 @@ use Rattle.digits_load.proofs.load_eights.Statement.{statement}
 use Rattle.digits_load.proofs.load_eights.Tie as tie
 
 abbrev Inv-loop : tie.InvT-loop
-Inv-loop area₀ to bytes at m high budget left₀ k₀ area left k =
-    (k ≤ m) × (k + left ≡ budget) × Grown area₀ to (shownChars false high (8 * m) (part bytes at m)) area (8 * k)
+Inv-loop area₀ to bytes at m high k₀ area k =
+    (k ≤ m) × Grown area₀ to (shownChars false high (8 * m) (part bytes at m)) area (8 * k)
 
 abbrev μ-loop : tie.MeasureT-loop
-μ-loop area₀ to bytes at m high budget left₀ k₀ area left k = left
+μ-loop area₀ to bytes at m high k₀ area k = m - k
 
 loop-holds : tie.Need-loop-holds Inv-loop μ-loop
-loop-holds c = (omega arith, omega arith, grown-none)
+loop-holds c = (omega arith, grown-none)
 
 mul-write-eight : tie.Need-mul-write-eight Inv-loop μ-loop
 mul-write-eight c = omega arith
@@ -38,9 +38,6 @@ write-eight-requires c κs = omega arith
 add-k : tie.Need-add-k Inv-loop μ-loop
 add-k c = omega arith
 
-sub-left : tie.Need-sub-left Inv-loop μ-loop
-sub-left c = omega arith
-
 loop-less : tie.Need-loop-less Inv-loop μ-loop
 loop-less c = omega arith
 
@@ -49,12 +46,12 @@ loop-again c =
     let start = c .before .before .before .before .before .before .before .before .before in
     let a = start .args in
     let l = c .before .before .before .before .before .before .loop in
-    let grown = eight-turn (a .high) (a .bytes .now) (a .at) (a .m) (l .k) (start .pre .2) (c .before .before .before .before .before .loop-test .taken) (start .pre .1) (l .inv .2) (c .before .before .write-eight .ensures) in
+    let grown = eight-turn (a .high) (a .bytes .now) (a .at) (a .m) (l .k) (start .pre .1) (c .before .before .before .before .before .loop-test .taken) (start .pre .0) (l .inv .1) (c .before .before .write-eight .ensures) in
     let next : 8 * l .k + 8 ≡ 8 * (l .k + 1) = omega arith in
-    (omega arith, omega arith, rw next at grown)
+    (omega arith, rw next at grown)
 
 same-length : tie.Need-same-length Inv-loop μ-loop
-same-length c = c .before .loop .inv .2 .long
+same-length c = c .before .loop .inv .1 .long
 
 returns : tie.Need-returns Inv-loop μ-loop
 returns c =
@@ -62,8 +59,8 @@ returns c =
     let a = start .args in
     let l = c .before .loop in
     let bs = part (a .bytes .now) (a .at) (a .m) in
-    let long = length-part (a .m) (a .at) (a .bytes .now) (start .pre .2) in
-    (omega arith, grown-done (l .inv .2) (omega (arith, length-shown false (a .high) (8 * a .m) bs (omega arith))))
+    let long = length-part (a .m) (a .at) (a .bytes .now) (start .pre .1) in
+    grown-done (l .inv .1) (omega (arith, length-shown false (a .high) (8 * a .m) bs (omega arith)))
 
 pub load-eights-spec : {M : Type 1} → statement M
 load-eights-spec =
@@ -78,7 +75,6 @@ load-eights-spec =
     shared-slice-read-write-eight
     write-eight-requires
     add-k
-    sub-left
     loop-less
     loop-again
     same-length

@@ -11,7 +11,7 @@ use Rattle.digits_load.proofs.load_last.Tie as tie
 returns : tie.Need-returns
 returns c =
     let a = c .before .before .before .args in
-    (omega arith, none-shown (a .high) (a .bytes .now) (a .at) (a .n) (a .to) (a .area .now) (c .if1 .taken))
+    none-shown (a .high) (a .bytes .now) (a .at) (a .n) (a .to) (a .area .now) (c .if1 .taken)
 
 shared-slice-read-write : tie.Need-shared-slice-read-write
 shared-slice-read-write c = omega arith
@@ -26,7 +26,7 @@ returns-2 : tie.Need-returns-2
 returns-2 c =
     let a = c .before .before .before .before .before .before .before .before .args in
     let call = c .before .before .write in
-    (call .ensures .0, call .ensures .1 ∙ ap (storeAt (a .area .now) (a .to)) (last-shown (a .high) (a .bytes .now) (a .at) (a .n) (omega arith) (omega arith) (omega arith)))
+    call .ensures ∙ ap (storeAt (a .area .now) (a .to)) (last-shown (a .high) (a .bytes .now) (a .at) (a .n) (omega arith) (omega arith) (omega arith))
 
 pub load-last-spec : {M : Type 1} → statement M
 load-last-spec = tie.close (tie.spec returns shared-slice-read-write write-requires same-length returns-2)

@@ -1,5 +1,5 @@
--- The loop keeps that the first k bytes of the field are in their place, and that k steps of the budget are taken. The budget is the measure, so there are no more turns than it allows.
-use Prim.Native.Nat.{_+_, _*_, _≤_, _<_}
+-- The loop keeps that the first k bytes of the field are in their place; the bytes that are left are the measure.
+use Prim.Native.Nat.{_-_, _*_, _≤_, _<_}
 use mathlib.Core.Path.{_≡_, sym}
 use native.Mathlib.Omega.{arith}
 use Rattle.layout.specs.declared.Shape.the-variants.{Digits}
@@ -15,11 +15,11 @@ use Rattle.digits_store.proofs.store_bytes.Statement.{statement}
 use Rattle.digits_store.proofs.store_bytes.Tie as tie
 
 abbrev Inv-loop : tie.InvT-loop
-Inv-loop out₀ at area start len n hex high budget per have left₀ i₀ k₀ out left i k =
-    (i ≡ k * perByte hex) × (k ≤ ceilDiv n (perByte hex)) × (k + left ≡ budget) × Put out₀ at (stored (Digits hex high) n (part area start len)) out k
+Inv-loop out₀ at area start len n hex high per have i₀ k₀ out i k =
+    (i ≡ k * perByte hex) × (k ≤ ceilDiv n (perByte hex)) × Put out₀ at (stored (Digits hex high) n (part area start len)) out k
 
 abbrev μ-loop : tie.MeasureT-loop
-μ-loop out₀ at area start len n hex high budget per have left₀ i₀ k₀ out left i k = left
+μ-loop out₀ at area start len n hex high per have i₀ k₀ out i k = ceilDiv n (perByte hex) - k
 
 -- a turn's byte is one of the field's
 inside : (c : tie.In-loop Inv-loop μ-loop) → let a = c .before .before .before .before .before .before .args in c .before .loop .k < ceilDiv (a .n) (perByte (a .hex))
@@ -32,13 +32,13 @@ least-requires : tie.Need-least-requires Inv-loop μ-loop
 least-requires c κs = search needs
 
 loop-holds : tie.Need-loop-holds Inv-loop μ-loop
-loop-holds c = (sym (zero-mul _), omega arith, omega arith, put-none)
+loop-holds c = (sym (zero-mul _), omega arith, put-none)
 
 next-byte-requires : tie.Need-next-byte-requires Inv-loop μ-loop
 next-byte-requires c κs =
     let start = c .before .before .before .before .before .before in
     let a = start .args in
-    let digits = digits-at (a .hex) (a .area .now) (a .start) (a .len) (a .n) (start .pre .0 .1) (start .pre .0 .3) in
+    let digits = digits-at (a .hex) (a .area .now) (a .start) (a .len) (a .n) (start .pre .1) (start .pre .3) in
     (omega arith, omega arith, rw (c .before .before .least .ensures) digits)
 
 add-out : tie.Need-add-out Inv-loop μ-loop
@@ -53,9 +53,6 @@ add-i c = omega (arith, per-byte (c .before .before .before .before .before .bef
 add-k : tie.Need-add-k Inv-loop μ-loop
 add-k c = omega (arith, inside (c .before))
 
-sub-left : tie.Need-sub-left Inv-loop μ-loop
-sub-left c = omega (arith, inside (c .before))
-
 loop-less : tie.Need-loop-less Inv-loop μ-loop
 loop-less c = omega (arith, inside (c .before))
 
@@ -69,10 +66,10 @@ loop-again c =
     let byte =
     byte-turn (a .hex) (a .high) (a .area .now) (a .start) (a .len) (a .n) _ (l .i) (l .k) _ within (c .before .before .before .least .ensures) (l .inv .0)
     (c .next-byte .ensures) in
-    (omega (arith, add-run (l .k) (perByte (a .hex))), omega arith, omega arith, put-more (l .inv .3) (omega arith) (omega arith) byte)
+    (omega (arith, add-run (l .k) (perByte (a .hex))), omega arith, put-more (l .inv .2) (omega arith) (omega arith) byte)
 
 same-length : tie.Need-same-length Inv-loop μ-loop
-same-length c = c .before .loop .inv .3 .long
+same-length c = c .before .loop .inv .2 .long
 
 returns : tie.Need-returns Inv-loop μ-loop
 returns c =
@@ -80,7 +77,7 @@ returns c =
     let l = c .before .loop in
     let long = length-stored (a .hex) (a .high) (a .n) (part (a .area .now) (a .start) (a .len)) in
     let all = no-more-bytes (a .hex) (a .n) (l .k) (omega arith) in
-    (omega arith, put-done (l .inv .3) (omega arith))
+    put-done (l .inv .2) (omega arith)
 
 pub store-bytes-spec : {M : Type 1} → statement M
-store-bytes-spec = tie.close (tie.spec Inv-loop μ-loop per-byte-requires least-requires loop-holds next-byte-requires add-out slice-write-out add-i add-k sub-left loop-less loop-again same-length returns)
+store-bytes-spec = tie.close (tie.spec Inv-loop μ-loop per-byte-requires least-requires loop-holds next-byte-requires add-out slice-write-out add-i add-k loop-less loop-again same-length returns)

@@ -1,6 +1,6 @@
--- The loop keeps that the first k bytes are in their place, and that k steps of the budget are taken. The budget is the measure, so there are no more turns than it allows.
-use Prim.Native.Nat.{_+_, _*_, _≤_}
-use mathlib.Core.Path.{_≡_, sym, _∙_}
+-- The loop keeps that the first k bytes are in their place; the bytes that are left are the measure.
+use Prim.Native.Nat.{_-_, _*_, _≤_}
+use mathlib.Core.Path.{sym, _∙_}
 use mathlib.Core.Bool.{false}
 use native.Mathlib.Omega.{arith}
 use Rattle.layout.specs.declared.Shape.the-variants.{Digits}
@@ -13,14 +13,14 @@ use Rattle.digits_store.proofs.store_eights.Statement.{statement}
 use Rattle.digits_store.proofs.store_eights.Tie as tie
 
 abbrev Inv-loop : tie.InvT-loop
-Inv-loop out₀ at area start m high budget left₀ k₀ out left k =
-    (k ≤ m) × (k + left ≡ budget) × Put out₀ at (stored (Digits false high) (8 * m) (part area start (8 * m))) out k
+Inv-loop out₀ at area start m high k₀ out k =
+    (k ≤ m) × Put out₀ at (stored (Digits false high) (8 * m) (part area start (8 * m))) out k
 
 abbrev μ-loop : tie.MeasureT-loop
-μ-loop out₀ at area start m high budget left₀ k₀ out left k = left
+μ-loop out₀ at area start m high k₀ out k = m - k
 
 loop-holds : tie.Need-loop-holds Inv-loop μ-loop
-loop-holds c = (omega arith, omega arith, put-none)
+loop-holds c = (omega arith, put-none)
 
 mul-eight-at : tie.Need-mul-eight-at Inv-loop μ-loop
 mul-eight-at c = omega arith
@@ -32,7 +32,7 @@ eight-at-requires : tie.Need-eight-at-requires Inv-loop μ-loop
 eight-at-requires c κs =
     let start = c .before .before .before .before in
     let a = start .args in
-    (omega arith, digits-part false (a .area .now) (a .start) (8 * a .m) (8 * c .before .loop .k) 8 (start .pre .3) (omega arith))
+    (omega arith, digits-part false (a .area .now) (a .start) (8 * a .m) (8 * c .before .loop .k) 8 (start .pre .2) (omega arith))
 
 add-out : tie.Need-add-out Inv-loop μ-loop
 add-out c = omega arith
@@ -43,9 +43,6 @@ slice-write-out c = omega arith
 add-k : tie.Need-add-k Inv-loop μ-loop
 add-k c = omega arith
 
-sub-left : tie.Need-sub-left Inv-loop μ-loop
-sub-left c = omega arith
-
 loop-less : tie.Need-loop-less Inv-loop μ-loop
 loop-less c = omega arith
 
@@ -55,17 +52,17 @@ loop-again c =
     let l = c .before .before .loop in
     let long = length-stored false (a .high) (8 * a .m) (part (a .area .now) (a .start) (8 * a .m)) in
     let byte = c .eight-at .ensures ∙ sym (stored-byte (a .high) (a .area .now) (a .start) (8 * a .m) (8 * a .m) (l .k) {j = 8 * l .k} {count = 8} (omega arith) (omega arith) (omega arith) (omega arith)) in
-    (omega arith, omega arith, put-more (l .inv .2) (omega arith) (omega arith) byte)
+    (omega arith, put-more (l .inv .1) (omega arith) (omega arith) byte)
 
 same-length : tie.Need-same-length Inv-loop μ-loop
-same-length c = c .before .loop .inv .2 .long
+same-length c = c .before .loop .inv .1 .long
 
 returns : tie.Need-returns Inv-loop μ-loop
 returns c =
     let a = c .before .before .before .before .args in
     let l = c .before .loop in
     let long = length-stored false (a .high) (8 * a .m) (part (a .area .now) (a .start) (8 * a .m)) in
-    (omega arith, put-done (l .inv .2) (omega arith))
+    put-done (l .inv .1) (omega arith)
 
 pub store-eights-spec : {M : Type 1} → statement M
 store-eights-spec =
@@ -80,7 +77,6 @@ store-eights-spec =
     add-out
     slice-write-out
     add-k
-    sub-left
     loop-less
     loop-again
     same-length

@@ -1,6 +1,5 @@
--- The loop keeps the byte as its first j digits make it, and that j steps of the budget are taken; what is left of it is the measure.
-use Prim.Native.Nat.{_+_, _≤_, min}
-use mathlib.Core.Path.{_≡_}
+-- The loop keeps the byte as its first j digits make it; the digits that are left are the measure.
+use Prim.Native.Nat.{_-_, _≤_, min}
 use native.Mathlib.Omega.{arith}
 use mathlib.Core.Bool.{false}
 use Rattle.record.specs.Bytes.{part}
@@ -12,11 +11,11 @@ use Rattle.digits_store.proofs.store_last.Statement.{statement}
 use Rattle.digits_store.proofs.store_last.Tie as tie
 
 abbrev Inv-loop : tie.InvT-loop
-Inv-loop out₀ at area start len n high budget have left₀ byte₀ j₀ out left byte j =
-    (j ≤ n) × (j + left ≡ budget) × Last high out₀ at (part area start len) (valuesAt area start (min n len)) out byte j
+Inv-loop out₀ at area start len n high have byte₀ j₀ out byte j =
+    (j ≤ n) × Last high out₀ at (part area start len) (valuesAt area start (min n len)) out byte j
 
 abbrev μ-loop : tie.MeasureT-loop
-μ-loop out₀ at area start len n high budget have left₀ byte₀ j₀ out left byte j = left
+μ-loop out₀ at area start len n high have byte₀ j₀ out byte j = n - j
 
 -- what the check says of the digits
 checked : (c : tie.In-loop Inv-loop μ-loop) → let a = c .before .before .before .before .before .args in DigitsAt false (a .area .now) (a .start) (min (a .n) (a .len))
@@ -31,7 +30,7 @@ least-requires c κs = search needs
 loop-holds : tie.Need-loop-holds Inv-loop μ-loop
 loop-holds c =
     let a = c .before .before .before .args in
-    (omega arith, omega arith, last-none (a .high) (a .out .now) (a .at) (part (a .area .now) (a .start) (a .len)) (valuesAt (a .area .now) (a .start) (min (a .n) (a .len))))
+    (omega arith, last-none (a .high) (a .out .now) (a .at) (part (a .area .now) (a .start) (a .len)) (valuesAt (a .area .now) (a .start) (min (a .n) (a .len))))
 
 bit-at-requires : tie.Need-bit-at-requires Inv-loop μ-loop
 bit-at-requires c κs = (omega arith, omega arith, rw (c .before .before .least .ensures) (checked c))
@@ -41,17 +40,14 @@ add-byte c =
     let start = c .before .before .before .before .before .before in
     let a = start .args in
     let l = c .before .before .loop in
-    let small = next-small (a .area .now) (a .start) (a .len) (a .n) (start .pre .1) (checked (c .before)) (a .high) (l .inv .2) (omega arith) (omega arith) (rw (c .before .before .before .least .ensures) at (c .bit-at .ensures)) in
+    let small = next-small (a .area .now) (a .start) (a .len) (a .n) (start .pre .1) (checked (c .before)) (a .high) (l .inv .1) (omega arith) (omega arith) (rw (c .before .before .before .least .ensures) at (c .bit-at .ensures)) in
     omega arith
 
 slice-write-out : tie.Need-slice-write-out Inv-loop μ-loop
-slice-write-out c = omega (arith, c .before .before .loop .inv .2 .long)
+slice-write-out c = omega (arith, c .before .before .loop .inv .1 .long)
 
 add-j : tie.Need-add-j Inv-loop μ-loop
 add-j c = omega arith
-
-sub-left : tie.Need-sub-left Inv-loop μ-loop
-sub-left c = omega arith
 
 loop-less : tie.Need-loop-less Inv-loop μ-loop
 loop-less c = omega arith
@@ -61,13 +57,13 @@ loop-again c =
     let start = c .before .before .before .before .before .before in
     let a = start .args in
     let l = c .before .before .loop in
-    (omega arith, omega arith, last-more (a .area .now) (a .start) (a .len) (a .n) (start .pre .1) (checked (c .before)) (a .high) (l .inv .2) (omega arith) (omega arith) (rw (c .before .before .before .least .ensures) at (c .bit-at .ensures)) (omega arith))
+    (omega arith, last-more (a .area .now) (a .start) (a .len) (a .n) (start .pre .1) (checked (c .before)) (a .high) (l .inv .1) (omega arith) (omega arith) (rw (c .before .before .before .least .ensures) at (c .bit-at .ensures)) (omega arith))
 
 same-length : tie.Need-same-length Inv-loop μ-loop
-same-length c = c .before .loop .inv .2 .long
+same-length c = c .before .loop .inv .1 .long
 
 returns : tie.Need-returns Inv-loop μ-loop
-returns c = (omega arith, last-done (c .before .before .before .before .before .args .n) (c .before .loop .inv .2) (omega arith))
+returns c = last-done (c .before .before .before .before .before .args .n) (c .before .loop .inv .1) (omega arith)
 
 pub store-last-spec : {M : Type 1} → statement M
 store-last-spec =
@@ -81,7 +77,6 @@ store-last-spec =
     add-byte
     slice-write-out
     add-j
-    sub-left
     loop-less
     loop-again
     same-length

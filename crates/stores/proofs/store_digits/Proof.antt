@@ -24,7 +24,7 @@ returns c =
     rw hex (c .bytes-for .ensures, c .before .before .before .store-hex .ensures ∙ ap (storeAt (s .args .out .now) (s .args .at)) value)
 
 store-binary-requires : tie.Need-store-binary-requires
-store-binary-requires c κs = rw (c .before .if1 .left) at (c .before .before .before .before .pre)
+store-binary-requires c κs = digits-asks _ _ _ _ _ _ _ (rw (c .before .if1 .left) at (c .before .before .before .before .pre))
 
 bytes-for-requires-2 : tie.Need-bytes-for-requires-2
 bytes-for-requires-2 c κs = (omega (arith, digits-asks _ _ _ _ _ _ _ (c .before .before .before .before .before .before .before .pre) .0), tt)
@@ -33,7 +33,11 @@ same-length-2 : tie.Need-same-length-2
 same-length-2 c = search needs
 
 returns-2 : tie.Need-returns-2
-returns-2 c = rw (c .before .before .before .before .before .if1 .left) (c .bytes-for2 .ensures, c .before .before .before .store-binary .ensures .1)
+returns-2 c =
+    let s = c .before .before .before .before .before .before .before .before in
+    let binary = c .before .before .before .before .before .if1 .left in
+    let value = digits-value _ _ _ _ _ _ _ (rw binary at (s .pre)) in
+    rw binary (c .bytes-for2 .ensures, c .before .before .before .store-binary .ensures .1 ∙ ap (storeAt (s .args .out .now) (s .args .at)) value)
 
 pub store-digits-spec : {M : Type 1} → statement M
 store-digits-spec =

@@ -1,5 +1,5 @@
 -- In either base the bytes that the call stores are the value's.
-use Rattle.values.proofs.Loads.{loaded-digits}
+use Rattle.values.proofs.Loads.{loaded-digits, digits-limit}
 use borrow.Author.Needs.{needs}
 use Rattle.values.proofs.value.digits.Statement.{statement}
 use Rattle.values.proofs.value.digits.Tie as tie
@@ -19,8 +19,10 @@ returns c =
     let pre = rw hex at (c .before .before .before .before .before .before .before .pre) in
     rw hex (loaded-digits u (pre .0) (c .before .before .load-hex .ensures u))
 
-binary-requires : tie.Need-binary-requires
-binary-requires c κs = rw (c .before .if1 .left) at (c .before .before .before .before .pre)
+load-binary-requires : tie.Need-load-binary-requires
+load-binary-requires c κs =
+    let pre = rw (c .before .if1 .left) at (c .before .before .before .before .pre) in
+    (digits-limit (pre .0), pre .1, pre .0 .within)
 
 same-length-2 : tie.Need-same-length-2
 same-length-2 c = search needs
@@ -30,7 +32,7 @@ returns-2 c =
     λ u.
     let binary = c .before .before .before .before .if1 .left in
     let pre = rw binary at (c .before .before .before .before .before .before .before .pre) in
-    rw binary (loaded-digits u (pre .0) (c .before .before .binary .ensures .1 u))
+    rw binary (loaded-digits u (pre .0) (c .before .before .load-binary .ensures .1 u))
 
 pub digits-spec : {M : Type 1} → statement M
-digits-spec = tie.close (tie.spec load-hex-requires same-length returns binary-requires same-length-2 returns-2)
+digits-spec = tie.close (tie.spec load-hex-requires same-length returns load-binary-requires same-length-2 returns-2)
