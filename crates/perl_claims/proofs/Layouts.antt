@@ -24,6 +24,7 @@ use Rattle.perl_tokens.specs.declared.Letter.the-variants.{Taken, Unknown}
 use Rattle.perl_tokens.specs.Tokens.{maxTemplateCount, continues, withDigit, numberIn, digitsIn, letterOf}
 use Rattle.perl_items.specs.Template.{Single}
 use Rattle.perl_items.specs.Writing.{flagText, textOf}
+use Rattle.perl_claims.specs.Spelling.{Digits as Numerals}
 use Rattle.perl_claims.specs.Claim.{countFor, fieldFor, valued}
 use Rattle.perl_tokens.proofs.Numbers.{number-limit}
 
@@ -73,21 +74,17 @@ our-letter c =
 
 -- ---- a count's digits
 
-abbrev pub Decimals : List ℕ → Type 0
-Decimals [] = Unit {0}
-Decimals (d ∷ ds) = (isDecimal d ≡ true) × Decimals ds
-
 pub record Counts (ds : List ℕ) : Type 0 where
-  pub digits : Decimals ds
+  pub digits : Numerals ds
   pub limit : decimal 0 ds ≤ maxTemplateCount
 
-count-digits : (limit v : ℕ) (cs : List ℕ) → Decimals (take (digitsIn limit v cs) cs) × (decimal v (take (digitsIn limit v cs) cs) ≡ numberIn limit v cs)
+pub count-digits : (limit v : ℕ) (cs : List ℕ) → Numerals (take (digitsIn limit v cs) cs) × (decimal v (take (digitsIn limit v cs) cs) ≡ numberIn limit v cs)
 unfolding digitsIn numberIn decimal continues
 count-digits limit v [] = (tt, refl)
 count-digits limit v (c ∷ cs) = step (isDecimal c) refl (ltb 0 (withDigit v c)) (leb (withDigit v c) limit) (count-digits limit (withDigit v c) cs)
   where
-    step : (d : Bool) → isDecimal c ≡ d → (z t : Bool) → Decimals (take (digitsIn limit (withDigit v c) cs) cs) × (decimal (withDigit v c) (take (digitsIn limit (withDigit v c) cs) cs) ≡ numberIn limit (withDigit v c) cs)
-        → Decimals (take (if d && z && t then suc (digitsIn limit (withDigit v c) cs) else 0) (c ∷ cs)) × (decimal v (take (if d && z && t then suc (digitsIn limit (withDigit v c) cs) else 0) (c ∷ cs)) ≡ (if d && z && t then numberIn limit (withDigit v c) cs else v))
+    step : (d : Bool) → isDecimal c ≡ d → (z t : Bool) → Numerals (take (digitsIn limit (withDigit v c) cs) cs) × (decimal (withDigit v c) (take (digitsIn limit (withDigit v c) cs) cs) ≡ numberIn limit (withDigit v c) cs)
+        → Numerals (take (if d && z && t then suc (digitsIn limit (withDigit v c) cs) else 0) (c ∷ cs)) × (decimal v (take (if d && z && t then suc (digitsIn limit (withDigit v c) cs) else 0) (c ∷ cs)) ≡ (if d && z && t then numberIn limit (withDigit v c) cs else v))
     step false e z t h = (tt, refl)
     step true e false t h = (tt, refl)
     step true e true false h = (tt, refl)
@@ -104,13 +101,13 @@ abbrev Stops : List ℕ → Type 0
 Stops [] = Unit {0}
 Stops (c ∷ cs) = (isDecimal c ≡ false) × (eqb c 42 ≡ false) × (eqb c 117 ≡ false)
 
-run-stops : (ds rest : List ℕ) → Decimals ds → Stops rest → digitRun (ds ++ rest) ≡ length ds
+run-stops : (ds rest : List ℕ) → Numerals ds → Stops rest → digitRun (ds ++ rest) ≡ length ds
 unfolding digitRun
 run-stops [] [] h k = refl
 run-stops [] (c ∷ cs) h k = rw (k .0)
 run-stops (d ∷ ds) rest h k = rw (h .0, run-stops ds rest (h .1) k)
 
-decimal-stops : (v : ℕ) (ds rest : List ℕ) → Decimals ds → Stops rest → decimal v (ds ++ rest) ≡ decimal v ds
+decimal-stops : (v : ℕ) (ds rest : List ℕ) → Numerals ds → Stops rest → decimal v (ds ++ rest) ≡ decimal v ds
 unfolding decimal
 decimal-stops v [] [] h k = refl
 decimal-stops v [] (c ∷ cs) h k = rw (k .0)
@@ -119,7 +116,7 @@ decimal-stops v (d ∷ ds) rest h k = rw (h .0) (decimal-stops (10 * v + (d - 48
 not-digit : (d c : ℕ) → isDecimal c ≡ false → isDecimal d ≡ true → eqb d c ≡ false
 not-digit d c h e = ne-eqb d c (λ z. let f : isDecimal c ≡ true = rw z at e in let w : _≡_ {A = ℕ} 0 1 = cc in omega arith)
 
-count-stops : (ds rest : List ℕ) → Decimals ds → Stops rest → (countOf (ds ++ rest) ≡ countFor ds) × (countLength (ds ++ rest) ≡ length ds)
+count-stops : (ds rest : List ℕ) → Numerals ds → Stops rest → (countOf (ds ++ rest) ≡ countFor ds) × (countLength (ds ++ rest) ≡ length ds)
 unfolding countOf countLength countFor
 count-stops [] [] h k = (refl, refl)
 count-stops [] (c ∷ cs) h k = rw (k .1, k .0) (refl, refl)
@@ -133,7 +130,7 @@ count-limit (d ∷ ds) h = le-leb (decimal 0 (d ∷ ds)) maxCount (omega arith)
 
 -- ---- one item in front of what follows
 
-flag-stops : (u : Bool) (ds rest : List ℕ) → Decimals ds → Stops rest → (flagged (flagText u ++ (ds ++ rest)) ≡ u) × (drop (toNat u) (flagText u ++ (ds ++ rest)) ≡ ds ++ rest)
+flag-stops : (u : Bool) (ds rest : List ℕ) → Numerals ds → Stops rest → (flagged (flagText u ++ (ds ++ rest)) ≡ u) × (drop (toNat u) (flagText u ++ (ds ++ rest)) ≡ ds ++ rest)
 unfolding flagged
 flag-stops true ds rest h s = (refl, refl)
 flag-stops false [] [] h s = (refl, refl)

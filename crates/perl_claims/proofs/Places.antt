@@ -5,20 +5,26 @@ use native.Mathlib.Nat.{eq-or-lt-of-le, lt-of-not-le}
 use native.Mathlib.Decide.{decLe, ℕ-discrete}
 use native.Mathlib.Omega.{arith}
 use mathlib.Core.Path.{_≡_, refl, sym, ap, _∙_, subst}
-use mathlib.Core.Logic.{⊎-elim}
-use mathlib.Core.Bool.{Bool, true, false}
+use mathlib.Core.Logic.{_⊎_, inl, inr, ⊎-elim}
+use mathlib.Core.Bool.{Bool, true, false, _&&_}
+use borrow.Author.Tests.{le-leb, lt-leb}
+use lib.Dec.{leb}
 use mathlib.Core.List.{List, [], _∷_, _++_, append-assoc}
-use lib.ListN.{length, getD, take, drop, length-append, length-drop, List·getD-append}
+use lib.ListN.{length, getD, take, drop, length-append, length-drop, take-append-drop, List·getD-append}
 use lib.Seq.{drop-cons, drop-append-le, drop-at, getD-take, take-add, length-take-le}
-use Rattle.layout.specs.declared.Refusal.the-variants.{BadTemplate}
-use Rattle.layout.specs.Refusals.{if_then_else_, refused}
+use Rattle.layout.specs.declared.Refusal.the-variants.{BadSize, BadTemplate, NoRoom}
+use Rattle.layout.specs.Refusals.{if_then_else_, ok, refused}
+use Rattle.layout.specs.Layout.{maxLayout}
 use Rattle.layout.proofs.Laws.{no-refusal}
 use Rattle.perl_tokens.specs.declared.Letter.{Letter}
 use Rattle.perl_tokens.specs.declared.Letter.the-variants.{Taken, Unknown}
 use Rattle.perl_tokens.specs.Tokens.{maxTemplateCount, maxDepth, maxRepeat, letterOf, continues, withDigit, numberIn, digitsIn, repeatOf}
 use Rattle.perl_items.specs.Template.{Template, Item, done, next, single, group, Reading, read, stray, letterAt, groupAt, andThen, sequence, orRefused, templateOf}
 use Rattle.perl_items.specs.Readers.{itemsFrom, itemFrom}
-use Rattle.perl_claims.specs.Claim.{FirstBad, Places}
+use Rattle.perl.specs.Conversion.{layoutFrom, convertEffect, fromPerl}
+use Rattle.perl_claims.specs.Spelling.{Spells}
+use Rattle.perl_claims.specs.Claim.{Begins, FirstBad, Places, dueFor, BySpellings}
+use Rattle.perl_claims.proofs.Spelling.{Tail, spelled-read, read-spelled}
 use Rattle.perl_readers.proofs.Readings.{Ends, ItemEnds, items-end, item-end, from-end-top, from-space, from-close, from-unopened, from-empty, from-item, from-stray, item-letter, item-deep, item-group, close-inside, group-is}
 use Rattle.perl_claims.proofs.Local.{readEnd, starts, Agree, agree-take, agree-less, SameNumber, same-cons, local}
 
@@ -45,13 +51,7 @@ peek text q c cs e =
     let d : drop (suc q) text ≡ cs = cc in
     (h, b, d)
 
--- ---- what closes a sequence: the end of the text at the top, a `)` in a group
-
-abbrev Tail : ℕ → List ℕ → Type 0
-Tail zero [] = Unit {0}
-Tail zero (c ∷ cs) = ⊥
-Tail (suc d) [] = ⊥
-Tail (suc d) (c ∷ cs) = c ≡ 41
+-- ---- what closes a sequence
 
 tail-digits : (depth : ℕ) (tail : List ℕ) → Tail depth tail → digitsIn maxTemplateCount 0 tail ≡ 0
 unfolding digitsIn continues
@@ -331,7 +331,7 @@ module _ (text : List ℕ) (p : ℕ) (small : p ≤ length text) where
   continued (suc k) depth filled at tail fuel q closed =
       ⊎-elim (λ e. continued-here depth filled at tail e closed) (λ h. further-on k (continued k) depth filled at tail fuel q closed h) (eq-or-lt-of-le (not-later depth filled at q))
 
--- ---- the claim
+-- ---- the claims
 
 first-bad : (text : List ℕ) (p : ℕ) → itemsFrom 0 false text 0 ≡ stray p → FirstBad text p
 unfolding itemsFrom templateOf readEnd
@@ -340,20 +340,85 @@ first-bad text p e =
     let (m, t, f) = continued text p small (length text) 0 false 0 [] (omega arith) e tt in
     record {
       within = small;
-      good = (32 ∷ (m ++ []), t, ap orRefused f);
+      good = (32 ∷ (m ++ []), t, read-spelled (take p text ++ (32 ∷ (m ++ []))) t (ap orRefused f));
       bad = λ h (more, u, o).
           let place : readEnd (sequence 0 false 0 0 text) ≡ p = ap readEnd e in
           let same : sequence 0 false 0 0 (take (suc p) text ++ more) ≡ stray p = local text 0 false 0 0 (take (suc p) text ++ more) (suc p) (omega arith) (omega arith) (agree-take (suc p) text more h) ∙ e in
-          no-refusal (sym (ap orRefused same) ∙ o);
+          no-refusal (sym (ap orRefused same) ∙ spelled-read (take (suc p) text ++ more) u o);
+      ended = λ h u o. no-refusal (sym (ap orRefused e) ∙ spelled-read text u o);
     }
 
-pub places : Places
-unfolding Places templateOf itemsFrom
-places text why place e = go (itemsFrom 0 false text 0) refl e
+-- what a text is: a spelling, or one with a first bad place
+judged : (text : List ℕ) → ((t : Template) × (templateOf text ≡ ok t) × Spells 0 t text) ⊎ ((p : ℕ) × (templateOf text ≡ refused BadTemplate p) × FirstBad text p)
+unfolding templateOf itemsFrom
+judged text = go (itemsFrom 0 false text 0) refl
   where
-    go : (r : Reading Template) → itemsFrom 0 false text 0 ≡ r → orRefused r ≡ refused why place → (why ≡ BadTemplate) × FirstBad text place
-    go (read t end) f q = no-refusal (sym q)
-    go (stray p) f q =
-        let w : why ≡ BadTemplate = cc in
-        let s : p ≡ place = cc in
-        (w, subst (FirstBad text) s (first-bad text p f))
+    go : (r : Reading Template) → itemsFrom 0 false text 0 ≡ r → ((t : Template) × (templateOf text ≡ ok t) × Spells 0 t text) ⊎ ((p : ℕ) × (templateOf text ≡ refused BadTemplate p) × FirstBad text p)
+    go (read t end) e = inl (t, ap orRefused e, read-spelled text t (ap orRefused e))
+    go (stray p) e = inr (p, ap orRefused e, first-bad text p e)
+
+-- a template has no first bad place, and no text has two
+begins-less : (text : List ℕ) (j k : ℕ) → j ≤ k → Begins (take k text) → Begins (take j text)
+begins-less text j k h (more, t, p) =
+    let sum : j + (k - j) ≡ k = omega arith in
+    let parts : take k text ≡ take j text ++ take (k - j) (drop j text) = ap (λ (n : ℕ). take n text) (sym sum) ∙ take-add j (k - j) text in
+    let whole : take k text ++ more ≡ take j text ++ (take (k - j) (drop j text) ++ more) = ap (λ (x : List ℕ). x ++ more) parts ∙ append-assoc (take j text) (take (k - j) (drop j text)) more in
+    (take (k - j) (drop j text) ++ more, t, subst (Spells 0 t) whole p)
+
+no-bad : (text : List ℕ) (t : Template) (p : ℕ) → Spells 0 t text → FirstBad text p → ⊥
+no-bad text t p s b =
+    ⊎-elim (λ e. b .ended e t s) (λ h. b .bad h (drop (suc p) text, t, subst (Spells 0 t) (sym (take-append-drop (suc p) text)) s)) (eq-or-lt-of-le (b .within))
+
+one-place : (text : List ℕ) (p q : ℕ) → FirstBad text p → FirstBad text q → p ≡ q
+one-place text p q a b = omega (arith, earlier p q a b, earlier q p b a)
+  where
+    earlier : (p q : ℕ) → FirstBad text p → FirstBad text q → p < q → ⊥
+    earlier p q a b h = a .bad (omega (arith, b .within)) (begins-less text (suc p) q h (b .good))
+
+pub places : Places
+unfolding Places
+places text place = (λ e. found e (judged text), λ b. met b (judged text))
+  where
+    found : templateOf text ≡ refused BadTemplate place → ((t : Template) × (templateOf text ≡ ok t) × Spells 0 t text) ⊎ ((p : ℕ) × (templateOf text ≡ refused BadTemplate p) × FirstBad text p) → FirstBad text place
+    found e (inl (t, o, s)) = no-refusal (sym e ∙ o)
+    found e (inr (p, o, f)) = let same : p ≡ place = cc in subst (FirstBad text) same f
+
+    met : FirstBad text place → ((t : Template) × (templateOf text ≡ ok t) × Spells 0 t text) ⊎ ((p : ℕ) × (templateOf text ≡ refused BadTemplate p) × FirstBad text p) → templateOf text ≡ refused BadTemplate place
+    met b (inl (t, o, s)) = absurd (no-bad text t place s b)
+    met b (inr (p, o, f)) = o ∙ ap (refused BadTemplate) (one-place text p place f b)
+
+-- ---- every call
+
+call-long : (template buffer : List ℕ) → maxLayout < length template → fromPerl template buffer ≡ convertEffect buffer (refused BadSize 0)
+unfolding fromPerl layoutFrom
+call-long template buffer h = rw (lt-leb (length template) maxLayout h)
+
+call-read : (template buffer : List ℕ) (t : Template) (b : Bool) → length template ≤ maxLayout → templateOf template ≡ ok t → (leb (length (dueFor t)) maxLayout && leb (length (dueFor t)) (length buffer)) ≡ b
+    → fromPerl template buffer ≡ convertEffect buffer (if b then ok (dueFor t) else refused NoRoom 0)
+unfolding fromPerl layoutFrom
+call-read template buffer t true l e h = rw (le-leb (length template) maxLayout l, e, h)
+call-read template buffer t false l e h = rw (le-leb (length template) maxLayout l, e, h)
+
+call-stray : (template buffer : List ℕ) (p : ℕ) → length template ≤ maxLayout → templateOf template ≡ refused BadTemplate p → fromPerl template buffer ≡ convertEffect buffer (refused BadTemplate p)
+unfolding fromPerl layoutFrom
+call-stray template buffer p l e = rw (le-leb (length template) maxLayout l, e)
+
+no-room : (n a b : ℕ) → (a < n) ⊎ (b < n) → (leb n a && leb n b) ≡ false
+no-room n a b (inl h) = rw (lt-leb n a h)
+no-room n a b (inr h) = rw (lt-leb n b h) (and-false (leb n a))
+  where
+    and-false : (x : Bool) → (x && false) ≡ false
+    and-false true = refl
+    and-false false = refl
+
+pub by-spellings : BySpellings
+unfolding Places
+by-spellings = record {
+  long = call-long;
+  served = λ template buffer t l s few room.
+      let fits : (leb (length (dueFor t)) maxLayout && leb (length (dueFor t)) (length buffer)) ≡ true = rw (le-leb (length (dueFor t)) maxLayout few, le-leb (length (dueFor t)) (length buffer) room) in
+      call-read template buffer t true l (spelled-read template t s) fits;
+  crowded = λ template buffer t l s h. call-read template buffer t false l (spelled-read template t s) (no-room (length (dueFor t)) maxLayout (length buffer) h);
+  stray = λ template buffer p l b. call-stray template buffer p l (places template p .1 b);
+  always = λ text. ⊎-elim (λ (t, e, s). inl (t, s)) (λ (p, e, f). inr (p, f)) (judged text);
+}

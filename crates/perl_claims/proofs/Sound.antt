@@ -22,6 +22,7 @@ use Rattle.perl.specs.Conversion.{Converted, layoutFrom, convertEffect, fromPer
 use Rattle.perl_claims.specs.Claim.{result, TakenOver, Claim, Blank, Groups}
 use Rattle.perl_items.specs.Readers.{templateText, itemText}
 use Rattle.perl_items.proofs.Texts.{text-group}
+use Rattle.perl_claims.proofs.Spelling.{read-spelled}
 use Rattle.perl_claims.proofs.Layouts.{OurLetter, our-letter, counts, SoundSingle, Every, text-fields, slots-valued}
 
 unfoldable mutual
@@ -164,7 +165,7 @@ taken-over template buffer (ok text) e z =
     let every : Every SoundSingle (writtenOut (k .0)) = every-written (k .0) (parsed-sound template (k .0) (k .1)) in
     record {
       tree = k .0;
-      parsed = k .1;
+      spelled = read-spelled template (k .0) (k .1);
       text = written;
       short = rw (written, k .2) (k .3);
       fields = λ packing. ap (fieldsOf packing) written ∙ text-fields packing (writtenOut (k .0)) 0 every;
