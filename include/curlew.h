@@ -257,8 +257,8 @@
  *   bytes 12-15   1 where a mean follows, else 0
  *   bytes 16-23   the mean, a big-endian double (zero bytes where there is none)
  *
- * curlew_get_mean takes it out. The sum and the number of marks are whole numbers, so the mean is the double
- * nearest to their quotient.
+ * curlew_get_mean takes it out. The sum and the number of marks are whole numbers, and the mean is the double
+ * nearest to their quotient, at a tie the even one.
  *
  *
  * LAYOUTS FROM PERL
@@ -363,8 +363,10 @@
  * - No run that a call writes (each is said at the call's declaration) overlaps any other run given to the same
  *   call. Runs that are only read may overlap one another.
  * - Nobody else writes any of these runs until the call returns.
+ * - For curlew_mean alone: the rounding mode is to nearest (FE_TONEAREST), as it is at the start of every C
+ *   program. A thread that changed it by fesetround sets it back before it asks for a mean.
  *
- * All that this header promises rests on these three.
+ * All that this header promises rests on these four.
  *
  *
  * THREADS

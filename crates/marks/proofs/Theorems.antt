@@ -19,9 +19,10 @@ use Rattle.record.proofs.Bytes.{All}
 use Rattle.record.proofs.Sizes.{table-sized}
 use Rattle.record.proofs.Tables.{length-slots}
 use Rattle.marks.specs.Mean.{Leg, unset, marked, maxMark, legOf, legsOf, marksOf, unsetOf, sumOf, quotient, meanOf, legs, marksEffect, mean}
-use Rattle.marks.specs.Claims.{isMark, MarkRange, Inserted, none, kept, blank, CountsMore, UnsetCounts, OneMark, least, greatest, Between, MeanBetween, Numeric, MeanNumeric}
+use Rattle.marks.specs.Claims.{isMark, MarkRange, Inserted, none, kept, blank, CountsMore, UnsetCounts, OneMark, least, greatest, Between, MeanBetween, Numeric, MeanNumeric, MeanNearest}
 use Rattle.marks.proofs.LegLaws.{Alike, leg-alike, leg-range, InRange}
 use Rattle.marks.proofs.WalkLaws.{call-served}
+use Rattle.marks.proofs.NearestMean.{quotient-nearest}
 use Rattle.marks.proofs.Division.{exact, quotient-one, quotient-number, quotient-above, quotient-below}
 
 -- ---- what a mark is
@@ -164,6 +165,15 @@ unfolding meanOf
 mean-lies-between slots area ls m ms e is =
     let k : Legs maxSlots (m ∷ ms) = rw is at (call-known slots area ls e) in
     (quotient (sumOf (m ∷ ms)) (length (m ∷ ms)), call-mean slots area ls e ∙ ap meanOf is, mean-between m ms k)
+
+pub mean-nearest : MeanNearest
+unfolding meanOf
+mean-nearest slots area ls m ms e is =
+    let k : Legs maxSlots (m ∷ ms) = rw is at (call-known slots area ls e) in (
+      quotient (sumOf (m ∷ ms)) (length (m ∷ ms)),
+      call-mean slots area ls e ∙ ap meanOf is,
+      quotient-nearest (sumOf (m ∷ ms)) (length (m ∷ ms)) (sum-small (m ∷ ms) k) (omega arith) (omega (arith, k .few)),
+    )
 
 pub one-mark : OneMark
 unfolding meanOf sumOf

@@ -1,20 +1,22 @@
--- What holds of the mean for all tables (02, M-104); the proofs are in proofs/Theorems.antt.
-use Prim.Native.Nat.{ℕ, suc, _+_, _-_, _^_, min, max}
+-- What holds of the mean for all tables (02, M-104); the proofs are in proofs/Theorems.antt, and of `NearestUnique` in proofs/NearestMean.antt.
+use Prim.Native.Nat.{ℕ, suc, _+_, _-_, _*_, _^_, _<_, min, max}
 use mathlib.Core.Path.{_≡_}
 use mathlib.Core.Bool.{Bool, true, false, not, _&&_}
 use mathlib.Core.List.{List, [], _∷_}
 use lib.Dec.{T, eqb, leb}
 use lib.ListN.{length}
 use lib.IntN.{ℤ, pos, negsuc}
-use lib.Ieee.{Float, isNan, le}
+use lib.Ieee.{Float, binary64, toBits, isNan, le}
 use Rattle.layout.specs.Refusals.{if_then_else_, ok}
+use Rattle.real.specs.Patterns.{doubleMagnitude, doubleInfinity}
+use Rattle.real.specs.Narrowing.{Nearest}
 use Rattle.record.specs.declared.slots.Slot.{Slot}
 use Rattle.record.specs.Table.{unset as kindUnset, signed, slotsOf}
 use Rattle.record.specs.Geometry.{tableFits}
 use Rattle.marks.specs.declared.LegMean.{LegMean}
 use Rattle.marks.specs.declared.LegMean.the-variants.{Unmarked, Of}
 use Rattle.marks.specs.declared.Marks.{Marks}
-use Rattle.marks.specs.Mean.{Leg, maxMark, marksOf, double, legs, mean}
+use Rattle.marks.specs.Mean.{Leg, maxMark, marksOf, sumOf, double, legs, mean}
 
 -- ---- what a mark is
 
@@ -83,3 +85,24 @@ Numeric (Of x) = T (not (isNan x))
 
 abbrev pub MeanNumeric : Type 0
 MeanNumeric = (slots area : List ℕ) → Numeric (mean slots area .mean)
+
+-- ---- the mean is the nearest double
+
+-- so many of the units of `doubleMagnitude` are 1
+unfoldable pub unitsOfOne : ℕ
+unitsOfOne = 2 ^ 1074
+
+-- p is the pattern of the double nearest to sum / count: of all finite doubles that are not negative none is nearer, and where another is as near, p is
+-- even. Both sides are multiplied by the count and by the units of 1, so that only whole numbers are compared.
+abbrev pub NearestQuotient : ℕ → ℕ → ℕ → Type 0
+NearestQuotient sum count p = Nearest (λ q. count * doubleMagnitude q) doubleInfinity (sum * unitsOfOne) p
+
+-- The mean is that double of the marks' sum and their count. The machine divides so in the rounding mode to nearest, which every C program starts in.
+abbrev pub MeanNearest : Type 0
+MeanNearest =
+    (slots area : List ℕ) (ls : List Leg) (m : ℕ) (ms : List ℕ) → legs slots area ≡ ok ls → marksOf ls ≡ m ∷ ms
+    → (x : Float) × (mean slots area .mean ≡ Of x) × NearestQuotient (sumOf (m ∷ ms)) (length (m ∷ ms)) (toBits binary64 x)
+
+-- and there is no other
+abbrev pub NearestUnique : Type 0
+NearestUnique = (sum count p q : ℕ) → 0 < count → NearestQuotient sum count p → NearestQuotient sum count q → p ≡ q
