@@ -1,9 +1,10 @@
--- Laws of sheets from the entry outwards, and the two claims with an instance of their premises.
+-- Laws of sheets from the entry outwards, and the claims with an instance of their premises.
 pub mod Entries
 pub mod Tables
 pub mod Sheets
 pub mod Calls
 pub mod Unset
 pub mod Claims
+pub mod Fitting
 mod Bounds
 mod Instance

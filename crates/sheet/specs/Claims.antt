@@ -1,10 +1,12 @@
 -- What a sheet keeps (02, M-100): two claims on the calls, for all tables, sheets, areas, marks and buffers, and both calls one after the
--- other. The proofs are in proofs/Claims.antt, and proofs/Instance.antt meets the premises.
-use Prim.Native.Nat.{ℕ, _+_, _*_, _≤_, _<_}
+-- other; and which version a table is written as (02, M-111). The proofs are in proofs/Claims.antt and proofs/Fitting.antt, and proofs/Instance.antt
+-- meets the premises.
+use Prim.Native.Nat.{ℕ, suc, _+_, _*_, _≤_, _<_}
 use mathlib.Core.Path.{_≡_}
-use mathlib.Core.List.{List, [], _++_, map}
+use mathlib.Core.Bool.{Bool, true, _&&_}
+use mathlib.Core.List.{List, [], _∷_, _++_, map}
 use lib.ListN.{length, take, drop, getD}
-use lib.Dec.{T, eqb}
+use lib.Dec.{T, eqb, leb}
 use Rattle.layout.specs.Refusals.{if_then_else_}
 use Rattle.record.specs.declared.Answer.{Answer}
 use Rattle.record.specs.declared.slots.Slot.{Slot}
@@ -12,8 +14,8 @@ use Rattle.record.specs.Table.{unset, slotsOf, slotWidth, Value, shown}
 use Rattle.record.specs.Geometry.{tableFits}
 use Rattle.record.specs.Packing.{accepted, Packed}
 use Rattle.record.specs.Reading.{Read}
-use Rattle.sheet.specs.Entries.{valueBytes}
-use Rattle.sheet.specs.Sheet.{maxSheet, entriesOf, write, putInto, read}
+use Rattle.sheet.specs.Entries.{Entry, bodyBytes, valueBytes}
+use Rattle.sheet.specs.Sheet.{version1, version2, widthOf, fitsVersion1, maxSheet, entriesOf, write, versionOf, putInto, read}
 
 -- what a slot shows; one that is not set shows no more than that
 unfoldable pub seen : List ℕ → Slot → Value
@@ -63,6 +65,31 @@ abbrev pub SheetKept : Type 0
 SheetKept =
     (sheet slots area : List ℕ) (mark : ℕ) (buffer : List ℕ) → Loaded sheet slots area mark buffer
     → rewritten (read sheet slots area mark) buffer ≡ record { answer = accepted (length sheet) 0; output = sheet ++ drop (length sheet) buffer }
+
+-- ---- the fitting rule
+
+-- the greatest length that version 1 has room for
+abbrev pub maxLength1 : ℕ
+maxLength1 = 65535
+
+-- all lengths that a version 1 sheet of these entries holds: the header's, of all that follows it, and each entry's, of its kind and its value
+unfoldable pub lengthsFor : List Entry → List ℕ
+unfolding bodyBytes
+lengthsFor es = length (bodyBytes (widthOf version1) es) ∷ map (λ (e : Entry). suc (length (e .value))) es
+
+abbrev pub allFit : List ℕ → Bool
+allFit [] = true
+allFit (n ∷ ns) = leb n maxLength1 && allFit ns
+
+-- the header's length alone, which the definitions compare, decides the same
+abbrev pub FittingRule : Type 0
+FittingRule = (es : List Entry) → fitsVersion1 es ≡ allFit (lengthsFor es)
+
+-- so a table that is accepted is written as version 1 exactly where all these lengths fit, and else as version 2
+abbrev pub WrittenVersion : Type 0
+WrittenVersion =
+    (slots area buffer : List ℕ) → write slots area buffer .answer .number ≡ 0
+    → versionOf (sheetOf (write slots area buffer)) ≡ (if allFit (lengthsFor (entriesOf area (slotsOf slots))) then version1 else version2)
 
 -- ---- both calls one after the other
 

@@ -40,7 +40,7 @@ sheetBytes v w es = v ∷ (numberBytes w (length (bodyBytes w es)) ++ bodyBytes 
 abbrev pub inLength : ℕ → ℕ → Bool
 inLength w n = ltb n (256 ^ w)
 
--- the lengths of a version 1 sheet have room in their bytes; that of the header is the greatest
+-- the lengths of a version 1 sheet have room in their bytes; that of the header is the greatest, so that it decides for all (`FittingRule` in Claims)
 unfoldable pub fitsVersion1 : List Entry → Bool
 unfolding bodyBytes
 fitsVersion1 es = inLength (widthOf version1) (length (bodyBytes (widthOf version1) es))

@@ -1,22 +1,19 @@
 -- The reader of M-100 takes the entries before the first real's and not that one, so they end before the sheet does.
-use Prim.Native.Nat.{ℕ, zero, suc, _+_, _≤_, _<_}
+use Prim.Native.Nat.{ℕ, zero, suc, _+_, _<_}
 use native.Mathlib.Omega.{arith}
 use mathlib.Core.Path.{_≡_, refl, sym, ap, ap₂, _∙_}
 use mathlib.Core.Bool.{Bool, true, false, _&&_}
 use mathlib.Core.List.{List, [], _∷_, _++_}
-use borrow.Author.Tests.{le-leb, lt-leb, ne-eqb, eqb-true}
-use lib.Dec.{eqb, leb}
+use borrow.Author.Tests.{le-leb, lt-leb, ne-eqb}
+use lib.Dec.{leb}
 use lib.ListN.{length, drop, getD, length-append}
-use Rattle.layout.specs.declared.Refusal.the-variants.{BadSize, WrongSlots, NoRoom, BadSheet, BadVersion}
-use Rattle.layout.specs.Refusals.{if_then_else_, ok, refused}
-use Rattle.layout.proofs.Laws.{demanded, ok-inj}
+use Rattle.layout.specs.Refusals.{if_then_else_}
 use Rattle.record.specs.Bytes.{join}
-use Rattle.record.specs.Table.{slotsOf}
-use Rattle.sheet.specs.Entries.{Entry, entryBytes, bodyBytes, valueBytes, beginsEntry, entryIn, entriesFrom, entriesIn}
-use Rattle.sheet.specs.Sheet.{headerSize, headerFits, entriesAt, entriesEnd}
+use Rattle.sheet.specs.Entries.{Entry, entryBytes, bodyBytes, beginsEntry, entryIn, entriesFrom, entriesIn}
+use Rattle.sheet.specs.Sheet.{headerSize, entriesAt, entriesEnd}
 use Rattle.sheet.proofs.Entries.{length-entry}
-use Rattle.sheet_older.specs.Older.{olderSheet, olderTable, olderWidth, olderKnown, olderReads}
-use Rattle.sheet_older.specs.Kinds.{firstLast, beginsFirst, firstFrom, firstReads, AllKnown, FirstReal, RealsRefused}
+use Rattle.sheet_older.specs.Older.{olderWidth}
+use Rattle.sheet_older.specs.Kinds.{firstLast, beginsFirst, firstFrom, firstReads, AllKnown, RealsRefused}
 
 body-none : (w : ℕ) → length (bodyBytes w []) ≡ 0
 unfolding bodyBytes join
@@ -58,17 +55,11 @@ module _ (real : Entry) (after : List Entry) (new : firstLast < real .kind) wher
   shorter w (p ∷ before) = omega (arith, body-more w p before, body-more w p (before ++ (real ∷ after)), shorter w before)
 
 pub reals-refused : RealsRefused
-unfolding olderReads firstReads entriesIn entriesEnd
-reals-refused sheet slots area mark es before h f =
-    let x₁ = demanded (leb (length sheet) olderSheet && olderTable (length slots) (length area) mark) BadSize 0 _ es h in
-    let x₂ = demanded (olderKnown sheet) BadVersion 0 _ es (x₁ .1) in
-    let x₃ = demanded (headerFits olderWidth sheet) BadSheet 0 _ es (x₂ .1) in
-    let x₄ = demanded (eqb (entriesEnd olderWidth (entriesAt olderWidth sheet)) (length sheet)) BadSheet (entriesEnd olderWidth (entriesAt olderWidth sheet)) _ es (x₃ .1) in
-    let x₅ = demanded (leb (length (entriesAt olderWidth sheet)) (length (slotsOf slots))) WrongSlots 0 _ es (x₄ .1) in
-    let x₆ = demanded (leb (mark + length (valueBytes (entriesAt olderWidth sheet))) (length area)) NoRoom 0 _ es (x₅ .1) in
-    let all : entriesAt olderWidth sheet ≡ before ++ (f .entry ∷ f .after) = ok-inj (x₆ .1) ∙ f .split in
+unfolding firstReads entriesIn entriesEnd
+reals-refused sheet es before h f slots area mark lent =
+    let all : entriesAt olderWidth sheet ≡ before ++ (f .entry ∷ f .after) = h .entries ∙ f .split in
     let new : firstLast < f .entry .kind = omega (arith, f .is-real) in
     let taken = front (f .entry) (f .after) new olderWidth 0 (drop (headerSize olderWidth) sheet) before (f .known) all in
-    let whole : entriesEnd olderWidth (before ++ (f .entry ∷ f .after)) ≡ length sheet = eqb-true (entriesEnd olderWidth (before ++ (f .entry ∷ f .after))) (length sheet) (rw all at (x₄ .0)) in
+    let whole : entriesEnd olderWidth (before ++ (f .entry ∷ f .after)) ≡ length sheet = ap (entriesEnd olderWidth) (sym (f .split)) ∙ h .whole in
     let short : entriesEnd olderWidth before ≡ length sheet → ⊥ = λ e. omega (arith, whole, shorter (f .entry) (f .after) new olderWidth before) in
-    rw (x₁ .0, x₂ .0, x₃ .0, taken, ne-eqb (entriesEnd olderWidth before) (length sheet) short)
+    rw (lent, h .version, h .header, taken, ne-eqb (entriesEnd olderWidth before) (length sheet) short)

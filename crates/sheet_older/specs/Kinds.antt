@@ -2,7 +2,7 @@
 -- proofs/Reals.antt.
 use Prim.Native.Nat.{ℕ, zero, suc, _+_, _≤_}
 use mathlib.Core.Path.{_≡_}
-use mathlib.Core.Bool.{Bool, _&&_}
+use mathlib.Core.Bool.{Bool, true, _&&_}
 use mathlib.Core.List.{List, [], _∷_, _++_}
 use lib.ListN.{length, drop, getD}
 use lib.Dec.{eqb, leb}
@@ -10,8 +10,8 @@ use Rattle.layout.specs.declared.Refusal.the-variants.{BadSize, WrongSlots, NoR
 use Rattle.layout.specs.Refusals.{if_then_else_, Result, ok, refused, _>>=_, demand}
 use Rattle.record.specs.Table.{unsigned, real, slotsOf}
 use Rattle.sheet.specs.Entries.{Entry, valueBytes, beginsEntry, entryIn}
-use Rattle.sheet.specs.Sheet.{headerSize, headerFits, entriesEnd}
-use Rattle.sheet_older.specs.Older.{olderSheet, olderTable, olderWidth, olderKnown, olderReads}
+use Rattle.sheet.specs.Sheet.{headerSize, headerFits, entriesAt, entriesEnd}
+use Rattle.sheet_older.specs.Older.{olderLent, olderWidth, olderKnown}
 
 -- ---- the reader of M-100
 
@@ -36,7 +36,7 @@ firstFrom w zero (b ∷ bs) =
 unfoldable pub firstReads : List ℕ → List ℕ → List ℕ → ℕ → Result (List Entry)
 unfolding olderKnown headerFits firstFrom entriesEnd slotsOf valueBytes
 firstReads sheet slots area mark = do
-  _ ← demand (leb (length sheet) olderSheet && olderTable (length slots) (length area) mark) BadSize 0
+  _ ← demand (olderLent (length sheet) (length slots) (length area) mark) BadSize 0
   _ ← demand (olderKnown sheet) BadVersion 0
   _ ← demand (headerFits olderWidth sheet) BadSheet 0
   let es = firstFrom olderWidth 0 (drop (headerSize olderWidth) sheet)
@@ -59,9 +59,17 @@ pub record FirstReal (es before : List Entry) : Type 0 where
   pub known : AllKnown before
   pub is-real : entry .kind ≡ real
 
--- Whatever sheet the reader of M-108 accepts, the one before version 2, and whatever it is lent: where an entry is a real's, the reader of M-100 answers 12 at the
--- first such entry.
+-- a version 1 sheet of the entries es, by its bytes alone: its header is sound, and its entries, of kinds up to 4, take all that follows
+pub record Holds (sheet : List ℕ) (es : List Entry) : Type 0 where
+  pub version : olderKnown sheet ≡ true
+  pub header : headerFits olderWidth sheet ≡ true
+  pub entries : entriesAt olderWidth sheet ≡ es
+  pub whole : entriesEnd olderWidth es ≡ length sheet
+
+-- Where an entry of such a sheet is a real's, the reader of M-100 answers 12 at the first such entry, whatever table and area it is lent within its sizes,
+-- with slots and room enough or not.
 abbrev pub RealsRefused : Type 0
 RealsRefused =
-    (sheet slots area : List ℕ) (mark : ℕ) (es before : List Entry) → olderReads sheet slots area mark ≡ ok es → FirstReal es before
+    (sheet : List ℕ) (es before : List Entry) → Holds sheet es → FirstReal es before
+    → (slots area : List ℕ) (mark : ℕ) → olderLent (length sheet) (length slots) (length area) mark ≡ true
     → firstReads sheet slots area mark ≡ refused BadSheet (entriesEnd olderWidth before)

@@ -23,6 +23,10 @@ olderSheet = 65538
 abbrev pub olderTable : ℕ → ℕ → ℕ → Bool
 olderTable slots area mark = leb slots (slotWidth * maxSlots) && eqb (slots % slotWidth) 0 && leb area olderArea && leb mark area
 
+-- not number 1: those, and the sheet
+abbrev pub olderLent : ℕ → ℕ → ℕ → ℕ → Bool
+olderLent sheet slots area mark = leb sheet olderSheet && olderTable slots area mark
+
 -- ---- the call
 
 -- the one version, and the bytes of its lengths
@@ -40,7 +44,7 @@ olderKnown (b ∷ bs) = eqb b olderVersion
 unfoldable pub olderReads : List ℕ → List ℕ → List ℕ → ℕ → Result (List Entry)
 unfolding olderKnown headerFits entriesIn entriesEnd slotsOf valueBytes
 olderReads sheet slots area mark = do
-  _ ← demand (leb (length sheet) olderSheet && olderTable (length slots) (length area) mark) BadSize 0
+  _ ← demand (olderLent (length sheet) (length slots) (length area) mark) BadSize 0
   _ ← demand (olderKnown sheet) BadVersion 0
   _ ← demand (headerFits olderWidth sheet) BadSheet 0
   let es = entriesAt olderWidth sheet
