@@ -3,3 +3,4 @@ mod Counts
 mod Passing
 pub mod Describes
 mod Calls
+mod Instance

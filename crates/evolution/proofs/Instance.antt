@@ -20,7 +20,7 @@ use Rattle.runs.specs.Ends.{endOf}
 use Rattle.evolution.specs.Claim.{Layouts, Reading, Whole, plain, recordBytes, argumentsBy, allBack, due, setBy, startsFrom, starts, carriedOut, fieldsBy}
 
 -- `a3` and then `a03 xS`, with the arguments "ab" and {-2}
-pair : Layouts
+unfoldable pub pair : Layouts
 unfolding fieldsOf plain argumentsFit slotsOf endOf slotCount
 pair = record {
   old = bytes "a3";
@@ -44,14 +44,14 @@ pair = record {
 
 -- The old record and the new one, not cut and cut inside the added fields, each read by the old layout and by the new one, from the mark 1 on,
 -- into eight nines and an area of twelve.
-whole : (packing layout : Bool) → Whole pair packing layout (replicate 8 9) (replicate 12 9) 1
+pub whole : (packing layout : Bool) → Whole pair packing layout (replicate 8 9) (replicate 12 9) 1
 unfolding pair pack setBy filled slotsOf slotCount valueBytes
 whole true true = record { within = omega arith; sizes = tt; enough-slots = omega arith; room = omega arith }
 whole true false = record { within = omega arith; sizes = tt; enough-slots = omega arith; room = omega arith }
 whole false true = record { within = omega arith; sizes = tt; enough-slots = omega arith; room = omega arith }
 whole false false = record { within = omega arith; sizes = tt; enough-slots = omega arith; room = omega arith }
 
-cut-short : (layout : Bool) → Reading pair true layout 5 (replicate 8 9) (replicate 4 9) 1
+pub cut-short : (layout : Bool) → Reading pair true layout 5 (replicate 8 9) (replicate 4 9) 1
 unfolding pair pack setBy filled slotsOf slotCount valueBytes
 cut-short true = record { within = omega arith; sizes = tt; enough-slots = omega arith; room = omega arith }
 cut-short false = record { within = omega arith; sizes = tt; enough-slots = omega arith; room = omega arith }

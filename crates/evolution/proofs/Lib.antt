@@ -6,5 +6,5 @@ mod Arguments
 mod Proper
 pub mod ReadsBack
 mod Reals
-mod Instance
+pub mod Instance
 mod Examples

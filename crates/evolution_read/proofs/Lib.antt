@@ -1,2 +1,3 @@
 -- Laws of the two calls.
 mod Calls
+mod Instance

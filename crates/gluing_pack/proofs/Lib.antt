@@ -1,2 +1,3 @@
 -- Laws of the two packings.
 mod Calls
+mod Instance

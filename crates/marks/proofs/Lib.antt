@@ -5,3 +5,4 @@ pub mod WalkLaws
 mod Division
 pub mod NearestMean
 pub mod Theorems
+mod Instance

@@ -5,3 +5,4 @@ pub mod Spelling
 pub mod Sound
 mod Local
 pub mod Places
+mod Instance

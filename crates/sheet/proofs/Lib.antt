@@ -6,5 +6,5 @@ pub mod Calls
 pub mod Unset
 pub mod Claims
 pub mod Fitting
-mod Bounds
+pub mod Bounds
 mod Instance

@@ -1,2 +1,3 @@
 -- The worked examples of sheets hold.
 pub mod Examples
+mod Instance
