@@ -8,7 +8,9 @@
  * curlew_sheet_write and curlew_sheet_read keep a whole table of values in a file, as a sheet, with the values
  * that are not set; curlew_sheet_rescue keeps what is whole of a damaged one. curlew_compare reads two copies of
  * one record and says what differs. curlew_mean gives the mean of a candidate's marks. curlew_from_perl turns a
- * pack template of Perl into a layout. curlew_layout says how many slots a layout takes and how long its records are.
+ * pack template of Perl into a layout. curlew_layout says how many slots a layout takes and how long its records are,
+ * curlew_promises whether it may grow, loses nothing and may be joined, curlew_extends whether it is another layout
+ * with fields added.
  *
  * Link with libcurlew.a or libcurlew.so. The header serves C99 and C++, the library x86-64. Of other libraries it
  * needs memcpy, memmove and memset alone, which every C library has. It allocates nothing, keeps no state and does no
@@ -167,10 +169,51 @@
  * record of just the length that its fields fill. Read such a record and pack the slots by the same layout, and you
  * have it back; two of them that show the same values are the same bytes.
  *
+ * curlew_promises and curlew_extends say whether all this holds of your layouts: see WHAT A LAYOUT PROMISES.
+ *
  * The reply of a reading is CURLEW_READ_REPLY (16) bytes: behind the answer's three numbers it has the steps, how many
  * fields the reading went through. Fields of x, X and @ count, and so does the one for which the record was too short;
  * fields behind that one do not. The steps are never more than the layout has bytes, and 0 where the reading is
  * refused. curlew_get_steps gets them.
+ *
+ *
+ * WHAT A LAYOUT PROMISES
+ *
+ * curlew_promises takes a layout and answers where it breaks each of three promises, with the reply of
+ * CURLEW_PROMISES_REPLY (16) bytes:
+ *
+ *   CURLEW_OK, grows, keeps, joins
+ *
+ *   grows   it may grow at its end: no X, no @, no `*`, no count of 0
+ *   keeps   reading loses nothing: only a, integers and q Q, b B with counts that 8 divides and h H with even counts;
+ *           no `*`, no count of 0
+ *   joins   it may be joined with other such layouts: no X, no @
+ *
+ * Each of the three is CURLEW_NOWHERE where the promise is kept, and else the byte of the layout at which the first
+ * field stands that breaks it. The layout `a6 A12 Su` answers CURLEW_NOWHERE, 3, CURLEW_NOWHERE: it may grow and be
+ * joined, and byte 3, the A, drops blanks. curlew_get_answer gets grows and keeps, as first and second, and
+ * curlew_get_joins the third. A layout that packing would refuse is refused just so.
+ *
+ * curlew_extends takes last year's layout and this year's. It accepts the two where the new one is the old one with
+ * fields added at its end, or with none, and is one that may grow. Then all is well between the years: either layout
+ * reads the records of both, whole or cut, and gives every field that is whole with its value. The reply is
+ * CURLEW_EXTENDS_REPLY (16) bytes:
+ *
+ *   CURLEW_OK, fields of the old layout, fields added, 0
+ *
+ * Fields count and not the text: they are the same where type, flag and count are. `c3 su` and `c03su` have the same
+ * fields; `c` is not `c1`, since without a count a slot holds exactly one integer. Refused are the layouts that
+ * packing would refuse, the old one first; then, with CURLEW_OTHER_FIELDS, a new layout that does not begin with the
+ * old one's fields, at its first field that differs, or at its length where it has too few; then, with
+ * CURLEW_NOT_PLAIN, one that may not grow, at the first field that breaks this. The fourth number of a refusal says in
+ * which layout the place lies: 0 in the old one, 1 in the new one (curlew_get_which).
+ *
+ *   curlew_extends("A8 S2", 5, "A8 S2 S", 7, reply, sizeof reply)     CURLEW_OK, 2, 1, 0
+ *   curlew_extends("A8 S2", 5, "A8 S3", 5, reply, sizeof reply)       CURLEW_OTHER_FIELDS, 3, 0, 1
+ *   curlew_extends("A8 S2", 5, "A8 S2 c*", 8, reply, sizeof reply)    CURLEW_NOT_PLAIN, 6, 0, 1
+ *
+ * What was added year after year may be asked for each year alone: where this year's layout extends last year's, and
+ * next year's this year's, next year's extends last year's, too.
  *
  *
  * SHEETS: A TABLE KEPT IN A FILE
@@ -290,6 +333,8 @@
  *   mean            CURLEW_OK, how many slots are not set, 0; the mean
  *   from Perl       CURLEW_OK, length of the layout, 0
  *   layout          CURLEW_OK, slots that it takes, length of its shortest record
+ *   promises        CURLEW_OK, where it may not grow, where it loses something; where it may not be joined
+ *   extends         CURLEW_OK, fields of the old layout, fields added; 0 (refused: which layout)
  *   refused         the number of the refusal, the place of the fault, 0
  *
  *   no.  constant            refused because                                        place
@@ -325,12 +370,17 @@
  *   15   CURLEW_BAD_TEMPLATE from Perl: no template goes on with this byte, or the  its byte; the template's
  *                            template ends inside a group                           length
  *   16   CURLEW_BAD_REAL     packing: a NaN among the reals that r R store          the slot
+ *   17   CURLEW_OTHER_FIELDS extends: the new layout does not begin with the        byte of its first field that
+ *                            old one's fields                                       differs; its length
+ *   18   CURLEW_NOT_PLAIN    extends: the new layout has a field that keeps it      byte of that field
+ *                            from growing
  *
  * The checks are made in this order. Packing and reading a record: 1; then 2, 3 and 4 for each field in turn; then
  * 5; then 6 to 10 and 16 for each slot in turn, the lower number first; then 11. Writing a sheet: 1; 7 for each
  * slot in turn; 11. Reading a sheet: 1; 13; 12; 5; 11. Rescuing one: 1; 13; 5; 11. Comparing: all of reading the
  * first copy, then all of reading the second, then 11 for the report. Mean: 1; then 7, 8, 9 and 14 for each slot in
- * turn. From Perl: 1; 15; 11. Layout: 1; then 2, 3 and 4 for each field in turn.
+ * turn. From Perl: 1; 15; 11. Layout, promises: 1; then 2, 3 and 4 for each field in turn. Extends: these for the old
+ * layout, then for the new one; 17; 18.
  *
  * No byte is written before the last of them: a refusal writes the reply and nothing else. A reply of a wrong size
  * makes the call return 1 and write nothing at all.
@@ -349,8 +399,8 @@
  *   template of Perl        at most CURLEW_MAX_TEMPLATE        256 bytes
  *   legs of a rescue        at most CURLEW_MAX_SLOTS            64
  *   reply                   exactly CURLEW_PACK_REPLY, CURLEW_READ_REPLY, CURLEW_SHEET_REPLY, CURLEW_RESCUE_REPLY,
- *                           CURLEW_COMPARE_REPLY, CURLEW_MEAN_REPLY, CURLEW_PERL_REPLY or
- *                           CURLEW_LAYOUT_REPLY bytes
+ *                           CURLEW_COMPARE_REPLY, CURLEW_MEAN_REPLY, CURLEW_PERL_REPLY,
+ *                           CURLEW_LAYOUT_REPLY, CURLEW_PROMISES_REPLY or CURLEW_EXTENDS_REPLY bytes
  *
  * Number 1 compares the lengths that you give to a call with these limits. The output run must be no larger than a
  * record may be, even where the result is short, and so must the run for a sheet. The report of curlew_compare and
@@ -442,6 +492,8 @@
 #define CURLEW_MEAN_REPLY 24
 #define CURLEW_PERL_REPLY 12
 #define CURLEW_LAYOUT_REPLY 12
+#define CURLEW_PROMISES_REPLY 16
+#define CURLEW_EXTENDS_REPLY 16
 #define CURLEW_FINDING_SIZE 12
 
 /* Limits. */
@@ -463,6 +515,9 @@
 
 /* The position in a slot that no record was read into. */
 #define CURLEW_NO_POSITION 4294967295u
+
+/* In the place of a byte where a promise is kept. */
+#define CURLEW_NOWHERE 4294967295u
 
 /* Verdicts of comparing. */
 #define CURLEW_SAME 0
@@ -489,6 +544,8 @@
 #define CURLEW_BAD_MARK 14
 #define CURLEW_BAD_TEMPLATE 15
 #define CURLEW_BAD_REAL 16
+#define CURLEW_OTHER_FIELDS 17
+#define CURLEW_NOT_PLAIN 18
 
 #ifdef __cplusplus
 extern "C" {
@@ -554,6 +611,15 @@ uint32_t curlew_from_perl(const void *perl_template, size_t perl_template_len,
 /* Describes a layout: the slots that it takes and the length of its shortest record. Writes reply. */
 uint32_t curlew_layout(const void *layout, size_t layout_len,
                        uint8_t *reply, size_t reply_len);
+
+/* Says where a layout breaks each promise: to grow, to lose nothing, to be joined. Writes reply. */
+uint32_t curlew_promises(const void *layout, size_t layout_len,
+                         uint8_t *reply, size_t reply_len);
+
+/* Says whether the new layout is the old one with fields added at its end. Writes reply. */
+uint32_t curlew_extends(const void *old_layout, size_t old_layout_len,
+                        const void *new_layout, size_t new_layout_len,
+                        uint8_t *reply, size_t reply_len);
 
 #ifdef __cplusplus
 }
@@ -709,6 +775,18 @@ static inline uint32_t curlew_get_steps(const uint8_t *reply)
     return curlew_get_number(reply + 12);
 }
 
+/* Where the layout may not be joined, out of a reply of curlew_promises. */
+static inline uint32_t curlew_get_joins(const uint8_t *reply)
+{
+    return curlew_get_number(reply + 12);
+}
+
+/* Which layout the place of a refusal is in, 0 for the old one and 1 for the new, out of a reply of curlew_extends. */
+static inline uint32_t curlew_get_which(const uint8_t *reply)
+{
+    return curlew_get_number(reply + 12);
+}
+
 /* Takes the mean out of a reply of curlew_mean. Returns 1, or 0 where no leg is marked: *mean stays as it was then. */
 static inline int curlew_get_mean(const uint8_t *reply, double *mean)
 {
@@ -741,6 +819,8 @@ static inline const char *curlew_refusal(uint32_t number)
     case CURLEW_BAD_MARK: return "the mark lies outside 0 to 1,000,000";
     case CURLEW_BAD_TEMPLATE: return "the template cannot go on like this, or it ends inside a group";
     case CURLEW_BAD_REAL: return "the slot holds a NaN, which no single is stored for";
+    case CURLEW_OTHER_FIELDS: return "the new layout does not begin with the fields of the old one";
+    case CURLEW_NOT_PLAIN: return "the new layout has a field that keeps it from growing";
     default: return "unknown number";
     }
 }

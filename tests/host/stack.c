@@ -123,6 +123,21 @@ static uint32_t layout(void)
     return curlew_layout(EVERY_TYPE, sizeof EVERY_TYPE - 1, reply, sizeof reply);
 }
 
+static uint32_t promises(void)
+{
+    uint8_t reply[CURLEW_PROMISES_REPLY];
+
+    return curlew_promises(EVERY_TYPE, sizeof EVERY_TYPE - 1, reply, sizeof reply);
+}
+
+static uint32_t extends(void)
+{
+    static const char old[] = "a8 A20 Su Iu", new[] = "a8 A20 Su Iu c6";
+    uint8_t reply[CURLEW_EXTENDS_REPLY];
+
+    return curlew_extends(old, sizeof old - 1, new, sizeof new - 1, reply, sizeof reply);
+}
+
 struct call {
     const char *name;
     uint32_t (*make)(void);
@@ -132,6 +147,7 @@ static const struct call calls[] = {
     {"curlew_pack", pack}, {"curlew_read", read_record}, {"curlew_sheet_write", sheet_write},
     {"curlew_sheet_read", sheet_read}, {"curlew_sheet_rescue", sheet_rescue}, {"curlew_compare", compare},
     {"curlew_mean", mean}, {"curlew_from_perl", from_perl}, {"curlew_layout", layout},
+    {"curlew_promises", promises}, {"curlew_extends", extends},
 };
 
 /* How many bytes of stack below this function's frame the call used. */

@@ -8,6 +8,7 @@ ghost use Rattle.host_compare.specs.Calls.{HostCompares};
 ghost use Rattle.host_mean.specs.Calls.{HostMeans};
 ghost use Rattle.host_perl.specs.Calls.{HostConverts};
 ghost use Rattle.host_describe.specs.Calls.{HostDescribes};
+ghost use Rattle.host_promises.specs.Calls.{HostPromises, HostExtends};
 
 // Packs the arguments into `out` by the layout (Tcl's `binary format`).
 #[no_mangle]
@@ -130,4 +131,20 @@ pub extern "C" fn curlew_layout(layout: &[u8], reply: &mut [u8]) -> u32
     ensures { λ r. ⌜ HostDescribes layout reply r ⌝ }
 {
     host_describe::describe(layout, reply)
+}
+
+// Says where a layout breaks each promise: to grow at its end, to lose nothing when it is read, to be joined.
+#[no_mangle]
+pub extern "C" fn curlew_promises(layout: &[u8], reply: &mut [u8]) -> u32
+    ensures { λ r. ⌜ HostPromises layout reply r ⌝ }
+{
+    host_promises::promises(layout, reply)
+}
+
+// Says whether the new layout is the old one with fields added at its end.
+#[no_mangle]
+pub extern "C" fn curlew_extends(old: &[u8], new: &[u8], reply: &mut [u8]) -> u32
+    ensures { λ r. ⌜ HostExtends old new reply r ⌝ }
+{
+    host_promises::extends(old, new, reply)
 }

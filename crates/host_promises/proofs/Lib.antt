@@ -1,0 +1,2 @@
+-- Laws of the two calls for a C host.
+mod Calls

@@ -1,0 +1,2 @@
+-- What the two calls about promises mean for a C host.
+pub mod Calls

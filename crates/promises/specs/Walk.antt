@@ -1,0 +1,68 @@
+-- What the functions inside the two calls compute: numbers of fields at the front of a layout, and the place of one.
+use Prim.Native.Nat.{ℕ, suc, _+_, _*_, _/_, _≤_, _<_}
+use mathlib.Core.Path.{_≡_}
+use mathlib.Core.Bool.{true}
+use mathlib.Core.List.{List, [], _∷_}
+use lib.ListN.{length}
+use lib.Dec.{leb}
+use Rattle.layout.specs.declared.Code.{Code}
+use Rattle.layout.specs.declared.Code.the-variants.{Data, Move}
+use Rattle.layout.specs.declared.Motion.the-variants.{Skip, Back, Goto}
+use Rattle.layout.specs.declared.Shape.the-variants.{Text, Digits, Integers, Reals}
+use Rattle.layout.specs.declared.Field.{Field}
+use Rattle.layout.specs.declared.Parsed.{Parsed}
+use Rattle.layout.specs.declared.Parsed.the-variants.{Fields, Refused}
+use Rattle.layout.specs.Refusals.{if_then_else_, ok, refused}
+use Rattle.layout.specs.Layout.{maxLayout, toNat, fieldsOf}
+use Rattle.layout.specs.Words.{skipNumber, backNumber, gotoNumber, decoded}
+use Rattle.promises.specs.declared.Promise.{Promise}
+use Rattle.promises.specs.declared.Told.{Told}
+use Rattle.promises.specs.Placed.{Placed, placedFields, placeOf}
+use Rattle.promises.specs.Promises.{keptBy, firstBreak, sameField, layoutFields, grown}
+
+-- how many fields at the front keep a promise
+unfoldable pub keptFront : Promise → List Field → ℕ
+keptFront q [] = 0
+keptFront q (f ∷ fs) = if keptBy q f then suc (keptFront q fs) else 0
+
+-- the number that a type has in a word (crates/layout/specs/Words.antt)
+abbrev pub typeIn : Code → ℕ
+typeIn (Data (Text pad)) = pad / 32
+typeIn (Data (Digits hex high)) = 2 + 2 * toNat hex + toNat high
+typeIn (Data (Integers w big)) = (if leb w 1 then 6 else if leb w 2 then 8 else if leb w 4 then 10 else 12) + toNat big
+typeIn (Data (Reals single big)) = (if single then 14 else 16) + toNat big
+typeIn (Move Skip) = skipNumber
+typeIn (Move Back) = backNumber
+typeIn (Move Goto) = gotoNumber
+
+-- how many fields at the front of two layouts are the same
+unfoldable pub sameFront : List Field → List Field → ℕ
+unfolding sameField
+sameFront [] gs = 0
+sameFront (f ∷ fs) [] = 0
+sameFront (f ∷ fs) (g ∷ gs) = if sameField f g then suc (sameFront fs gs) else 0
+
+-- r is the place of field k of a text that is accepted
+pub record PlaceOf (text : List ℕ) (k r : ℕ) : Type 0 where
+  pub within : r ≤ length text
+  pub same : (ps : List Placed) → placedFields text ≡ ok ps → r ≡ placeOf (length text) ps k
+
+-- the words hold n fields, which are those of the text
+pub record Holds (text : List ℕ) (n : ℕ) (ws : List ℕ) : Type 0 where
+  pub few : n ≤ length ws
+  pub room : length ws ≤ maxLayout
+  pub short : length text ≤ maxLayout
+  pub fields : fieldsOf true text ≡ ok (decoded n ws)
+
+-- what is read of a layout: its refusal, or the words of its fields
+abbrev pub ReadAs : List ℕ → Parsed → List ℕ → Type 0
+ReadAs text (Refused why place) ws = (layoutFields text ≡ refused why place) × (place < maxLayout)
+ReadAs text (Fields n slots) ws = Holds text n ws
+
+-- r is the place of the first field of the text that breaks a promise
+abbrev pub BreaksAt : List ℕ → Promise → ℕ → Type 0
+BreaksAt text q r = (ps : List Placed) → placedFields text ≡ ok ps → r ≡ firstBreak q ps
+
+-- r is what is answered of the old fields and of the fields of the new text
+abbrev pub GrownAs : List ℕ → List Field → Told → Type 0
+GrownAs text fs r = (ps : List Placed) → placedFields text ≡ ok ps → r ≡ grown (length text) fs ps

@@ -1,0 +1,325 @@
+// What a layout promises, asked before it is used: whether it may grow at its end (demand 3), whether reading by it loses nothing (M-107), whether it may
+// be joined with others (M-113); and whether a layout is another one with fields added at its end.
+// The definitions are in specs/Promises.antt; what they have to do with the three theorems is claimed and proved in the crate `promises_claims`.
+ghost use mathlib.Core.Path.{_≡_};
+ghost use mathlib.Core.Bool.{_&&_};
+ghost use Prim.Native.Nat.{_≤_, _<_};
+ghost use lib.ListN.{length};
+ghost use Rattle.layout.specs.declared.Code.the-variants.{Move};
+ghost use Rattle.layout.specs.Lent.{before, after};
+ghost use Rattle.layout.specs.Layout.{maxLayout};
+ghost use Rattle.layout.specs.Words.{fieldOf, decoded};
+ghost use Rattle.record.specs.Packing.{refusal};
+ghost use Rattle.runs.specs.Ends.{plainCode, plainCount};
+ghost use Rattle.lossless.specs.Claim.{showsAll, losslessCode};
+ghost use Rattle.promises.specs.Promises.{keptBy, sameField, told, refusedNew, promised, extendedBy, extended};
+ghost use Rattle.promises.specs.Walk.{keptFront, sameFront, typeIn, PlaceOf, Holds, ReadAs, BreaksAt, GrownAs};
+use layout::Code;
+use layout::Count;
+use layout::Field;
+use layout::Motion;
+use layout::Parsed;
+use layout::Refusal;
+use layout::Shape;
+use record::Answer;
+
+// What a layout may promise: to grow at its end, to keep everything that is read, to be joined.
+pub enum Promise {
+    Grows,
+    Keeps,
+    Joins,
+}
+
+// What a call answers: the three numbers of an answer and a fourth.
+pub struct Told {
+    pub answer: Answer,
+    pub fourth: u32,
+}
+
+// What stands for a place where there is none.
+const NOWHERE: u32 = 4294967295;
+
+// The numbers of the two refusals that `extends` alone gives.
+const FIELDS_DIFFER: u32 = 17;
+
+const NOT_PLAIN: u32 = 18;
+
+// ---- the promises, field by field
+
+fn both(a: bool, b: bool) -> bool
+    ensures { λ r. ⌜ r ≡ a && b ⌝ }
+{
+    if a { b } else { false }
+}
+
+fn plain_count(n: Count) -> bool
+    ensures { λ r. ⌜ r ≡ plainCount n ⌝ }
+{
+    match n {
+        Count::Absent => true,
+        Count::Star => false,
+        Count::Times(m) => 1 <= m,
+    }
+}
+
+fn plain_motion(m: Motion) -> bool
+    ensures { λ r. ⌜ r ≡ plainCode (Move m) ⌝ }
+{
+    match m {
+        Motion::Skip => true,
+        Motion::Back => false,
+        Motion::Goto => false,
+    }
+}
+
+fn plain_code(k: Code) -> bool
+    ensures { λ r. ⌜ r ≡ plainCode k ⌝ }
+{
+    match k {
+        Code::Data(_s) => true,
+        Code::Move(m) => plain_motion(m),
+    }
+}
+
+// Whether n items of a shape show every bit of the bytes that they fill.
+fn shows_all(s: Shape, n: usize) -> bool
+    ensures { λ r. ⌜ r ≡ showsAll s n ⌝ }
+{
+    match s {
+        Shape::Text(pad) => pad == 0,
+        Shape::Digits(hex, _high) => { if hex { n % 2 == 0 } else { n % 8 == 0 } }
+        Shape::Integers(_w, _big) => true,
+        Shape::Reals(single, _big) => !single,
+    }
+}
+
+fn lossless_code(k: Code, n: Count) -> bool
+    ensures { λ r. ⌜ r ≡ losslessCode k n ⌝ }
+{
+    match k {
+        Code::Data(s) => shows_all(s, record::amount(n, 0)),
+        Code::Move(_m) => false,
+    }
+}
+
+// Whether a field keeps a promise.
+fn kept_by(q: Promise, f: Field) -> bool
+    ensures { λ r. ⌜ r ≡ keptBy q f ⌝ }
+{
+    let k = f.code;
+    let n = f.count;
+    match q {
+        Promise::Grows => both(plain_code(k), plain_count(n)),
+        Promise::Keeps => both(lossless_code(k, n), plain_count(n)),
+        Promise::Joins => plain_code(k),
+    }
+}
+
+// How many fields at the front of the n words keep a promise.
+fn kept_front(words: &[u32], n: usize, q: Promise) -> usize
+    requires { ⌜ n ≤ length (now words) ⌝ }
+    ensures { λ r. ⌜ r ≡ keptFront q (decoded n (before words)) ⌝ }
+{
+    let mut i: usize = 0;
+    while i < n {
+        let f = layout::field_of(words[i]);
+        if !kept_by(q, f) {
+            return i;
+        }
+        i += 1;
+    }
+    i
+}
+
+// ---- fields that are the same
+
+// The type in a word: its number, and one number for all words whose type stands for `X`.
+const BACK: u32 = 25;
+
+fn type_in(word: u32) -> u32
+    ensures { λ r. ⌜ r ≡ typeIn (fieldOf word .code) ⌝ }
+{
+    let d = word % layout::FLAG_UNIT;
+    if d <= layout::LAST_DATA {
+        return d;
+    }
+    if d == layout::SKIP {
+        return d;
+    }
+    if d == layout::GOTO {
+        return d;
+    }
+    BACK
+}
+
+// Whether two words stand for the same field.
+fn same_field(v: u32, w: u32) -> bool
+    ensures { λ r. ⌜ r ≡ sameField (fieldOf v) (fieldOf w) ⌝ }
+{
+    if type_in(v) != type_in(w) {
+        return false;
+    }
+    v / layout::FLAG_UNIT == w / layout::FLAG_UNIT
+}
+
+// How many fields at the front of the m old and the n new words are the same.
+fn same_front(old: &[u32], m: usize, new: &[u32], n: usize) -> usize
+    requires { ⌜ (m ≤ length (now old)) × (n ≤ length (now new)) ⌝ }
+    ensures { λ r. ⌜ r ≡ sameFront (decoded m (before old)) (decoded n (before new)) ⌝ }
+{
+    let e = record::least(m, n);
+    let mut i: usize = 0;
+    while i < e {
+        if !same_field(old[i], new[i]) {
+            return i;
+        }
+        i += 1;
+    }
+    i
+}
+
+// ---- places
+
+// The place of field k of a text that is accepted; the text's length where it has no more fields.
+fn place_of(text: &[u8], k: usize) -> usize
+    ensures { λ r. ⌜ PlaceOf (before text) k r ⌝ }
+{
+    let mut left = k;
+    let mut at: usize = 0;
+    while at < text.len() {
+        let c = text[at];
+        if c == b' ' {
+            at += 1;
+        } else {
+            if left == 0 {
+                return at;
+            }
+            left -= 1;
+            let t = scanner::tail_at(text, at + 1);
+            at = t.next;
+        }
+    }
+    at
+}
+
+// The place of the first field of a text that breaks a promise; the words are its fields.
+fn first_break(text: &[u8], words: &[u32], n: usize, q: Promise) -> u32
+    requires { ⌜ Holds (now text) n (now words) ⌝ }
+    ensures { λ r. ⌜ BreaksAt (before text) q r ⌝ }
+{
+    let k = kept_front(words, n, q);
+    if n <= k {
+        return NOWHERE;
+    }
+    place_of(text, k) as u32
+}
+
+// ---- the calls
+
+impl Told {
+    fn accepted(first: u32, second: u32, third: u32) -> Told
+        ensures { λ r. ⌜ r ≡ told first second third ⌝ }
+    {
+        Told {
+            answer: Answer::accepted(first, second),
+            fourth: third,
+        }
+    }
+
+    // A layout's own refusal; `which` says whose it is.
+    fn refused(why: Refusal, place: usize, which: u32) -> Told
+        requires { ⌜ place < maxLayout ⌝ }
+        ensures { λ r. ⌜ r ≡ record { answer = refusal why place; fourth = which } ⌝ }
+    {
+        Told {
+            answer: Answer::refused(why, place as u32),
+            fourth: which,
+        }
+    }
+
+    // A refusal of the new layout beside the old one.
+    fn refused_new(number: u32, place: u32) -> Told
+        ensures { λ r. ⌜ r ≡ refusedNew number place ⌝ }
+    {
+        Told {
+            answer: Answer {
+                number: number,
+                first: place,
+                second: 0,
+            },
+            fourth: 1,
+        }
+    }
+}
+
+// Reads a layout into words: its fields, or the refusal that packing by it would give.
+fn read_layout(text: &[u8], words: &mut [u32]) -> Parsed
+    requires { ⌜ length (now words) ≡ maxLayout ⌝ }
+    ensures { λ r. ⌜ ReadAs (before text) r (after words) ⌝ }
+{
+    if layout::MAX_LAYOUT < text.len() {
+        return Parsed::Refused(Refusal::BadSize, 0);
+    }
+    parser::parse(text, true, words)
+}
+
+// Says where a layout breaks each promise: 0 and three places, for growing at its end, for losing nothing when it is read, and for being joined; 4294967295
+// stands for no place. Or the refusal that packing by it would give, 1 to 4, and its place.
+pub fn promises(layout: &[u8]) -> Told
+    ensures { λ r. ⌜ r ≡ promised (before layout) ⌝ }
+{
+    let mut words: [u32; layout::MAX_LAYOUT] = [0; layout::MAX_LAYOUT];
+    let p = read_layout(layout, &mut words);
+    match p {
+        Parsed::Refused(why, place) => Told::refused(why, place, 0),
+        Parsed::Fields(n, _slots) => {
+            let grows = first_break(layout, &words, n, Promise::Grows);
+            let keeps = first_break(layout, &words, n, Promise::Keeps);
+            let joins = first_break(layout, &words, n, Promise::Joins);
+            Told::accepted(grows, keeps, joins)
+        }
+    }
+}
+
+// What is answered of the old layout's fields and those of the new text.
+fn grown(old: &[u32], m: usize, text: &[u8], new: &[u32], n: usize) -> Told
+    requires { ⌜ (m ≤ length (now old)) × (length (now old) ≤ maxLayout) × Holds (now text) n (now new) ⌝ }
+    ensures { λ r. ⌜ GrownAs (before text) (decoded m (before old)) r ⌝ }
+{
+    let k = same_front(old, m, new, n);
+    if k < m {
+        return Told::refused_new(FIELDS_DIFFER, place_of(text, k) as u32);
+    }
+    let b = first_break(text, new, n, Promise::Grows);
+    if b != NOWHERE {
+        return Told::refused_new(NOT_PLAIN, b);
+    }
+    Told::accepted(m as u32, (n - m) as u32, 0)
+}
+
+// The same, with the new text still to be read.
+fn extends_words(old: &[u32], m: usize, new: &[u8]) -> Told
+    requires { ⌜ (m ≤ length (now old)) × (length (now old) ≤ maxLayout) ⌝ }
+    ensures { λ r. ⌜ r ≡ extendedBy (decoded m (before old)) (before new) ⌝ }
+{
+    let mut words: [u32; layout::MAX_LAYOUT] = [0; layout::MAX_LAYOUT];
+    let p = read_layout(new, &mut words);
+    match p {
+        Parsed::Refused(why, place) => Told::refused(why, place, 1),
+        Parsed::Fields(n, _slots) => grown(old, m, new, &words, n),
+    }
+}
+
+// Says whether the new layout is the old one with fields added at its end, so that demand 3 speaks of the two: 0, the fields of the old layout, the fields
+// added, 0. Or the refusal of a layout, 1 to 4, its place, 0, and 0 for the old layout or 1 for the new one; or 17 where the new fields do not begin with
+// the old ones, or 18 where a field of the new layout is not plain, with the place in the new text, 0, and 1.
+pub fn extends(old: &[u8], new: &[u8]) -> Told
+    ensures { λ r. ⌜ r ≡ extended (before old) (before new) ⌝ }
+{
+    let mut words: [u32; layout::MAX_LAYOUT] = [0; layout::MAX_LAYOUT];
+    let p = read_layout(old, &mut words);
+    match p {
+        Parsed::Refused(why, place) => Told::refused(why, place, 0),
+        Parsed::Fields(m, _slots) => extends_words(&words, m, new),
+    }
+}

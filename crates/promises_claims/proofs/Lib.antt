@@ -1,0 +1,5 @@
+-- The claims proved, and the examples.
+mod Examples
+mod Places
+pub mod Promises
+pub mod Extends

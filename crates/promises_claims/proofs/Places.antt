@@ -1,0 +1,59 @@
+-- At each place stands the type character of its field: a step that is a field has read it there, and the text from there on is what is left of it.
+use Prim.Native.Nat.{ℕ, zero, suc, _<_}
+use native.Mathlib.Omega.{arith}
+use native.Mathlib.Nat.{lt-of-not-le}
+use native.Mathlib.Decide.{decLe}
+use mathlib.Core.Path.{_≡_, refl, sym, _∙_, subst}
+use mathlib.Core.Bool.{true}
+use mathlib.Core.List.{List, [], _∷_}
+use lib.ListN.{length, getD, drop, drop-of-length-le}
+use lib.Seq.{drop-cons}
+use Rattle.layout.specs.Refusals.{Result, ok}
+use Rattle.layout.specs.Layout.{Step, space, field, bad, stepOf, extra}
+use Rattle.layout.proofs.Laws.{no-refusal, bound, ok-inj}
+use Rattle.promises.specs.Placed.{Placed, placedBefore, placedFrom, placedFields}
+use Rattle.promises.proofs.Places.{forgotten, Reads, reads-step}
+use Rattle.promises_claims.specs.Claim.{Stand, PlacesOf}
+
+-- ---- the whole text
+
+-- what is left of a text from a place on
+record Left (text : List ℕ) (at c : ℕ) (cs : List ℕ) : Type 0 where
+  inside : at < length text
+  here : getD text at 0 ≡ c
+  after : drop (suc at) text ≡ cs
+
+left : (text : List ℕ) (at c : ℕ) (cs : List ℕ) → drop at text ≡ c ∷ cs → Left text at c cs
+left text at c cs e = elim (decLe (length text) at) [
+  | yes h ↦ (let none : [] ≡ c ∷ cs = sym (drop-of-length-le text h) ∙ e in let z : _≡_ {A = ℕ} 0 1 = cc in absurd (omega arith))
+  | no h ↦ (
+      let k : at < length text = lt-of-not-le h in
+      let both : getD text at 0 ∷ drop (suc at) text ≡ c ∷ cs = sym (drop-cons text at 0 k) ∙ e in
+      record { inside = k; here = cc; after = cc }
+      )
+]
+
+module _ (text : List ℕ) where
+  stand-step : (at c : ℕ) (cs : List ℕ) (s : Step) (rest : Result (List Placed)) → at < length text → getD text at 0 ≡ c → Reads c cs s
+      → ((qs : List Placed) → rest ≡ ok qs → Stand text qs) → (ps : List Placed) → placedBefore at s rest ≡ ok ps → Stand text ps
+  stand-step at c cs space rest h g o ih ps e = ih ps e
+  stand-step at c cs (field f n) rest h g o ih ps e =
+      let (qs, e₁, e₂) = bound rest (λ qs. ok (record { what = f; place = at } ∷ qs)) ps e in
+      subst (Stand text) (ok-inj e₂) (h, rw g (o .0), ih qs e₁)
+  stand-step at c cs (bad why place) rest h g o ih ps e = no-refusal e
+
+  stand-from : (cs : List ℕ) (at n : ℕ) → drop at text ≡ cs → (ps : List Placed) → placedFrom at n cs ≡ ok ps → Stand text ps
+  unfolding placedFrom
+  stand-from [] at n d ps e = subst (Stand text) (ok-inj e) tt
+  stand-from (c ∷ cs) at (suc n) d ps e = stand-from cs (suc at) n (left text at c cs d .after) ps e
+  stand-from (c ∷ cs) at zero d ps e =
+      let l : Left text at c cs = left text at c cs d in
+      let s : Step = stepOf true at c cs in
+      stand-step at c cs s (placedFrom (suc at) (extra s) cs) (l .inside) (l .here) (reads-step at c cs) (λ qs k. stand-from cs (suc at) (extra s) (l .after) qs k) ps e
+
+  pub stands : (ps : List Placed) → placedFields text ≡ ok ps → Stand text ps
+  unfolding placedFields
+  stands ps e = stand-from text 0 0 refl ps e
+
+  pub places-of : PlacesOf text
+  places-of = record { fields = forgotten text; stand = stands }
