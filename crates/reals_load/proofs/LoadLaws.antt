@@ -1,39 +1,35 @@
 -- Laws of reals read from fields: a single by its four bytes in either order, and many singles, one after the other.
-use Prim.Native.Nat.{ℕ, _+_, _*_, _≤_, _<_}
+use Prim.Native.Nat.{ℕ, _+_, _*_, _<_}
 use native.Mathlib.Nat.{mod-eq-of-lt}
 use native.Mathlib.Omega.{arith}
 use mathlib.Core.Path.{_≡_, refl, sym, ap, _∙_}
 use mathlib.Core.Bool.{Bool, true, false}
 use mathlib.Core.List.{List, map, map-map, reverse, reverse-reverse}
-use lib.ListN.{length, drop, getD}
+use lib.ListN.{length, drop}
 use Rattle.layout.specs.declared.Shape.the-variants.{Integers, Reals}
 use Rattle.real.specs.Widening.{doubleOf}
-use Rattle.record.specs.Bytes.{part, pieces, join, digits, number, ordered, numberBytes, numberAt, bigEndian}
+use Rattle.record.specs.Bytes.{part, pieces, join, digits, number, ordered, numberBytes, bigEndian}
 use Rattle.record.specs.Table.{integerBytes}
 use Rattle.record.specs.Reading.{loaded, widened}
-use Rattle.record.proofs.Bytes.{all-ordered, length-ordered, number-digits, digits-number}
+use Rattle.record.proofs.Bytes.{number-digits}
 use Rattle.record.proofs.NumberLaws.{length-numberBytes}
-use Rattle.record.proofs.Stores.{runs, length-part}
-use Rattle.integers.proofs.IntegerLaws.{joined, pieces-take, part-bytes}
+use Rattle.record.proofs.Stores.{runs}
+use Rattle.integers.proofs.IntegerLaws.{joined, pieces-take}
 use Rattle.reals_load.specs.Items.{doubleBytes}
 
 -- ---- one real
 
-order-back : (big : Bool) (p : List ℕ) → reverse (ordered big (reverse p)) ≡ ordered big p
-order-back true p = ap reverse (reverse-reverse p)
-order-back false p = reverse-reverse p
+-- a number below 2^32 by its four bytes
+by-four : (r : ℕ) (ds : List ℕ) → r < 4294967296 → digits 256 4 r ≡ ds → r ≡ number 256 ds
+by-four r ds below e = sym (mod-eq-of-lt below) ∙ sym (number-digits 256 4 r (omega arith)) ∙ ap (number 256) e
 
-pub single-in : (input : List ℕ) (at : ℕ) (big : Bool) (s r : ℕ) → ((i : ℕ) → getD input i 0 < 256) → at + 4 ≤ length input
-    → s ≡ numberAt 4 input at → numberBytes 4 r ≡ ordered big (digits 256 4 s) → r < 4294967296 → r ≡ number 256 (ordered big (part input at 4))
-unfolding numberBytes numberAt
-single-in input at big s r small inside es er below =
-    let p : List ℕ = part input at 4 in
-    let long : length (reverse p) ≡ 4 = length-ordered true p ∙ length-part 4 at input inside in
-    let bytes : digits 256 4 s ≡ reverse p =
-    ap (digits 256 4) es ∙ ap (λ (k : ℕ). digits 256 k (number 256 (reverse p))) (sym long) ∙ digits-number 256 (reverse p) (all-ordered (λ d. d < 256) true p (part-bytes input at 4 small)) in
-    let own : number 256 (digits 256 4 r) ≡ r = number-digits 256 4 r (omega arith) ∙ mod-eq-of-lt below in
-    let turned : digits 256 4 r ≡ ordered big p = sym (reverse-reverse (digits 256 4 r)) ∙ ap reverse (er ∙ ap (ordered big) bytes) ∙ order-back big p in
-    sym own ∙ ap (number 256) turned
+-- the bytes in the lowest places first are a little-endian single; turned round they are a big-endian one
+pub single-low : (p : List ℕ) (big : Bool) (s : ℕ) → s < 4294967296 → digits 256 4 s ≡ ordered false p → big ≡ false → s ≡ number 256 (ordered big p)
+single-low p big s below e little = rw little (by-four s p below e)
+
+pub single-turned : (p : List ℕ) (big : Bool) (s r : ℕ) → digits 256 4 s ≡ ordered false p → numberBytes 4 r ≡ ordered false (digits 256 4 s) → r < 4294967296 → big ≡ true → r ≡ number 256 (ordered big p)
+unfolding numberBytes
+single-turned p big s r e er below first = rw first (by-four r (reverse p) below (sym (reverse-reverse (digits 256 4 r)) ∙ ap reverse (er ∙ e)))
 
 pub length-doubleBytes : (big : Bool) (bs : List ℕ) → length (doubleBytes big bs) ≡ 8
 unfolding doubleBytes

@@ -5,18 +5,28 @@ ghost use Prim.Native.Nat.{_+_, _*_, _≤_};
 ghost use lib.ListN.{length};
 ghost use Rattle.layout.specs.Lent.{before, after};
 ghost use Rattle.layout.specs.Words.{realSize};
-ghost use Rattle.record.specs.Bytes.{part, storeAt};
+ghost use Rattle.record.specs.Bytes.{part, storeAt, number, ordered};
 ghost use Rattle.reals_load.specs.Items.{doubleBytes, realsAt};
 use reals::DOUBLE;
 use reals::SINGLE;
+
+// A single of a field, as a number. In either order the four bytes are loaded at once, the first in the lowest place.
+fn single_at(input: &[u8], at: usize, big: bool) -> u32
+    requires { ⌜ at + 4 ≤ length (now input) ⌝ }
+    ensures { λ r. ⌜ r ≡ number 256 (ordered big (part (before input) at 4)) ⌝ }
+{
+    if big {
+        return reals::in_order(false, byte_runs::four_at(input, at, false) as u32);
+    }
+    byte_runs::four_at(input, at, false) as u32
+}
 
 // Reads the double of one single.
 fn load_single(area: &mut [u8], to: usize, input: &[u8], at: usize, big: bool)
     requires { ⌜ (to + 8 ≤ length (now area)) × (at + 4 ≤ length (now input)) ⌝ }
     ensures { λ _. ⌜ after area ≡ storeAt (before area) to (doubleBytes big (part (before input) at 4)) ⌝ }
 {
-    let s = big_endian::number_at(input, at, SINGLE) as u32;
-    let d = real::widen(reals::in_order(big, s));
+    let d = real::widen(single_at(input, at, big));
     big_endian::put_number(area, to, DOUBLE, d);
 }
 
