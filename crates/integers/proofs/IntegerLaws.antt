@@ -4,7 +4,7 @@ use native.Mathlib.Nat.{add-zero, suc-mul, zero-mul, add-sub-cancel}
 use native.Mathlib.Omega.{arith}
 use mathlib.Core.Path.{_≡_, refl, sym, ap, _∙_}
 use mathlib.Core.Bool.{Bool, true, false}
-use mathlib.Core.List.{List, _++_, map, map-id, map-map, append-assoc, append-nil, reverse}
+use mathlib.Core.List.{List, [], _∷_, _++_, map, map-id, map-map, append-assoc, append-nil, reverse}
 use lib.ListN.{length, take, drop, getD, set, length-reverse}
 use lib.Seq.{take-take, drop-drop}
 use Rattle.record.specs.Bytes.{part, storeAt, pieces, join, digits, number, ordered, numberAt}
@@ -19,6 +19,17 @@ turned-at xs n j h e = rw (← e) (getD-reverse xs j (omega arith))
 
 pub part-bytes : (xs : List ℕ) (start n : ℕ) → ((i : ℕ) → getD xs i 0 < 256) → All (λ d. d < 256) (part xs start n)
 part-bytes xs start n small = all-take (λ d. d < 256) n (drop start xs) (all-drop (λ d. d < 256) start xs (all-below xs small))
+
+-- four digits, put together from the other end
+pub four-turned : (x : ℕ) → digits 256 4 (x % 256 * 16777216 + x / 256 % 256 * 65536 + x / 256 / 256 % 256 * 256 + x / 256 / 256 / 256 % 256) ≡ ordered true (digits 256 4 x)
+unfolding digits number
+four-turned x =
+    let a = x % 256 in
+    let b = x / 256 % 256 in
+    let c = x / 256 / 256 % 256 in
+    let d = x / 256 / 256 / 256 % 256 in
+    let n : a * 16777216 + b * 65536 + c * 256 + d ≡ number 256 (d ∷ c ∷ b ∷ a ∷ []) = omega arith in
+    ap (digits 256 4) n ∙ digits-number 256 (d ∷ c ∷ b ∷ a ∷ []) (omega arith, (omega arith, (omega arith, (omega arith, tt))))
 
 -- ---- runs
 

@@ -1,4 +1,4 @@
-// What storing and reading the integers of `c s S i I w W` share: bytes copied in their order or turned round, pairs of bytes, and runs of eight.
+// What storing and reading the integers of `c s S i I w W` share: bytes copied in their order or turned round, two and four bytes as a number, and runs of eight.
 ghost use mathlib.Core.Path.{_≡_};
 ghost use mathlib.Core.Bool.{true};
 ghost use mathlib.Core.List.{List};
@@ -37,8 +37,29 @@ pub fn pair_at(from: &[u8], at: usize) -> u16
     from[at] as u16 + 256 * from[at + 1] as u16
 }
 
+// Four bytes turned round or not. Of the turning the compiler makes one instruction.
+fn turn_four(x: u32, turn: bool) -> u32
+    ensures { λ r. ⌜ digits 256 4 r ≡ ordered turn (digits 256 4 x) ⌝ }
+{
+    if turn {
+        let x1 = x / 256;
+        let x2 = x1 / 256;
+        let x3 = x2 / 256;
+        return x % 256 * 16777216 + x1 % 256 * 65536 + x2 % 256 * 256 + x3 % 256;
+    }
+    x
+}
+
+// Four bytes as a number, the first in the lowest place, or in the highest where they are turned round.
+pub fn four_at(from: &[u8], at: usize, turn: bool) -> u32
+    requires { ⌜ at + 4 ≤ length (now from) ⌝ }
+    ensures { λ r. ⌜ digits 256 4 r ≡ ordered turn (part (before from) at 4) ⌝ }
+{
+    turn_four(byte_runs::four_at(from, at, false) as u32, turn)
+}
+
 // Stores the eight bytes of a number, the lowest first. Written out like this they become one store.
-fn put_low_first(out: &mut [u8], at: usize, x: u64)
+pub fn put_low_first(out: &mut [u8], at: usize, x: u64)
     requires { ⌜ at + 8 ≤ length (now out) ⌝ }
     ensures { λ _. ⌜ after out ≡ storeAt (before out) at (digits 256 8 x) ⌝ }
 {

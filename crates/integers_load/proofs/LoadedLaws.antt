@@ -1,6 +1,6 @@
 -- Laws of integers that are read: the bytes of one, and those of many, one after the other.
-use Prim.Native.Nat.{ℕ, zero, suc, _+_, _-_, _*_, _/_, _%_, _≤_, _<_}
-use native.Mathlib.Nat.{not-suc-le-zero}
+use Prim.Native.Nat.{ℕ, zero, suc, _+_, _-_, _*_, _/_, _%_, _^_, _≤_, _<_}
+use native.Mathlib.Nat.{not-suc-le-zero, pow-suc, add-mul-mod-self-left, add-mul-div-left}
 use native.Mathlib.Omega.{arith}
 use mathlib.Core.Path.{_≡_, refl, sym, ap, _∙_}
 use mathlib.Core.Bool.{Bool, true, false, not}
@@ -56,6 +56,35 @@ loaded-item w big unsigned bs len some narrow all =
     rw (← fill) (widened-digits w unsigned ds (length-ordered big bs ∙ len) narrow (all-ordered (λ d. d < 256) big bs all)) in
     sym (ap reverse wide ∙ reverse-append ds (replicate (8 - w) (fillerOf unsigned (getD hs 0 0))) ∙ rw (reverse-replicate, ordered-turned big bs))
 
+-- a number above another: the digits of both, one run after the other
+digits-above : (k w a x : ℕ) → a < 256 ^ k → digits 256 (k + w) (a + 256 ^ k * x) ≡ digits 256 k a ++ digits 256 w x
+unfolding digits
+digits-above zero w a x h =
+    let none : a < 1 = h in
+    let is : a + 256 ^ 0 * x ≡ x = omega arith in
+    let count : 0 + w ≡ w = omega arith in
+    rw (is, count)
+digits-above (suc k) w a x h =
+    let under : a < 256 ^ k * 256 = rw (pow-suc 256 k) at h in
+    let rest : a / 256 < 256 ^ k = omega arith in
+    let count : suc k + w ≡ suc (k + w) = omega arith in
+    let is : a + 256 ^ suc k * x ≡ a + 256 * (256 ^ k * x) = rw (pow-suc 256 k) (omega arith) in
+    let some : 0 < 256 = omega arith in
+    rw (count, is, add-mul-mod-self-left a 256 (256 ^ k * x), add-mul-div-left a (256 ^ k * x) some, digits-above k w (a / 256) x rest)
+
+first-digit : (w x : ℕ) → 0 < w → getD (digits 256 w x) 0 0 ≡ x % 256
+unfolding digits
+first-digit zero x h = absurd (not-suc-le-zero h)
+first-digit (suc w) x h = refl
+
+-- read as a number, its field's bytes above the filler
+pub item-digits : (w : ℕ) (big unsigned : Bool) (bs : List ℕ) (fill x : ℕ) → length bs ≡ w → 0 < w → w ≤ 8 → All (λ d. d < 256) bs → digits 256 w x ≡ ordered (not big) bs
+    → fill < 256 ^ (8 - w) → digits 256 (8 - w) fill ≡ replicate (8 - w) (fillerOf unsigned (x % 256)) → digits 256 8 (fill + 256 ^ (8 - w) * x) ≡ itemBytes w big unsigned bs
+item-digits w big unsigned bs fill x long some narrow all field small filled =
+    let eight : 8 ≡ 8 - w + w = omega arith in
+    let top : x % 256 ≡ getD (ordered (not big) bs) 0 0 = sym (first-digit w x some) ∙ ap (λ (l : List ℕ). getD l 0 0) field in
+    ap (λ (k : ℕ). digits 256 k (fill + 256 ^ (8 - w) * x)) eight ∙ digits-above (8 - w) w fill x small ∙ rw (filled, field, top) (loaded-item w big unsigned bs long some narrow all)
+
 -- the same of a record's bytes, stored in two steps
 pub store-widened : (d : List ℕ) (to : ℕ) (input : List ℕ) (at w : ℕ) (big unsigned : Bool) (top fill : ℕ) {d₁ d₂ : List ℕ}
     → ((i : ℕ) → getD input i 0 < 256) → 0 < w → w ≤ 8 → to + 8 ≤ length d → at + w ≤ length input
@@ -104,8 +133,28 @@ pub pair-high-number : (v : ℕ) → v < 65536 → v % 256 * 256 + v / 256 ≡ n
 unfolding digits number
 pair-high-number v h = omega arith
 
--- the item of a pair that was read as a number
-pub pair-item : (input : List ℕ) (at v x y : ℕ) (big unsigned : Bool) → digits 256 2 v ≡ part input at 2 → x ≡ number 256 (ordered big (digits 256 2 v)) → y ≡ widened 2 unsigned x
-    → numberBytes 8 y ≡ itemBytes 2 big unsigned (part input at 2)
+-- ---- integers of one byte, as numbers
+
+one-element : (p : List ℕ) → length p ≡ 1 → p ≡ getD p 0 0 ∷ []
+one-element [] e = absurd (omega arith)
+one-element (a ∷ []) e = refl
+one-element (a ∷ b ∷ xs) e = absurd (omega arith)
+
+alone : (big : Bool) (x : ℕ) → x ≡ number 256 (ordered big (x ∷ []))
+unfolding number
+alone true x = omega arith
+alone false x = omega arith
+
+pub one-number : (input : List ℕ) (at : ℕ) (big : Bool) → at + 1 ≤ length input → getD input at 0 ≡ number 256 (ordered big (part input at 1))
+one-number input at big inside =
+    let p : List ℕ = part input at 1 in
+    let here : at + 0 ≡ at = omega arith in
+    let first : getD p 0 0 ≡ getD input at 0 = part-at input at 1 0 (omega arith) ∙ rw here in
+    let is : p ≡ getD input at 0 ∷ [] = one-element p (length-part 1 at input inside) ∙ ap (λ (x : ℕ). x ∷ []) first in
+    alone big (getD input at 0) ∙ sym (ap (λ (l : List ℕ). number 256 (ordered big l)) is)
+
+-- ---- an item that was read as a number
+
+pub number-item : (w : ℕ) (big unsigned : Bool) (bs : List ℕ) (x y : ℕ) → x ≡ number 256 (ordered big bs) → y ≡ widened w unsigned x → numberBytes 8 y ≡ itemBytes w big unsigned bs
 unfolding itemBytes numberBytes
-pair-item input at v x y big unsigned two is wide = rw (wide, is, two)
+number-item w big unsigned bs x y is wide = rw (wide, is)

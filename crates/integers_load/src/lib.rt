@@ -1,8 +1,9 @@
 // `c s S i I w W`, read: from fields of 1 to 8 bytes into integers of eight big-endian bytes in the area. A field's bytes are the last ones of an
 // item, in their order where the field is big-endian, else turned round.
 ghost use mathlib.Core.Path.{_≡_};
+ghost use mathlib.Core.Bool.{Bool};
 ghost use Prim.Native.Nat.{_+_, _*_, _≤_, _<_};
-ghost use lib.ListN.{length};
+ghost use lib.ListN.{length, replicate};
 ghost use Rattle.layout.specs.declared.Shape.the-variants.{Integers};
 ghost use Rattle.layout.specs.Lent.{before, after};
 ghost use Rattle.record.specs.Bytes.{part, storeAt, digits, number, ordered};
@@ -37,6 +38,42 @@ fn load_item(
     let fill = filler(unsigned, input[at + top]);
     byte_runs::fill(area, to, 8 - w, fill);
     integers::copy_ordered(area, to + (8 - w), input, at, w, !big);
+}
+
+// An integer of one byte with eight: its sign goes on.
+fn widen_one(v: u8, unsigned: bool) -> u64
+    ensures { λ r. ⌜ r ≡ widened 1 unsigned v ⌝ }
+{
+    let x = v as u64;
+    if unsigned {
+        return x;
+    }
+    if x < 128 { x } else { x + 18446744073709551360 }
+}
+
+// Reads one integer of one byte, in which no order shows.
+fn load_one(area: &mut [u8], to: usize, input: &[u8], at: usize, unsigned: bool)
+    requires { ⌜ (to + 8 ≤ length (now area)) × (at + 1 ≤ length (now input)) ⌝ }
+    ensures { λ _. ⌜ ((big : Bool) → after area ≡ storeAt (before area) to (itemBytes 1 big unsigned (part (before input) at 1))) ⌝ }
+{
+    big_endian::put_number(
+        area,
+        to,
+        record::INTEGER_SIZE,
+        widen_one(input[at], unsigned),
+    );
+}
+
+// Reads n integers of one byte each.
+fn load_ones(area: &mut [u8], to: usize, input: &[u8], at: usize, n: usize, unsigned: bool)
+    requires { ⌜ (to + n * 8 ≤ length (now area)) × (at + n ≤ length (now input)) ⌝ }
+    ensures { λ _. ⌜ ((big : Bool) → after area ≡ storeAt (before area) to (integerBytes (loaded (Integers 1 big) unsigned n (part (before input) at (n * 1)) .items))) ⌝ }
+{
+    let mut i = 0;
+    while i < n {
+        load_one(area, to + i * 8, input, at + i, unsigned);
+        i += 1;
+    }
 }
 
 // The number that two bytes make, the low one first or, where `big` says so, last.
@@ -93,6 +130,46 @@ fn load_pairs(
     }
 }
 
+// What stands before the four bytes of a field in the eight of its item, as a number.
+fn fill_four(unsigned: bool, top: u8) -> u32
+    ensures { λ r. ⌜ digits 256 4 r ≡ replicate 4 (fillerOf unsigned top) ⌝ }
+{
+    if unsigned {
+        return 0;
+    }
+    if top < 128 { 0 } else { 4294967295 }
+}
+
+// Reads one integer of four bytes: they and what stands before them become one store.
+fn load_four(area: &mut [u8], to: usize, input: &[u8], at: usize, big: bool, unsigned: bool)
+    requires { ⌜ (to + 8 ≤ length (now area)) × (at + 4 ≤ length (now input)) ⌝ }
+    ensures { λ _. ⌜ after area ≡ storeAt (before area) to (itemBytes 4 big unsigned (part (before input) at 4)) ⌝ }
+{
+    let x = integers::four_at(input, at, !big);
+    let fill = fill_four(unsigned, (x % 256) as u8);
+    integers::put_low_first(area, to, fill as u64 + 4294967296 * x as u64);
+}
+
+// Reads n integers of four bytes each.
+fn load_fours(
+    area: &mut [u8],
+    to: usize,
+    input: &[u8],
+    at: usize,
+    n: usize,
+    big: bool,
+    unsigned: bool,
+)
+    requires { ⌜ (to + n * 8 ≤ length (now area)) × (at + n * 4 ≤ length (now input)) ⌝ }
+    ensures { λ _. ⌜ after area ≡ storeAt (before area) to (integerBytes (loaded (Integers 4 big) unsigned n (part (before input) at (n * 4)) .items)) ⌝ }
+{
+    let mut i = 0;
+    while i < n {
+        load_four(area, to + i * 8, input, at + i * 4, big, unsigned);
+        i += 1;
+    }
+}
+
 // Reads n integers of w bytes each, by their bytes.
 fn load_each(
     area: &mut [u8],
@@ -131,8 +208,14 @@ pub fn load(
     if w == 2 {
         return load_pairs(area, to, input, at, n, big, unsigned);
     }
+    if w == 4 {
+        return load_fours(area, to, input, at, n, big, unsigned);
+    }
     if w == 8 {
         return integers::copy_eights(area, to, input, at, n, !big);
+    }
+    if w == 1 {
+        return load_ones(area, to, input, at, n, unsigned);
     }
     load_each(area, to, input, at, n, w, big, unsigned)
 }

@@ -40,6 +40,36 @@ fn store_pairs(out: &mut [u8], at: usize, area: &[u8], start: usize, n: usize, b
     }
 }
 
+// Stores the four bytes of a number, the lowest first. Written out like this they become one store.
+fn put_four(out: &mut [u8], at: usize, x: u32)
+    requires { ⌜ at + 4 ≤ length (now out) ⌝ }
+    ensures { λ _. ⌜ after out ≡ storeAt (before out) at (digits 256 4 x) ⌝ }
+{
+    out[at] = (x % 256) as u8;
+    let x1 = x / 256;
+    out[at + 1] = (x1 % 256) as u8;
+    let x2 = x1 / 256;
+    out[at + 2] = (x2 % 256) as u8;
+    let x3 = x2 / 256;
+    out[at + 3] = (x3 % 256) as u8;
+}
+
+// Stores the four low-order bytes of each of n integers of the area, as a number.
+fn store_fours(out: &mut [u8], at: usize, area: &[u8], start: usize, n: usize, big: bool)
+    requires { ⌜ (at + n * 4 ≤ length (now out)) × (start + n * 8 ≤ length (now area)) ⌝ }
+    ensures { λ _. ⌜ after out ≡ storeAt (before out) at (stored (Integers 4 big) n (integersIn n (drop start (before area)))) ⌝ }
+{
+    let mut i = 0;
+    while i < n {
+        put_four(
+            out,
+            at + i * 4,
+            integers::four_at(area, start + i * 8 + 4, !big),
+        );
+        i += 1;
+    }
+}
+
 // Stores the w low-order bytes of each of n integers of the area, one after the other.
 fn store_each(out: &mut [u8], at: usize, area: &[u8], start: usize, n: usize, w: usize, big: bool)
     requires { ⌜ (w ≤ 8) × (at + n * w ≤ length (now out)) × (start + n * 8 ≤ length (now area)) ⌝ }
@@ -62,6 +92,9 @@ pub fn store(out: &mut [u8], at: usize, area: &[u8], start: usize, n: usize, w: 
     }
     if w == 2 {
         return store_pairs(out, at, area, start, n, big);
+    }
+    if w == 4 {
+        return store_fours(out, at, area, start, n, big);
     }
     if w == 8 {
         return integers::copy_eights(out, at, area, start, n, !big);

@@ -1,7 +1,9 @@
 -- The pair's number, widened, has the item's eight bytes.
+use Prim.Native.Nat.{ℕ}
 use mathlib.Core.Path.{ap, _∙_}
-use Rattle.record.specs.Bytes.{storeAt}
-use Rattle.integers_load.proofs.LoadedLaws.{pair-item}
+use mathlib.Core.List.{List}
+use Rattle.record.specs.Bytes.{part, storeAt, number, ordered}
+use Rattle.integers_load.proofs.LoadedLaws.{number-item}
 use borrow.Author.Needs.{needs}
 use Rattle.integers_load.proofs.load_pair.Statement.{statement}
 use Rattle.integers_load.proofs.load_pair.Tie as tie
@@ -25,11 +27,12 @@ returns : tie.Need-returns
 returns c =
     let put = c .before .before in
     let wide = put .before in
-    let number = wide .before .before in
-    let pair = number .before in
+    let joined = wide .before .before in
+    let pair = joined .before in
     let a = pair .before .before .before .args in
+    let is = joined .pair-number .ensures ∙ ap (λ (l : List ℕ). number 256 (ordered (a .big) l)) (pair .pair-at .ensures) in
     put .put-number .ensures
-    ∙ ap (storeAt (a .area .now) (a .to)) (pair-item (a .input .now) (a .at) _ _ _ (a .big) (a .unsigned) (pair .pair-at .ensures) (number .pair-number .ensures) (wide .widen-pair .ensures))
+    ∙ ap (storeAt (a .area .now) (a .to)) (number-item 2 (a .big) (a .unsigned) (part (a .input .now) (a .at) 2) _ _ is (wide .widen-pair .ensures))
 
 pub load-pair-spec : {M : Type 1} → statement M
 load-pair-spec =

@@ -1,4 +1,4 @@
--- One integer is stored by itself, as the law of one alone says; more are stored by a loop, that of pairs where they fill two bytes, and whole where they fill eight.
+-- One integer is stored by itself, as the law of one alone says; more are stored by a loop, as numbers where they fill two bytes or four, and whole where they fill eight.
 use native.Mathlib.Omega.{arith}
 use mathlib.Core.Path.{ap, _∙_}
 use Rattle.record.specs.Bytes.{storeAt}
@@ -43,8 +43,8 @@ same-length-2 c = search needs
 returns-2 : tie.Need-returns-2
 returns-2 c = rw (c .before .before .before .before .if2 .taken) (c .before .before .store-pairs .ensures)
 
-copy-eights-requires : tie.Need-copy-eights-requires
-copy-eights-requires c κs =
+store-fours-requires : tie.Need-store-fours-requires
+store-fours-requires c κs =
     let pre = rw (c .before .if3 .taken) at (c .before .before .before .before .before .before .pre) in
     (omega arith, omega arith)
 
@@ -52,11 +52,22 @@ same-length-3 : tie.Need-same-length-3
 same-length-3 c = search needs
 
 returns-3 : tie.Need-returns-3
-returns-3 c =
-    let known = c .before .before .before .before .before .before .before in
+returns-3 c = rw (c .before .before .before .before .if3 .taken) (c .before .before .store-fours .ensures)
+
+copy-eights-requires : tie.Need-copy-eights-requires
+copy-eights-requires c κs =
+    let pre = rw (c .before .if4 .taken) at (c .before .before .before .before .before .before .before .pre) in
+    (omega arith, omega arith)
+
+same-length-4 : tie.Need-same-length-4
+same-length-4 c = search needs
+
+returns-4 : tie.Need-returns-4
+returns-4 c =
+    let known = c .before .before .before .before .before .before .before .before in
     let start = known .before .before in
     let a = start .args in
-    let eight = c .before .before .before .before .if3 .taken in
+    let eight = c .before .before .before .before .if4 .taken in
     let pre = rw eight at (start .pre) in
     rw eight
     (c .before .before .copy-eights .ensures
@@ -65,11 +76,11 @@ returns-3 c =
 store-each-requires : tie.Need-store-each-requires
 store-each-requires c κs = search needs
 
-same-length-4 : tie.Need-same-length-4
-same-length-4 c = search needs
+same-length-5 : tie.Need-same-length-5
+same-length-5 c = search needs
 
-returns-4 : tie.Need-returns-4
-returns-4 c = search needs
+returns-5 : tie.Need-returns-5
+returns-5 c = search needs
 
 pub store-spec : {M : Type 1} → statement M
 store-spec =
@@ -83,9 +94,12 @@ store-spec =
     store-pairs-requires
     same-length-2
     returns-2
-    copy-eights-requires
+    store-fours-requires
     same-length-3
     returns-3
-    store-each-requires
+    copy-eights-requires
     same-length-4
-    returns-4)
+    returns-4
+    store-each-requires
+    same-length-5
+    returns-5)
