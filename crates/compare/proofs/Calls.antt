@@ -1,9 +1,9 @@
 -- What each way out of a call leaves is what the definition gives.
-use Prim.Native.Nat.{ℕ, _+_, _*_, _/_, _≤_, _<_}
+use Prim.Native.Nat.{ℕ, _+_, _-_, _*_, _/_, _≤_, _<_}
 use native.Mathlib.Nat.{zero-add}
 use native.Mathlib.Omega.{arith}
 use mathlib.Core.Path.{_≡_, refl, sym, ap, _∙_, subst}
-use mathlib.Core.Bool.{true, false, _&&_}
+use mathlib.Core.Bool.{Bool, true, false, _&&_}
 use mathlib.Core.List.{List, _++_, map}
 use borrow.Author.Tests.{le-leb, lt-leb, leb-true}
 use lib.Dec.{leb}
@@ -14,19 +14,26 @@ use Rattle.layout.specs.declared.Refusal.the-variants.{BadSize, WrongSlots, NoR
 use Rattle.layout.specs.Refusals.{Result, ok, refused}
 use Rattle.layout.specs.Layout.{fieldsOf, slotCount}
 use Rattle.layout.proofs.Laws.{bound, demanded, no-number-zero}
+use Rattle.layout.specs.Words.{decoded}
+use Rattle.layout.proofs.Decoded.{Learnt}
 use Rattle.record.specs.declared.Answer.{Answer}
 use Rattle.record.specs.Bytes.{storeAt}
 use Rattle.record.specs.Table.{slotWidth, slotsOf, Value, areaBytes, valueBytes}
 use Rattle.record.specs.Geometry.{sizesFit}
 use Rattle.record.specs.Packing.{accepted, refusal}
-use Rattle.record.specs.Reading.{Read, valuesFrom, positionsFrom, reads, putInto, read}
+use Rattle.record.specs.Reading.{Read, valuesFrom, positionsFrom, reads, putInto, read, ReadAll, leftOf}
 use Rattle.record.proofs.Tables.{length-slots}
-use Rattle.checking.specs.Checks.{checked}
-use Rattle.reading.specs.Tables.{TableRoom}
-use Rattle.checking.proofs.Calls.{Fit, fit}
+use Rattle.checking.specs.Sizes.{lentFits}
+use Rattle.checking.specs.Checks.{checked, fitting}
+use Rattle.read_measure.specs.Run.{valuesOf}
+use Rattle.reading.specs.Tables.{putAll, TableRoom}
+use Rattle.checking.proofs.Calls.{Fit, fit, sizes-refuse, parse-refuses, check-fits}
+use Rattle.read_words.specs.Words.{Ready}
+use Rattle.read_words.proofs.Calls.{fit-room}
 use Rattle.record.proofs.Readings.{values-few}
 use Rattle.difference.specs.Rows.{reportWidth}
 use Rattle.compare_report.specs.Report.{rows}
+use Rattle.compare.specs.Steps.{Opened}
 use Rattle.compare.specs.Comparing.{Shown, compares, compareEffect, compare}
 use Rattle.compare_report.specs.Shown.{shownBytes, Holds}
 use Rattle.compare_report.proofs.Rows.{length-rows}
@@ -97,6 +104,66 @@ module _ (layout bs slots area : List ℕ) where
 
     pub check-passes : a .number ≡ 0 → Passes layout bs slots area a
     check-passes = passes-by (reads layout bs slots area 0) refl
+
+-- ---- the same by the fields of the words, read once for both
+
+-- a call whose sizes do not fit
+pub sizes-fail : (layout bs slots area : List ℕ) {t : Bool} {a : Answer} → t ≡ lentFits (length layout) (length slots) (length bs) (length area) 0 → t ≡ false → a ≡ refusal BadSize 0
+    → Fails layout bs slots area a
+sizes-fail layout bs slots area p e q = record { why = BadSize; place = 0; values = sizes-refuse layout bs slots area 0 (sym p ∙ e); answer = q }
+
+-- a layout that is refused
+pub layout-fails : (layout bs slots area : List ℕ) {a : Answer} {why : Refusal} {place : ℕ} → Fit (length layout) (length slots) (length bs) (length area) 0 → fieldsOf false layout ≡ refused why place
+    → a ≡ refusal why place → Fails layout bs slots area a
+layout-fails layout bs slots area {why} {place} sizes e q = record { why = why; place = place; values = parse-refuses layout bs slots area 0 sizes e; answer = q }
+
+-- and one that is read
+pub opened : {layout bs slots area : List ℕ} {n taken : ℕ} {ws : List ℕ} → Fit (length layout) (length slots) (length bs) (length area) 0 → Learnt (fieldsOf false layout) n taken ws
+    → Opened n taken ws layout bs slots area
+opened sizes l = record { fields = l .fields; count = l .taken; few = l .few; room = l .room; sizes = sizes .test }
+
+-- what `fits` answers to either reading, and what is left by the values of the words
+module _ {n taken : ℕ} {ws layout first slots₀ area₀ : List ℕ} (o : Opened n taken ws layout first slots₀ area₀)
+    (bs slots area : List ℕ) (sizes : Fit (length layout) (length slots) (length bs) (length area) 0)
+    {a : Answer} (q : a ≡ fitting (length slots) taken (length area) (length (valueBytes (valuesOf n ws bs)))) where
+  l : Learnt (fieldsOf false layout) n taken ws
+  l = record { fields = o .fields; taken = o .count; few = o .few; room = o .room }
+
+  fits : a ≡ fitting (length slots) taken (length area - 0) (length (valueBytes (valuesOf n ws bs)))
+  fits = let e : length area - 0 ≡ length area = omega arith in q ∙ ap (λ (r : ℕ). fitting (length slots) taken r (length (valueBytes (valuesOf n ws bs)))) (sym e)
+
+  ready : Ready n taken ws bs slots area 0
+  ready =
+      record {
+        few = l .few;
+        room = l .room;
+        count = l .taken;
+        whole = sizes .whole;
+        table = sizes .table;
+        limit = sizes .limit;
+        start = sizes .start;
+      }
+
+  judged : a ≡ checked layout bs slots area 0
+  judged = check-fits layout bs slots area 0 sizes l fits
+
+  pub words-fail : (a .number ≡ 0 → ⊥) → Fails layout bs slots area a
+  words-fail = check-fails layout bs slots area judged
+
+  module _ (z : a .number ≡ 0) where
+    pub words-pass : Passes layout bs slots area a
+    words-pass = check-passes layout bs slots area judged z
+
+    pub words-room : TableRoom (valuesOf n ws bs) slots area 0
+    words-room = fit-room ready fits z
+
+    pub words-left : {x : ReadAll} → x ≡ putAll n ws bs slots area 0 → leftOf x ≡ read layout bs slots area 0
+    unfolding read
+    words-left e =
+        let r = words-pass .run in
+        let same : r .fs ≡ decoded n ws = cc (r .fields, l .fields) in
+        let shown : valuesOf n ws bs ≡ words-pass .vs = ap (valuesFrom bs 0) (sym same) ∙ r .shown in
+        ap leftOf e ∙ rw (r .values, r .fields, shown, same)
 
 -- ---- what a reading leaves
 

@@ -15,7 +15,7 @@ use Rattle.record.specs.Bytes.{part, join, digits}
 use Rattle.record.proofs.Bytes.{length-digits}
 use Rattle.record.proofs.Stores.{length-part}
 use Rattle.difference.specs.Rows.{differing, bitsOf, differingBits}
-use Rattle.difference.proofs.Runs.{part-more}
+use Rattle.difference.proofs.Runs.{part-more, part-add}
 
 -- ---- two bytes
 
@@ -88,17 +88,23 @@ pub none-bits : (ys : List ℕ) → differingBits [] ys ≡ 0
 unfolding bitsOf join differing
 none-bits ys = refl
 
+-- run by run
+bits-append : (xs ys us vs : List ℕ) → length xs ≡ length ys → differingBits (xs ++ us) (ys ++ vs) ≡ differingBits xs ys + differingBits us vs
+bits-append [] [] us vs e = rw (none-bits []) (sym (zero-add (differingBits us vs)))
+bits-append [] (b ∷ ys) us vs e = absurd (omega arith)
+bits-append (a ∷ xs) [] us vs e = absurd (omega arith)
+bits-append (a ∷ xs) (b ∷ ys) us vs e =
+    let l : length xs ≡ length ys = omega arith in
+    bits-cons a b (xs ++ us) (ys ++ vs)
+    ∙ ap (λ (n : ℕ). differing (digits 2 8 a) (digits 2 8 b) + n) (bits-append xs ys us vs l)
+    ∙ sym (add-assoc (differing (digits 2 8 a) (digits 2 8 b)) (differingBits xs ys) (differingBits us vs))
+    ∙ ap (λ (n : ℕ). n + differingBits us vs) (sym (bits-cons a b xs ys))
+
 -- a byte more at the end
 pub bits-more : (xs ys : List ℕ) (x y : ℕ) → length xs ≡ length ys → differingBits (xs ++ (x ∷ [])) (ys ++ (y ∷ [])) ≡ differingBits xs ys + differing (digits 2 8 x) (digits 2 8 y)
-bits-more [] [] x y e = bits-cons x y [] [] ∙ rw (none-bits []) (omega arith)
-bits-more [] (b ∷ ys) x y e = absurd (omega arith)
-bits-more (a ∷ xs) [] x y e = absurd (omega arith)
-bits-more (a ∷ xs) (b ∷ ys) x y e =
-    let l : length xs ≡ length ys = omega arith in
-    bits-cons a b (xs ++ (x ∷ [])) (ys ++ (y ∷ []))
-    ∙ ap (λ (n : ℕ). differing (digits 2 8 a) (digits 2 8 b) + n) (bits-more xs ys x y l)
-    ∙ sym (add-assoc (differing (digits 2 8 a) (digits 2 8 b)) (differingBits xs ys) (differing (digits 2 8 x) (digits 2 8 y)))
-    ∙ ap (λ (n : ℕ). n + differing (digits 2 8 x) (digits 2 8 y)) (sym (bits-cons a b xs ys))
+bits-more xs ys x y e =
+    let one : differingBits (x ∷ []) (y ∷ []) ≡ differing (digits 2 8 x) (digits 2 8 y) = bits-cons x y [] [] ∙ rw (none-bits []) (omega arith) in
+    bits-append xs ys (x ∷ []) (y ∷ []) e ∙ ap (λ (n : ℕ). differingBits xs ys + n) one
 
 -- what lies past the common length does not count
 pub bits-common : (m : ℕ) (xs ys : List ℕ) → min (length xs) (length ys) ≤ m → differingBits (take m xs) (take m ys) ≡ differingBits xs ys
@@ -133,6 +139,16 @@ counted-more {f} {at} {s} {to} {sum} {i} {r} c h k e =
     record {
       is = rw (part-more f at i h, part-more s to i k, bits-more (part f at i) (part s to i) (getD f (at + i) 0) (getD s (to + i) 0) l, ← c .is, ← e);
       small = omega (arith, c .small, byte-few (getD f (at + i) 0) (getD s (to + i) 0) e);
+    }
+
+-- a block more
+pub counted-block : {f : List ℕ} {at : ℕ} {s : List ℕ} {to sum i r : ℕ} (m : ℕ) → Counted f at s to sum i → at + (i + m) ≤ length f → to + (i + m) ≤ length s
+    → r ≡ differingBits (part f (at + i) m) (part s (to + i) m) → r ≤ 8 * m → Counted f at s to (sum + r) (i + m)
+counted-block {f} {at} {s} {to} {sum} {i} {r} m c h k e few =
+    let l : length (part f at i) ≡ length (part s to i) = length-part i at f (omega arith) ∙ sym (length-part i to s (omega arith)) in
+    record {
+      is = rw (part-add f at i m, part-add s to i m, bits-append (part f at i) (part s to i) (part f (at + i) m) (part s (to + i) m) l, ← c .is, ← e);
+      small = omega (arith, c .small);
     }
 
 pub counted-done : {f : List ℕ} {at : ℕ} {s : List ℕ} {to sum i n : ℕ} → Counted f at s to sum i → i ≤ n → n ≤ i → sum ≡ differingBits (part f at n) (part s to n)

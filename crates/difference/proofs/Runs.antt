@@ -3,15 +3,16 @@ use Prim.Native.Nat.{ℕ, zero, suc, _+_, _-_, _≤_, _<_, min}
 use native.Mathlib.Nat.{add-zero, zero-add}
 use native.Mathlib.Numerals.{add-one}
 use native.Mathlib.Omega.{arith}
-use mathlib.Core.Path.{_≡_, refl, sym, ap, _∙_}
-use mathlib.Core.Bool.{Bool, true, false, _&&_}
+use mathlib.Core.Path.{_≡_, refl, sym, ap, ap₂, _∙_}
+use mathlib.Core.Bool.{Bool, true, false, _&&_, true≢false}
 use mathlib.Core.List.{List, [], _∷_, _++_}
 use borrow.Author.Tests.{eq-eqb, ne-eqb}
 use lib.Dec.{eqb}
 use lib.ListN.{length, take, drop, getD, length-drop}
-use lib.Seq.{drop-cons, take-suc, getD-drop}
+use lib.Seq.{drop-cons, take-add, take-suc, drop-drop, getD-drop}
 use Rattle.layout.specs.Refusals.{if_then_else_}
 use Rattle.record.specs.Bytes.{part}
+use Rattle.record.proofs.Bytes.{and-true}
 use Rattle.record.proofs.Stores.{length-part}
 use Rattle.difference.specs.Rows.{same, firstDifference}
 
@@ -24,6 +25,9 @@ pub part-more : (l : List ℕ) (at n : ℕ) → at + n < length l → part l at 
 part-more l at n h =
     let k : n < length (drop at l) = rw length-drop (omega arith) in
     rw (add-one, take-suc (drop at l) n 0 k, getD-drop)
+
+pub part-add : (l : List ℕ) (at n m : ℕ) → part l at (n + m) ≡ part l at n ++ part l (at + n) m
+part-add l at n m = take-add n m (drop at l) ∙ ap (λ (r : List ℕ). part l at n ++ take m r) (drop-drop n at l)
 
 -- ---- where they part
 
@@ -53,11 +57,6 @@ difference-common (suc m) (x ∷ xs) (y ∷ ys) h =
 pub record Alike (f : List ℕ) (at : ℕ) (s : List ℕ) (to n i : ℕ) : Type 0 where
   pub within : i ≤ n
   pub same : firstDifference (part f at n) (part s to n) ≡ i + firstDifference (part f (at + i) (n - i)) (part s (to + i) (n - i))
-
-pub alike-none : (f : List ℕ) (at : ℕ) (s : List ℕ) (to n : ℕ) → Alike f at s to n 0
-alike-none f at s to n =
-    let e : n - 0 ≡ n = omega arith in
-    record { within = omega arith; same = rw (add-zero at, add-zero to, e) (sym (zero-add (firstDifference (part f at n) (part s to n)))) }
 
 module _ {f : List ℕ} {at : ℕ} {s : List ℕ} {to n i : ℕ} (a : Alike f at s to n i) where
   pub alike-done : n ≤ i → i ≡ firstDifference (part f at n) (part s to n)
@@ -103,25 +102,56 @@ and-assoc : (a b c : Bool) → (a && b) && c ≡ a && (b && c)
 and-assoc true b c = refl
 and-assoc false b c = refl
 
+-- run by run
+same-append : (xs ys us vs : List ℕ) → length xs ≡ length ys → same (xs ++ us) (ys ++ vs) ≡ same xs ys && same us vs
+unfolding same
+same-append [] [] us vs e = refl
+same-append [] (b ∷ ys) us vs e = absurd (omega arith)
+same-append (a ∷ xs) [] us vs e = absurd (omega arith)
+same-append (a ∷ xs) (b ∷ ys) us vs e =
+    let l : length xs ≡ length ys = omega arith in
+    rw (same-append xs ys us vs l) (sym (and-assoc (eqb a b) (same xs ys) (same us vs)))
+
 -- a byte more at the end
 same-more : (xs ys : List ℕ) (x y : ℕ) → length xs ≡ length ys → same (xs ++ (x ∷ [])) (ys ++ (y ∷ [])) ≡ same xs ys && eqb x y
 unfolding same
-same-more [] [] x y e = and-end (eqb x y)
+same-more xs ys x y e = same-append xs ys (x ∷ []) (y ∷ []) e ∙ ap (λ (b : Bool). same xs ys && b) (and-end (eqb x y))
   where
-    and-end : (b : Bool) → b && true ≡ true && b
+    and-end : (b : Bool) → b && true ≡ b
     and-end true = refl
     and-end false = refl
-same-more [] (b ∷ ys) x y e = absurd (omega arith)
-same-more (a ∷ xs) [] x y e = absurd (omega arith)
-same-more (a ∷ xs) (b ∷ ys) x y e =
-    let l : length xs ≡ length ys = omega arith in
-    rw (same-more xs ys x y l) (sym (and-assoc (eqb a b) (same xs ys) (eqb x y)))
 
 pub part-same : (f : List ℕ) (at : ℕ) (s : List ℕ) (to i : ℕ) → at + i < length f → to + i < length s
     → same (part f at (i + 1)) (part s to (i + 1)) ≡ same (part f at i) (part s to i) && eqb (getD f (at + i) 0) (getD s (to + i) 0)
 part-same f at s to i h k =
     let l : length (part f at i) ≡ length (part s to i) = length-part i at f (omega arith) ∙ sym (length-part i to s (omega arith)) in
     rw (part-more f at i h, part-more s to i k) (same-more (part f at i) (part s to i) (getD f (at + i) 0) (getD s (to + i) 0) l)
+
+-- a block more
+pub block-same : (f : List ℕ) (at : ℕ) (s : List ℕ) (to i m : ℕ) → at + (i + m) ≤ length f → to + (i + m) ≤ length s
+    → same (part f at i) (part s to i) ≡ true → same (part f (at + i) m) (part s (to + i) m) ≡ true → same (part f at (i + m)) (part s to (i + m)) ≡ true
+block-same f at s to i m h k p q =
+    let l : length (part f at i) ≡ length (part s to i) = length-part i at f (omega arith) ∙ sym (length-part i to s (omega arith)) in
+    rw (part-add f at i m, part-add s to i m, same-append (part f at i) (part s to i) (part f (at + i) m) (part s (to + i) m) l, p, q)
+
+-- two runs part no sooner than after what is the same at their fronts
+difference-past : (xs ys us vs : List ℕ) → same xs ys ≡ true → firstDifference (xs ++ us) (ys ++ vs) ≡ length xs + firstDifference us vs
+unfolding same firstDifference
+difference-past [] [] us vs h = sym (zero-add (firstDifference us vs))
+difference-past [] (y ∷ ys) us vs h = absurd (true≢false (sym h))
+difference-past (x ∷ xs) [] us vs h = absurd (true≢false (sym h))
+difference-past (x ∷ xs) (y ∷ ys) us vs h =
+    let p = and-true (eqb x y) (same xs ys) h in
+    let e : firstDifference (xs ++ us) (ys ++ vs) ≡ length xs + firstDifference us vs = difference-past xs ys us vs (p .1) in
+    rw (p .0) (omega (arith, e))
+
+pub alike-from : (f : List ℕ) (at : ℕ) (s : List ℕ) (to n i : ℕ) → i ≤ n → at + n ≤ length f → to + n ≤ length s → same (part f at i) (part s to i) ≡ true → Alike f at s to n i
+alike-from f at s to n i w h k e =
+    let sum : n ≡ i + (n - i) = omega arith in
+    let p : part f at n ≡ part f at i ++ part f (at + i) (n - i) = ap (part f at) sum ∙ part-add f at i (n - i) in
+    let q : part s to n ≡ part s to i ++ part s (to + i) (n - i) = ap (part s to) sum ∙ part-add s to i (n - i) in
+    let d : firstDifference (part f at i ++ part f (at + i) (n - i)) (part s to i ++ part s (to + i) (n - i)) ≡ length (part f at i) + firstDifference (part f (at + i) (n - i)) (part s (to + i) (n - i)) = difference-past (part f at i) (part s to i) (part f (at + i) (n - i)) (part s (to + i) (n - i)) e in
+    record { within = w; same = ap₂ firstDifference p q ∙ d ∙ ap (λ (m : ℕ). m + firstDifference (part f (at + i) (n - i)) (part s (to + i) (n - i))) (length-part i at f (omega arith)) }
 
 -- runs of different lengths are not the same
 pub same-long : (xs ys : List ℕ) → (length xs ≡ length ys → ⊥) → same xs ys ≡ false

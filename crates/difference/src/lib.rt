@@ -1,7 +1,7 @@
 // Two values as bytes of their areas: whether they are the same, where they part, and how many of their bits differ.
 ghost use mathlib.Core.Path.{_≡_};
-ghost use Prim.Native.Nat.{_+_, _≤_};
-ghost use mathlib.Core.Bool.{_&&_};
+ghost use Prim.Native.Nat.{_+_, _*_, _≤_};
+ghost use mathlib.Core.Bool.{true, _&&_};
 ghost use lib.ListN.{length};
 ghost use Rattle.record.specs.Bytes.{part, digits};
 ghost use Rattle.record.specs.Table.{maxArea};
@@ -18,6 +18,9 @@ pub const ONLY_SECOND: u32 = 2;
 pub const IN_NEITHER: u32 = 3;
 
 const BOTH_DIFFER: u32 = 4;
+
+// So many bytes are looked at together.
+const BLOCK: usize = 16;
 
 // A row of the report: the verdict; for values that differ, where they part, and how many bits differ.
 pub struct Row {
@@ -68,12 +71,27 @@ fn same(first: &[u8], at: usize, n: usize, second: &[u8], to: usize, m: usize) -
     same_bytes(first, at, second, to, n)
 }
 
+// The bytes at the front of both that are the same, in whole blocks.
+fn equal_blocks(first: &[u8], at: usize, second: &[u8], to: usize, n: usize) -> usize
+    requires { ⌜ (at + n ≤ length (now first)) × (to + n ≤ length (now second)) ⌝ }
+    ensures { λ r. ⌜ (r ≤ n) × (same (part (now (first .entry)) at r) (part (now (second .entry)) to r) ≡ true) ⌝ }
+{
+    let mut i: usize = 0;
+    while BLOCK <= n - i {
+        if !same_bytes(first, at + i, second, to + i, BLOCK) {
+            return i;
+        }
+        i += BLOCK;
+    }
+    i
+}
+
 // The first of n bytes at which the two part; n where none does.
 fn first_difference(first: &[u8], at: usize, second: &[u8], to: usize, n: usize) -> usize
     requires { ⌜ (at + n ≤ length (now first)) × (to + n ≤ length (now second)) ⌝ }
     ensures { λ r. ⌜ r ≡ firstDifference (part (now (first .entry)) at n) (part (now (second .entry)) to n) ⌝ }
 {
-    let mut i: usize = 0;
+    let mut i = equal_blocks(first, at, second, to, n);
     while i < n {
         if first[at + i] != second[to + i] {
             return i;
@@ -90,6 +108,20 @@ fn byte_bits(a: u8, b: u8) -> u32
     u8::count_ones(a ^ b)
 }
 
+// The bits that differ over the n bytes of a block at most: their sum has room in a byte, so that the bytes of a block are summed all at once.
+fn block_bits(first: &[u8], at: usize, second: &[u8], to: usize, n: usize) -> u8
+    requires { ⌜ (at + n ≤ length (now first)) × (to + n ≤ length (now second)) × (n ≤ 16) ⌝ }
+    ensures { λ r. ⌜ (r ≡ differingBits (part (now (first .entry)) at n) (part (now (second .entry)) to n)) × (r ≤ 8 * n) ⌝ }
+{
+    let mut sum: u8 = 0;
+    let mut i: usize = 0;
+    while i < n {
+        sum += byte_bits(first[at + i], second[to + i]) as u8;
+        i += 1;
+    }
+    sum
+}
+
 // The bits that differ over n bytes of both.
 fn differing_bits(first: &[u8], at: usize, second: &[u8], to: usize, n: usize) -> u32
     requires { ⌜ (at + n ≤ length (now first)) × (to + n ≤ length (now second)) × (n ≤ maxArea) ⌝ }
@@ -98,8 +130,10 @@ fn differing_bits(first: &[u8], at: usize, second: &[u8], to: usize, n: usize) -
     let mut sum: u32 = 0;
     let mut i: usize = 0;
     while i < n {
-        sum += byte_bits(first[at + i], second[to + i]);
-        i += 1;
+        let m = record::least(n - i, BLOCK);
+        let bits = block_bits(first, at + i, second, to + i, m);
+        sum += bits as u32;
+        i += m;
     }
     sum
 }

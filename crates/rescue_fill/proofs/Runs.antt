@@ -20,6 +20,7 @@ use Rattle.sheet.specs.Entries.{Entry, valueBytes, entriesIn}
 use Rattle.sheet.specs.Sheet.{headerSize, widthIn, entriesAt, slotNumbers, putInto}
 use Rattle.sheet.specs.Steps.{lentFits}
 use Rattle.sheet_check.specs.Steps.{frontOf, ExtentOf}
+use Rattle.sheet_check.proofs.Walks.{found-there, found-front}
 use Rattle.sheet_fill.specs.Steps.{Room}
 use Rattle.sheet.proofs.Calls.{Lent, lent}
 use Rattle.rescue_fill.specs.declared.Rescued.{Rescued}
@@ -78,6 +79,13 @@ module _ {sheet : List ℕ} {legs : ℕ} {slots area : List ℕ} {mark : ℕ} (o
     m : ExtentOf (widthIn sheet) (frontOf (widthIn sheet) legs sheet) sheet x
     m = subst (λ (n : ℕ). ExtentOf n (frontOf n legs sheet) sheet x) same front
 
+    -- the second pass takes as many as the first has found
+    found : frontOf w (x .entries) sheet ≡ frontOf (widthIn sheet) legs sheet
+    found = found-front legs front ∙ ap (λ (n : ℕ). frontOf n legs sheet) same
+
+    pub all-found : x .entries ≤ length (entriesAt w sheet)
+    all-found = found-there legs front
+
     pub kept-few : x .entries ≤ legs
     kept-few = omega (arith, m .entries, length-take legs (entriesAt (widthIn sheet) sheet))
 
@@ -86,9 +94,9 @@ module _ {sheet : List ℕ} {legs : ℕ} {slots area : List ℕ} {mark : ℕ} (o
     no-room h = rescue-room sheet legs slots area mark (o .sizes) (o .versions) (o .rows) (omega (arith, m .values, bounds .start))
 
     module _ (fits : x .values ≤ length area - mark) where
-      pub has-room : Room (frontOf w legs sheet) slots area mark
+      pub has-room : Room (frontOf w (x .entries) sheet) slots area mark
       has-room =
-          subst (λ (n : ℕ). Room (frontOf n legs sheet) slots area mark) (sym same)
+          subst (λ (es : List Entry). Room es slots area mark) (sym found)
           (record {
             rows = omega (arith, m .entries, kept-few, there);
             table = bounds .lengths .table;
@@ -96,9 +104,9 @@ module _ {sheet : List ℕ} {legs : ℕ} {slots area : List ℕ} {mark : ℕ} (o
             limit = bounds .lengths .limit;
           })
 
-      module _ {a : Answer} {slots₁ area₁ : List ℕ} (g : record { answer = a; slots = slots₁; area = area₁ } ≡ putInto slots area mark (frontOf w legs sheet)) where
+      module _ {a : Answer} {slots₁ area₁ : List ℕ} (g : record { answer = a; slots = slots₁; area = area₁ } ≡ putInto slots area mark (frontOf w (x .entries) sheet)) where
         f : record { answer = a; slots = slots₁; area = area₁ } ≡ putInto slots area mark (frontOf (widthIn sheet) legs sheet)
-        f = g ∙ ap (λ (n : ℕ). putInto slots area mark (frontOf n legs sheet)) same
+        f = g ∙ ap (putInto slots area mark) found
 
         filled : slots₁ ≡ putInto slots area mark (frontOf (widthIn sheet) legs sheet) .slots
         filled = ap (λ (r : Read). r .slots) f

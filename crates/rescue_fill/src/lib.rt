@@ -89,7 +89,7 @@ pub fn rescue_entries(
     if area.len() - mark < x.values {
         return Rescued::refused(Refusal::NoRoom);
     }
-    sheet_fill::fill(sheet, w, legs, slots, area, mark);
+    sheet_fill::fill(sheet, w, x.entries, slots, area, mark);
     blank(slots, x.entries, legs - x.entries);
     Rescued::saved(x.entries, legs - x.entries, sheet.len() - x.end)
 }

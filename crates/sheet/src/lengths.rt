@@ -31,10 +31,15 @@ pub fn width_of(version: u8) -> usize
     }
 }
 
+// The length of w bytes at a place. A sheet of version 1 is the usual one: there the width is a constant, and the loop of number_at is written out.
 pub fn length_at(bytes: &[u8], at: usize, w: usize) -> usize
     requires { ⌜ (w ≤ integerSize) × (at + w ≤ length (now bytes)) ⌝ }
     ensures { λ r. ⌜ r ≡ numberAt w (drop at (now (bytes .entry))) 0 ⌝ }
 {
+    if w == WIDTH_1 {
+        let n = big_endian::number_at(bytes, at, WIDTH_1);
+        return n as usize;
+    }
     let n = big_endian::number_at(bytes, at, w);
     n as usize
 }

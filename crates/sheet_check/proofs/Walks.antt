@@ -1,5 +1,5 @@
 -- What a run over the entries keeps, and what the pass that measures them keeps: the entries so far, and their values measured.
-use Prim.Native.Nat.{ℕ, suc, _+_, _-_, _≤_, _<_}
+use Prim.Native.Nat.{ℕ, zero, suc, _+_, _-_, _≤_, _<_}
 use native.Mathlib.Nat.{zero-add}
 use native.Mathlib.Omega.{arith}
 use mathlib.Core.Path.{_≡_, refl, sym, ap, _∙_}
@@ -7,7 +7,7 @@ use mathlib.Core.Bool.{Bool, true, false, _&&_}
 use mathlib.Core.List.{List, [], _∷_, _++_, append-assoc, append-nil}
 use borrow.Author.Tests.{ltb-true, ltb-false}
 use lib.Dec.{ltb}
-use lib.ListN.{length, take, drop, getD, length-append, length-drop}
+use lib.ListN.{length, take, drop, getD, length-append, length-take, length-drop}
 use lib.Seq.{take-nil, take-append-add, drop-drop, getD-drop}
 use Rattle.record.specs.Bytes.{part, join, numberAt}
 use Rattle.record.proofs.Bytes.{and-true}
@@ -77,6 +77,14 @@ module _ {w : ℕ} {sheet : List ℕ} {at : ℕ} {es : List Entry} (k : Walked w
       go : (t : Bool) → ltb (length es) most ≡ t → t && beginsEntry w (drop at sheet) ≡ false → take (most - length es) (entriesIn w (drop at sheet)) ≡ []
       go true q f = rw (entries-none w (drop at sheet) f) (take-nil (most - length es))
       go false q f = let none : most - length es ≡ 0 = omega (arith, ltb-false (length es) most q) in rw none
+
+  -- and where there are more, the next one stands here
+  pub walked-begins : length es < length (entriesAt w sheet) → beginsEntry w (drop at sheet) ≡ true
+  walked-begins less = go (beginsEntry w (drop at sheet)) refl
+    where
+      go : (t : Bool) → beginsEntry w (drop at sheet) ≡ t → t ≡ true
+      go true q = refl
+      go false q = absurd (omega (arith, ap length (k .same), length-append es (entriesIn w (drop at sheet)), ap length (entries-none w (drop at sheet) q)))
 
   module _ (h : beginsEntry w (drop at sheet) ≡ true) where
     pub walked-there : There w sheet at (entryIn w (drop at sheet))
@@ -149,3 +157,18 @@ module _ {w : ℕ} {sheet : List ℕ} {most at entries values : ℕ} (m : Measur
         within = m .walk .within;
         small = m .small;
       })
+
+-- ---- what the first pass answers
+
+-- as many as it found are there, and the first so many are those it found
+module _ {w : ℕ} {sheet : List ℕ} (most : ℕ) {x : Extent} (m : ExtentOf w (frontOf w most sheet) sheet x) where
+  pub found-there : x .entries ≤ length (entriesAt w sheet)
+  found-there = omega (arith, m .entries, length-take most (entriesAt w sheet))
+
+  pub found-front : frontOf w (x .entries) sheet ≡ frontOf w most sheet
+  found-front = ap (λ (n : ℕ). frontOf w n sheet) (m .entries) ∙ again most (entriesAt w sheet)
+    where
+      again : (n : ℕ) (es : List Entry) → take (length (take n es)) es ≡ take n es
+      again zero es = refl
+      again (suc n) [] = refl
+      again (suc n) (e ∷ es) = ap (λ (r : List Entry). e ∷ r) (again n es)

@@ -94,7 +94,7 @@ pub struct Extent {
 }
 
 // One more entry is due after so many, and stands whole at a place.
-pub fn entry_due(sheet: &[u8], at: usize, w: usize, done: usize, most: usize) -> bool
+fn entry_due(sheet: &[u8], at: usize, w: usize, done: usize, most: usize) -> bool
     requires { ⌜ (w ≤ integerSize) × (at ≤ length (now sheet)) ⌝ }
     ensures { λ r. ⌜ r ≡ entryDue w (before sheet) at done most ⌝ }
 {

@@ -1,10 +1,11 @@
 -- What the pass that writes keeps: the entries so far, and the table and area that hold them.
-use Prim.Native.Nat.{ℕ, suc, _+_, _-_, _*_, _/_, _≤_}
+use Prim.Native.Nat.{ℕ, suc, _+_, _-_, _*_, _/_, _≤_, _<_}
 use native.Mathlib.Nat.{add-assoc, add-zero, zero-add, div-le-self}
 use native.Mathlib.Omega.{arith}
 use mathlib.Core.Path.{_≡_, refl, sym, ap, _∙_}
 use mathlib.Core.Bool.{Bool, true, false}
 use mathlib.Core.List.{List, [], _∷_, _++_}
+use borrow.Author.Tests.{le-ltb}
 use lib.Dec.{eqb}
 use lib.ListN.{length, drop, getD, length-append}
 use Rattle.layout.specs.Refusals.{if_then_else_}
@@ -14,9 +15,9 @@ use Rattle.record.specs.Table.{slotWidth, noPosition, maxSlots, maxArea, itemSi
 use Rattle.record.specs.Packing.{accepted}
 use Rattle.record.proofs.Stores.{length-storeAt, store-none}
 use Rattle.sheet.specs.Entries.{Entry, valueBytes, beginsEntry, entryIn}
-use Rattle.sheet.specs.Sheet.{headerSize, entryNumbers, slotNumbers, putInto}
-use Rattle.sheet_check.specs.Steps.{frontOf, entryDue}
-use Rattle.sheet_check.proofs.Walks.{values-more, There, Walked, walked-start, walked-within, walked-done, walked-there, walked-more, due-more, due-begins}
+use Rattle.sheet.specs.Sheet.{headerSize, entriesAt, entryNumbers, slotNumbers, putInto}
+use Rattle.sheet_check.specs.Steps.{frontOf}
+use Rattle.sheet_check.proofs.Walks.{values-more, There, Walked, walked-start, walked-within, walked-done, walked-there, walked-begins, walked-more}
 use Rattle.sheet_fill.specs.Steps.{Room, PutRoom, PutAs}
 use Rattle.sheet.proofs.Tables.{length-slot-numbers, store-next, front-few}
 
@@ -84,25 +85,25 @@ filling-start w sheet most slots area mark h =
       room = refl;
     }
 
-module _ {w : ℕ} {sheet : List ℕ} {most : ℕ} {slots₀ area₀ : List ℕ} {mark : ℕ} (all : Room (frontOf w most sheet) slots₀ area₀ mark)
+module _ {w : ℕ} {sheet : List ℕ} {most : ℕ} {slots₀ area₀ : List ℕ} {mark : ℕ} (there : most ≤ length (entriesAt w sheet)) (all : Room (frontOf w most sheet) slots₀ area₀ mark)
     {at set place : ℕ} {slots area : List ℕ} (f : Filling w sheet most slots₀ area₀ mark at set place slots area) where
   pub filling-bounds : (set ≤ maxSlots) × (place ≤ maxArea)
   filling-bounds =
       let few = front-few (f .es) _ (frontOf w most sheet) (walked-within (f .walk) most (rw (← f .count) (f .few))) in
       (omega (arith, few .0, all .rows, all .table, f .count), omega (arith, few .1, all .room, all .limit, f .next))
 
-  pub filling-done : {r : Answer} → entryDue w sheet at set most ≡ false → r ≡ accepted set place → record { answer = r; slots = slots; area = area } ≡ putInto slots₀ area₀ mark (frontOf w most sheet)
+  pub filling-done : {r : Answer} → most ≤ set → r ≡ accepted set place → record { answer = r; slots = slots; area = area } ≡ putInto slots₀ area₀ mark (frontOf w most sheet)
   unfolding putInto
   filling-done {r} h q =
-      let e : f .es ≡ frontOf w most sheet = walked-done (f .walk) most (rw (← f .count) (f .few)) (rw (← f .count) h) in
+      let e : f .es ≡ frontOf w most sheet = walked-done (f .walk) most (rw (← f .count) (f .few)) (rw (le-ltb (length (f .es)) most (rw (← f .count) h))) in
       let a : r ≡ accepted (length (frontOf w most sheet)) (mark + length (valueBytes (frontOf w most sheet))) = q ∙ rw (f .count, f .next, e) in
       let t : slots ≡ slotNumbers mark (frontOf w most sheet) ++ drop (slotWidth * length (frontOf w most sheet)) slots₀ = f .table ∙ rw (e, length-slot-numbers, zero-add) in
       let v : area ≡ storeAt area₀ mark (valueBytes (frontOf w most sheet)) = f .values ∙ rw e in
       rw (a, t, v)
 
-  module _ (due : entryDue w sheet at set most ≡ true) where
+  module _ (due : set < most) where
     pub filling-begins : beginsEntry w (drop at sheet) ≡ true
-    filling-begins = due-begins w sheet at set most due
+    filling-begins = walked-begins (f .walk) (omega (arith, f .count, there))
 
     after : List Entry
     after = f .es ++ (entryIn w (drop at sheet) ∷ [])
@@ -120,7 +121,7 @@ module _ {w : ℕ} {sheet : List ℕ} {most : ℕ} {slots₀ area₀ : List ℕ}
     grown = ap length (values-more (f .es) (entryIn w (drop at sheet))) ∙ length-append (valueBytes (f .es)) (entryIn w (drop at sheet) .value)
 
     more : length after ≤ most
-    more = omega (arith, longer, f .count, due-more w sheet at set most due)
+    more = omega (arith, longer, f .count, due)
 
     fits : (length after ≤ length (frontOf w most sheet)) × (length (valueBytes after) ≤ length (valueBytes (frontOf w most sheet)))
     fits = front-few after _ (frontOf w most sheet) (walked-within walk most more)
@@ -156,7 +157,7 @@ module _ {w : ℕ} {sheet : List ℕ} {most : ℕ} {slots₀ area₀ : List ℕ}
           es = after;
           walk = rw size at walk;
           count = omega (arith, longer, f .count);
-          few = omega (arith, due-more w sheet at set most due);
+          few = omega (arith, due);
           next = omega (arith, grown, p .size, f .next);
           table = table;
           values = values;

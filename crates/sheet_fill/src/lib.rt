@@ -1,4 +1,4 @@
-// The entries of a sheet put into a table and its area (document 02, M-100 and M-111), of which at most so many are taken. w is the width of a length.
+// The entries of a sheet put into a table and its area (document 02, M-100 and M-111), the first so many of them. w is the width of a length.
 ghost use mathlib.Core.Path.{_≡_};
 ghost use mathlib.Core.Bool.{true};
 ghost use Prim.Native.Nat.{_+_, _/_, _≤_};
@@ -9,7 +9,7 @@ ghost use Rattle.layout.specs.Lent.{before, after};
 ghost use Rattle.record.specs.Table.{maxSlots, maxArea, integerSize, itemSize};
 ghost use Rattle.record.specs.Packing.{accepted};
 ghost use Rattle.sheet.specs.Entries.{beginsEntry, entryIn};
-ghost use Rattle.sheet.specs.Sheet.{headerSize};
+ghost use Rattle.sheet.specs.Sheet.{headerSize, entriesAt};
 ghost use Rattle.sheet_check.specs.Steps.{frontOf};
 ghost use Rattle.sheet_fill.specs.Steps.{putFront, Room, PutRoom, PutAs};
 use record::Answer;
@@ -64,22 +64,23 @@ fn answer(set: usize, place: usize) -> Answer
     Answer::accepted(set as u32, place as u32)
 }
 
-// The second pass, over at most so many.
+// The second pass, over as many as the first has found: they are not checked again.
 pub fn fill(
     sheet: &[u8],
     w: usize,
-    most: usize,
+    count: usize,
     slots: &mut [u32],
     area: &mut [u8],
     mark: usize,
 ) -> Answer
-    requires { ⌜ (w ≤ integerSize) × (headerSize w ≤ length (now sheet)) × Room (frontOf w most (now sheet)) (now slots) (now area) mark ⌝ }
-    ensures { λ r. ⌜ record { answer = r; slots = after slots; area = after area } ≡ putFront w most (before sheet) (before slots) (before area) mark ⌝ }
+    requires { ⌜ (w ≤ integerSize) × (headerSize w ≤ length (now sheet)) × (count ≤ length (entriesAt w (now sheet))) ⌝ }
+    requires { ⌜ Room (frontOf w count (now sheet)) (now slots) (now area) mark ⌝ }
+    ensures { λ r. ⌜ record { answer = r; slots = after slots; area = after area } ≡ putFront w count (before sheet) (before slots) (before area) mark ⌝ }
 {
     let mut at = w + 1;
     let mut set: usize = 0;
     let mut place = mark;
-    while sheet_check::entry_due(sheet, at, w, set, most) {
+    while set < count {
         let size = put(slots, set, area, place, sheet, at, w);
         set += 1;
         place += size;

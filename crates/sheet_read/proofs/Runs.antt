@@ -19,6 +19,7 @@ use Rattle.sheet.proofs.Sheets.{length-body}
 use Rattle.sheet.proofs.Calls.{refuses, Lent, lent, header-there, read-version, read-header, read-wrong, read-needless, read-slots, read-room, read-put}
 use Rattle.sheet_check.specs.declared.Extent.{Extent}
 use Rattle.sheet_check.specs.Steps.{neededBy, frontOf, ExtentOf}
+use Rattle.sheet_check.proofs.Walks.{found-there, found-front}
 use Rattle.sheet_fill.specs.Steps.{Room}
 use Rattle.sheet_read.specs.Steps.{OpenedAs}
 
@@ -63,6 +64,13 @@ module _ {v w : ℕ} {sheet slots area : List ℕ} {mark : ℕ} (o : OpenedAs v 
     m : ExtentOf (widthIn sheet) (entriesAt (widthIn sheet) sheet) sheet x
     m = subst (λ (n : ℕ). ExtentOf n (entriesAt (widthIn sheet) sheet) sheet x) (o .width) (subst (λ (es : List Entry). ExtentOf w es sheet x) every front)
 
+    -- the second pass takes as many as the first has found
+    found : frontOf w (x .entries) sheet ≡ frontOf w (length sheet) sheet
+    found = found-front (length sheet) front
+
+    pub all-found : x .entries ≤ length (entriesAt w sheet)
+    all-found = found-there (length sheet) front
+
     pub few-bytes : x .entries + x .values ≤ maxSheet
     few-bytes = omega (arith, m .small, m .within, bounds .lengths .size)
 
@@ -99,8 +107,8 @@ module _ {v w : ℕ} {sheet slots area : List ℕ} {mark : ℕ} (o : OpenedAs v 
             room : mark + length (valueBytes (entriesAt (widthIn sheet) sheet)) ≤ length area
             room = omega (arith, m .values, bounds .start)
 
-            pub has-room : Room (frontOf w (length sheet) sheet) slots area mark
-            has-room = rw every (record { rows = omega (arith, rows, length-slots slots); table = bounds .lengths .table; room = room; limit = bounds .lengths .limit })
+            pub has-room : Room (frontOf w (x .entries) sheet) slots area mark
+            has-room = rw (found, every) (record { rows = omega (arith, rows, length-slots slots); table = bounds .lengths .table; room = room; limit = bounds .lengths .limit })
 
-            pub all-put : {r : Read} → r ≡ putInto slots area mark (frontOf w (length sheet) sheet) → r ≡ read sheet slots area mark
-            all-put e = e ∙ ap (putInto slots area mark) every ∙ read-put sheet slots area mark (o .opened) all-there (needed-as r) rows room
+            pub all-put : {r : Read} → r ≡ putInto slots area mark (frontOf w (x .entries) sheet) → r ≡ read sheet slots area mark
+            all-put e = e ∙ ap (putInto slots area mark) (found ∙ every) ∙ read-put sheet slots area mark (o .opened) all-there (needed-as r) rows room

@@ -33,7 +33,7 @@ fn read_entries(
     if area.len() - mark < x.values {
         return Answer::refused(Refusal::NoRoom, 0);
     }
-    sheet_fill::fill(sheet, w, sheet.len(), slots, area, mark)
+    sheet_fill::fill(sheet, w, x.entries, slots, area, mark)
 }
 
 // Reads a sheet: sets slots from the first on, and puts their values into the area from the mark on. A refusal changes nothing.

@@ -1,7 +1,8 @@
--- The sum so far is that of the bytes so far.
+-- The sum so far is that of the blocks so far.
 use Prim.Native.Nat.{_-_, _≤_}
 use native.Mathlib.Omega.{arith}
-use Rattle.difference.proofs.Bits.{byte-few, Counted, counted-none, counted-more, counted-done}
+use borrow.Author.Needs.{needs}
+use Rattle.difference.proofs.Bits.{Counted, counted-none, counted-block, counted-done}
 use Rattle.difference.proofs.differing_bits.Statement.{statement}
 use Rattle.difference.proofs.differing_bits.Tie as tie
 
@@ -14,32 +15,38 @@ abbrev μ-loop : tie.MeasureT-loop
 loop-holds : tie.Need-loop-holds Inv-loop μ-loop
 loop-holds c = (omega arith, counted-none _ _ _ _)
 
-add-byte-bits : tie.Need-add-byte-bits Inv-loop μ-loop
-add-byte-bits c = omega arith
+sub-least : tie.Need-sub-least Inv-loop μ-loop
+sub-least c = omega arith
 
-shared-slice-read-byte-bits : tie.Need-shared-slice-read-byte-bits Inv-loop μ-loop
-shared-slice-read-byte-bits c = omega arith
+least-requires : tie.Need-least-requires Inv-loop μ-loop
+least-requires c κs = search needs
 
-add-byte-bits-2 : tie.Need-add-byte-bits-2 Inv-loop μ-loop
-add-byte-bits-2 c = omega arith
+add-block-bits : tie.Need-add-block-bits Inv-loop μ-loop
+add-block-bits c = omega arith
 
-shared-slice-read-byte-bits-2 : tie.Need-shared-slice-read-byte-bits-2 Inv-loop μ-loop
-shared-slice-read-byte-bits-2 c = omega arith
+add-block-bits-2 : tie.Need-add-block-bits-2 Inv-loop μ-loop
+add-block-bits-2 c = omega arith
 
-byte-bits-requires : tie.Need-byte-bits-requires Inv-loop μ-loop
-byte-bits-requires c κs = tt
+block-bits-requires : tie.Need-block-bits-requires Inv-loop μ-loop
+block-bits-requires c κs = (omega (arith, c .least .ensures), omega (arith, c .least .ensures), omega (arith, c .least .ensures))
+
+cast-sum : tie.Need-cast-sum Inv-loop μ-loop
+cast-sum c = omega (arith, c .block-bits .ensures .1, c .before .least .ensures)
 
 add-sum : tie.Need-add-sum Inv-loop μ-loop
-add-sum c = omega (arith, c .before .before .before .before .loop .inv .1 .small, byte-few _ _ (c .byte-bits .ensures))
+add-sum c = omega (arith, c .before .before .before .loop .inv .1 .small, c .block-bits .ensures .1, c .before .least .ensures)
 
 add-i : tie.Need-add-i Inv-loop μ-loop
-add-i c = omega arith
+add-i c = omega (arith, c .before .least .ensures)
 
 loop-less : tie.Need-loop-less Inv-loop μ-loop
-loop-less c = omega arith
+loop-less c = omega (arith, c .before .least .ensures)
 
 loop-again : tie.Need-loop-again Inv-loop μ-loop
-loop-again c = (omega arith, counted-more (c .before .before .before .before .loop .inv .1) (omega arith) (omega arith) (c .byte-bits .ensures))
+loop-again c =
+    let m = c .before .least in
+    let bits = c .block-bits .ensures in
+    (omega (arith, m .ensures), counted-block (m .result) (c .before .before .before .loop .inv .1) (omega (arith, m .ensures)) (omega (arith, m .ensures)) (bits .0) (bits .1))
 
 returns : tie.Need-returns Inv-loop μ-loop
 returns c = counted-done (c .before .loop .inv .1) (c .before .loop .inv .0) (c .loop-test .left)
@@ -51,11 +58,12 @@ differing-bits-spec =
     Inv-loop
     μ-loop
     loop-holds
-    add-byte-bits
-    shared-slice-read-byte-bits
-    add-byte-bits-2
-    shared-slice-read-byte-bits-2
-    byte-bits-requires
+    sub-least
+    least-requires
+    add-block-bits
+    add-block-bits-2
+    block-bits-requires
+    cast-sum
     add-sum
     add-i
     loop-less

@@ -1,7 +1,7 @@
--- The bytes before i are the same, so the two part where those from i on do.
+-- The bytes before i are the same, those of the equal blocks at first, so the two part where those from i on do.
 use Prim.Native.Nat.{_-_}
 use native.Mathlib.Omega.{arith}
-use Rattle.difference.proofs.Runs.{Alike, alike-none, alike-more, alike-parts, alike-done}
+use Rattle.difference.proofs.Runs.{Alike, alike-from, alike-more, alike-parts, alike-done}
 use Rattle.difference.proofs.first_difference.Statement.{statement}
 use Rattle.difference.proofs.first_difference.Tie as tie
 
@@ -11,8 +11,14 @@ Inv-loop first at second to n i₀ i = Alike first at second to n i
 abbrev μ-loop : tie.MeasureT-loop
 μ-loop first at second to n i₀ i = n - i
 
+equal-blocks-requires : tie.Need-equal-blocks-requires Inv-loop μ-loop
+equal-blocks-requires c κs = (omega arith, omega arith)
+
 loop-holds : tie.Need-loop-holds Inv-loop μ-loop
-loop-holds c = alike-none _ _ _ _ _
+loop-holds c =
+    let a = c .before .before .before .args in
+    let e = c .equal-blocks .ensures in
+    alike-from (a .first .now) (a .at) (a .second .now) (a .to) (a .n) _ (e .0) (omega arith) (omega arith) (e .1)
 
 add-if1 : tie.Need-add-if1 Inv-loop μ-loop
 add-if1 c = omega arith
@@ -47,6 +53,7 @@ first-difference-spec =
     (tie.spec
     Inv-loop
     μ-loop
+    equal-blocks-requires
     loop-holds
     add-if1
     shared-slice-read-if1

@@ -1,6 +1,6 @@
 -- Each way out is one law of the definition, by the numbers that the first pass answers.
 use native.Mathlib.Omega.{arith}
-use Rattle.rescue_fill.proofs.Runs.{bounds, legs-few, kept-few, no-room, has-room, rest-blankable, all-done}
+use Rattle.rescue_fill.proofs.Runs.{bounds, legs-few, all-found, kept-few, no-room, has-room, rest-blankable, all-done}
 use borrow.Author.Needs.{needs}
 use Rattle.rescue_fill.proofs.rescue_entries.Statement.{statement}
 use Rattle.rescue_fill.proofs.rescue_entries.Tie as tie
@@ -18,7 +18,10 @@ returns : tie.Need-returns
 returns c = rw (c .refused .ensures) (no-room (c .before .before .before .before .before .before .before .pre .0) (c .before .before .before .before .before .before .before .pre .1) (c .before .before .before .measure .ensures) (c .before .if1 .taken))
 
 fill-requires : tie.Need-fill-requires
-fill-requires c κs = (c .before .before .before .before .before .before .before .before .pre .2, c .before .before .before .before .before .before .before .before .pre .3, has-room (c .before .before .before .before .before .before .before .before .pre .0) (c .before .before .before .before .before .before .before .before .pre .1) (c .before .before .before .before .measure .ensures) (c .before .before .if1 .left))
+fill-requires c κs =
+    let p = c .before .before .before .before .before .before .before .before .pre in
+    let found = c .before .before .before .before .measure .ensures in
+    ((p .2, p .3, all-found (p .0) (p .1) found), has-room (p .0) (p .1) found (c .before .before .if1 .left))
 
 sub-blank : tie.Need-sub-blank
 sub-blank c = omega (arith, kept-few (c .before .before .before .before .before .before .before .before .before .before .before .before .before .before .before .pre .0) (c .before .before .before .before .before .before .before .before .before .before .before .before .before .before .before .pre .1) (c .before .before .before .before .before .before .before .before .before .before .before .measure .ensures))

@@ -1,7 +1,7 @@
 -- Each way out is one law of the definition, by the numbers that the first pass answers.
 use native.Mathlib.Omega.{arith}
 use borrow.Author.Tests.{not-true, not-false}
-use Rattle.sheet_read.proofs.Runs.{bounds, has-header, few-bytes, end-wrong, needless, few-slots, no-room, has-room, all-put}
+use Rattle.sheet_read.proofs.Runs.{bounds, has-header, all-found, few-bytes, end-wrong, needless, few-slots, no-room, has-room, all-put}
 use borrow.Author.Needs.{needs}
 use Rattle.sheet_read.proofs.read_entries.Statement.{statement}
 use Rattle.sheet_read.proofs.read_entries.Tie as tie
@@ -72,7 +72,7 @@ fill-requires c κs =
     let asked = ruled .before in
     let measured = asked .before .before .before in
     let o = measured .before .before .before .before .pre in
-    (o .narrow, has-header o, has-room o (measured .measure .ensures) (asked .before .if1 .left) (asked .version-needed .ensures) (not-false _ (ruled .if2 .left)) (enough .if3 .left) (c .before .before .if4 .left))
+    ((o .narrow, has-header o, all-found o (measured .measure .ensures)), has-room o (measured .measure .ensures) (asked .before .if1 .left) (asked .version-needed .ensures) (not-false _ (ruled .if2 .left)) (enough .if3 .left) (c .before .before .if4 .left))
 
 same-length : tie.Need-same-length
 same-length c = search needs
