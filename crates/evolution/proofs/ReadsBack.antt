@@ -157,7 +157,7 @@ module _ (l : Layouts) where
       let k : cut ≤ length (joined (args b)) = subst (λ (r : List ℕ). cut ≤ length r) (record-is b) h in
       rw (begins b .1, length-append) (omega arith)
 
-  values : (p q : Bool) (cut : ℕ) → cut ≤ length (recordOf (packedBy l p)) → valuesFrom (take cut (recordOf (packedBy l p))) 0 (fieldsBy l q) ≡ due l q cut
+  pub values : (p q : Bool) (cut : ℕ) → cut ≤ length (recordOf (packedBy l p)) → valuesFrom (take cut (recordOf (packedBy l p))) 0 (fieldsBy l q) ≡ due l q cut
   values p q cut h =
       rw (cut-is p cut h)
       (ap (valuesFrom (take cut whole) 0) (sym (fields-filled (l .area) (slotsOf (l .slots)) (fieldsBy l q)))

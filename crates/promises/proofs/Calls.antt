@@ -10,8 +10,8 @@ use Rattle.layout.specs.declared.Field.{Field}
 use Rattle.layout.specs.declared.Parsed.{Parsed}
 use Rattle.layout.specs.declared.Parsed.the-variants.{Fields, Refused}
 use Rattle.layout.specs.declared.Refusal.{Refusal}
-use Rattle.layout.specs.declared.Refusal.the-variants.{BadSize}
-use Rattle.layout.specs.Refusals.{ok, refused}
+use Rattle.layout.specs.declared.Refusal.the-variants.{BadSize, WrongSlots, NoRoom}
+use Rattle.layout.specs.Refusals.{numberOf, ok, refused}
 use Rattle.layout.specs.Layout.{maxLayout, fieldsOf}
 use Rattle.layout.specs.Words.{decoded, Parses}
 use Rattle.layout.proofs.Laws.{ok-inj}
@@ -19,10 +19,10 @@ use Rattle.layout.proofs.Decoded.{decoded-length, Learnt, parsed-fields, parsed
 use Rattle.layout.proofs.Places.{refused-inside}
 use Rattle.record.specs.Packing.{refusal}
 use Rattle.promises.specs.declared.Promise.{Promise}
-use Rattle.promises.specs.declared.Promise.the-variants.{Grows, Keeps, Joins}
+use Rattle.promises.specs.declared.Promise.the-variants.{Grows, Keeps, Joins, Plain, Slots, Room}
 use Rattle.promises.specs.declared.Told.{Told}
 use Rattle.promises.specs.Placed.{Placed, fieldsIn, placedFields}
-use Rattle.promises.specs.Promises.{nowhere, firstDifference, told, layoutFields, promised, fieldsDiffer, notPlain, refusedNew, grown, extendedBy, extended}
+use Rattle.promises.specs.Promises.{nothing, nowhere, firstDifference, told, layoutFields, promised, fieldsDiffer, notPlain, refusedNew, grown, extendedBy, extended}
 use Rattle.promises.specs.Walk.{keptFront, sameFront, PlaceOf, Holds, ReadAs, BreaksAt, GrownAs}
 use Rattle.promises.proofs.Places.{Placing, placing, placed-fields, placed-refused}
 use Rattle.promises.proofs.Fronts.{break-none, break-at, differ-none, differ-at, front-few}
@@ -63,16 +63,17 @@ module _ (text : List ℕ) (n : ℕ) (ws : List ℕ) (h : Holds text n ws) where
 
   -- ---- the first field that breaks a promise
 
-  module _ (q : Promise) (k : ℕ) (kept : k ≡ keptFront q (decoded n ws)) where
+  module _ (q : Promise) (k : ℕ) (kept : k ≡ keptFront q nothing (decoded n ws)) where
     pub breaks-none : n ≤ k → BreaksAt text q nowhere
     breaks-none l ps e =
-        let many : length ps ≤ keptFront q (fieldsIn ps) = rw (words-fields ps e) (omega (arith, words-length ps e)) in
+        let many : length ps ≤ keptFront q nothing (fieldsIn ps) =
+        rw (words-fields ps e) (omega (arith, words-length ps e)) in
         sym (break-none q 0 ps many)
 
     pub breaks-at : (r : ℕ) → k < n → PlaceOf text k r → BreaksAt text q r
     breaks-at r l p ps e =
-        let front : k ≡ keptFront q (fieldsIn ps) = rw (words-fields ps e) kept in
-        let few : keptFront q (fieldsIn ps) < length ps = omega (arith, words-length ps e) in
+        let front : k ≡ keptFront q nothing (fieldsIn ps) = rw (words-fields ps e) kept in
+        let few : keptFront q nothing (fieldsIn ps) < length ps = omega (arith, words-length ps e) in
         p .same ps e ∙ rw front (sym (break-at q (length text) ps few))
 
   -- ---- beside the old fields
@@ -89,17 +90,31 @@ module _ (text : List ℕ) (n : ℕ) (ws : List ℕ) (h : Holds text n ws) where
         let some : r ≡ nowhere → ⊥ = λ z. omega (arith, p .within, h .short) in
         rw (first, ne-eqb r nowhere some)
 
-    module _ (all : length fs ≤ k) (b : ℕ) (breaks : BreaksAt text Grows b) where
+    -- what is asked after it, one after the other: each question where all before it found no place
+    module _ (all : length fs ≤ k) where
       alike : (ps : List Placed) → placedFields text ≡ ok ps → firstDifference (length text) fs ps ≡ nowhere
       alike ps e = differ-none (length text) fs ps (omega (arith, front ps e))
 
-      pub grown-breaks : (b ≡ nowhere → ⊥) → GrownAs text fs (refusedNew notPlain b)
-      unfolding grown
-      grown-breaks some ps e = rw (alike ps e, ← breaks ps e, ne-eqb b nowhere some)
+      module _ (a : ℕ) (plain : BreaksAt text Plain a) where
+        pub grown-breaks : (a ≡ nowhere → ⊥) → GrownAs text fs (refusedNew notPlain a)
+        unfolding grown
+        grown-breaks some ps e = rw (alike ps e, ← plain ps e, ne-eqb a nowhere some)
 
-      pub grown-plain : b ≡ nowhere → (m : ℕ) → m ≡ length fs → GrownAs text fs (told m (n - m) 0)
-      unfolding grown
-      grown-plain none m long ps e = rw (alike ps e, ← breaks ps e, none, long, words-length ps e)
+        module _ (no-a : a ≡ nowhere) (b : ℕ) (slots : BreaksAt text Slots b) where
+          pub grown-slots : (b ≡ nowhere → ⊥) → GrownAs text fs (refusedNew (numberOf WrongSlots) b)
+          unfolding grown
+          grown-slots some ps e = rw (alike ps e, ← plain ps e, no-a, ← slots ps e, ne-eqb b nowhere some)
+
+          module _ (no-b : b ≡ nowhere) (c : ℕ) (room : BreaksAt text Room c) where
+            pub grown-room : (c ≡ nowhere → ⊥) → GrownAs text fs (refusedNew (numberOf NoRoom) c)
+            unfolding grown
+            grown-room some ps e =
+                rw (alike ps e, ← plain ps e, no-a, ← slots ps e, no-b, ← room ps e, ne-eqb c nowhere some)
+
+            pub grown-told : c ≡ nowhere → (m : ℕ) → m ≡ length fs → GrownAs text fs (told m (n - m) 0)
+            unfolding grown
+            grown-told no-c m long ps e =
+                rw (alike ps e, ← plain ps e, no-a, ← slots ps e, no-b, ← room ps e, no-c, long, words-length ps e)
 
     pub grown-few : length fs ≤ k → length fs ≤ n
     grown-few l = omega (arith, front-few fs (decoded n ws) .1, decoded-length n ws (h .few))

@@ -1,61 +1,78 @@
 -- Fields at the front of a layout: what the loops over words keep, and that the place of the first field that breaks a promise, or differs, is the place
 -- of the one behind them.
-use Prim.Native.Nat.{ℕ, suc, _+_, _≤_, _<_, min}
+use Prim.Native.Nat.{ℕ, suc, _+_, _*_, _≤_, _<_, min}
 use native.Mathlib.Omega.{arith}
 use native.Mathlib.Nat.{zero-add, lt-of-not-le}
 use native.Mathlib.Decide.{decLe}
 use mathlib.Core.Path.{_≡_, refl, _∙_}
-use mathlib.Core.Bool.{Bool, true, false, _&&_}
+use mathlib.Core.Bool.{Bool, true, false}
 use mathlib.Core.List.{List, [], _∷_}
 use lib.ListN.{length, getD, drop}
+use Rattle.layout.specs.declared.Code.{Code}
+use Rattle.layout.specs.declared.Code.the-variants.{Data, Move}
+use Rattle.layout.specs.declared.Motion.the-variants.{Skip, Back, Goto}
+use Rattle.layout.specs.declared.Count.{Count}
 use Rattle.layout.specs.declared.Field.{Field}
 use Rattle.layout.specs.Refusals.{if_then_else_}
-use Rattle.layout.specs.Words.{fieldOf, decoded}
-use Rattle.layout.proofs.Decoded.{next-field, no-field}
-use Rattle.runs.specs.Ends.{plainCode, plainCount}
-use Rattle.lossless.specs.Claim.{losslessCode}
+use Rattle.layout.specs.Words.{FitCode, FitCount, FieldOf, fieldOf, decoded}
+use Rattle.layout.proofs.Decoded.{next-field, no-field, slots-le}
+use Rattle.record.specs.Geometry.{amount}
+use Rattle.record.proofs.Bounds.{bytes-small}
+use Rattle.record.proofs.Moves.{amount-small}
+use Rattle.runs.specs.Ends.{fills}
 use Rattle.promises.specs.declared.Promise.{Promise}
-use Rattle.promises.specs.declared.Promise.the-variants.{Grows, Keeps}
+use Rattle.promises.specs.declared.Reach.{Reach}
 use Rattle.promises.specs.Placed.{Placed, fieldsIn, placeOf}
-use Rattle.promises.specs.Promises.{keptBy, nowhere, firstBreak, sameField, firstDifference}
-use Rattle.promises.specs.Walk.{keptFront, sameFront}
+use Rattle.promises.specs.Promises.{nothing, with, keptBy, nowhere, breakFrom, firstBreak, sameField, firstDifference}
+use Rattle.promises.specs.Walk.{keptFront, fieldReach, sameFront}
 
--- ---- a field and a promise
+-- ---- the loop over one layout's words, in front of field i, with the fields before it come so far
 
-module _ (f : Field) (a b r : Bool) where
-  pub kept-grows : (q : Promise) → q ≡ Grows → a ≡ plainCode (f .code) → b ≡ plainCount (f .count) → r ≡ (a && b) → r ≡ keptBy q f
-  kept-grows q e p n s = s ∙ rw (e, p, n)
-
-  pub kept-keeps : (q : Promise) → q ≡ Keeps → a ≡ losslessCode (f .code) (f .count) → b ≡ plainCount (f .count) → r ≡ (a && b) → r ≡ keptBy q f
-  kept-keeps q e p n s = s ∙ rw (e, p, n)
-
--- ---- the loop over one layout's words, in front of field i
-
-pub record Kept (q : Promise) (n : ℕ) (ws : List ℕ) (i : ℕ) : Type 0 where
+pub record Kept (q : Promise) (n : ℕ) (ws : List ℕ) (i : ℕ) (r : Reach) : Type 0 where
   pub within : i ≤ n
-  pub so-far : keptFront q (decoded n ws) ≡ i + keptFront q (drop i (decoded n ws))
+  pub few : r .slots ≤ i
+  pub near : r .end ≤ i * fieldReach
+  pub so-far : keptFront q nothing (decoded n ws) ≡ i + keptFront q r (drop i (decoded n ws))
 
-pub kept-none : (q : Promise) (n : ℕ) (ws : List ℕ) → Kept q n ws 0
-kept-none q n ws = record { within = omega arith; so-far = rw zero-add }
+pub kept-none : (q : Promise) (n : ℕ) (ws : List ℕ) → Kept q n ws 0 nothing
+kept-none q n ws = record { within = omega arith; few = omega arith; near = omega arith; so-far = rw zero-add }
+
+-- one field takes the end no further than its reach
+pub one-near : (k : Code) (n : Count) → FitCode k → FitCount n → fills k n ≤ fieldReach
+unfolding fills
+one-near (Data s) n h l = omega (arith, bytes-small s (amount n 0) h, amount-small n 0 l)
+one-near (Move Skip) n h l = omega (arith, amount-small n 0 l)
+one-near (Move Back) n h l = omega arith
+one-near (Move Goto) n h l = omega arith
 
 module _ (q : Promise) (n : ℕ) (ws : List ℕ) (few : n ≤ length ws) where
-  module _ (i : ℕ) (k : Kept q n ws i) where
-    pub kept-stop : i < n → keptBy q (fieldOf (getD ws i 0)) ≡ false → i ≡ keptFront q (decoded n ws)
-    unfolding keptFront
-    kept-stop h e =
-        let here : keptFront q (drop i (decoded n ws)) ≡ 0 = rw (next-field n ws few i h, e) in
-        omega (arith, k .so-far)
+  module _ (i : ℕ) (r : Reach) (k : Kept q n ws i r) where
+    -- its field f, how far the layout has come with it, and whether it keeps the promise
+    module _ (h : i < n) (f : Field) (fit : FieldOf (getD ws i 0) f) (s : Reach) (far : s ≡ with r f) (t : Bool)
+        (told : t ≡ keptBy q s f) where
+      here : keptFront q r (drop i (decoded n ws))
+          ≡ (if t then suc (keptFront q s (drop (i + 1) (decoded n ws))) else 0)
+      unfolding keptFront
+      here = rw (next-field n ws few i h, ← fit .same, ← far, ← told)
 
-    pub kept-more : i < n → keptBy q (fieldOf (getD ws i 0)) ≡ true → Kept q n ws (i + 1)
-    unfolding keptFront
-    kept-more h e =
-        let here : keptFront q (drop i (decoded n ws)) ≡ suc (keptFront q (drop (i + 1) (decoded n ws))) = rw (next-field n ws few i h, e) in
-        record { within = omega arith; so-far = omega (arith, k .so-far) }
+      pub kept-stop : t ≡ false → i ≡ keptFront q nothing (decoded n ws)
+      kept-stop e = let none : keptFront q r (drop i (decoded n ws)) ≡ 0 = here ∙ rw e in omega (arith, k .so-far)
 
-    pub kept-done : n ≤ i → i ≡ keptFront q (decoded n ws)
+      pub kept-more : t ≡ true → Kept q n ws (i + 1) s
+      kept-more e =
+          let one : keptFront q r (drop i (decoded n ws)) ≡ suc (keptFront q s (drop (i + 1) (decoded n ws))) =
+          here ∙ rw e in
+          record {
+            within = omega arith;
+            few = rw far (omega (arith, k .few, slots-le f));
+            near = rw far (omega (arith, k .near, one-near (f .code) (f .count) (fit .code) (fit .count)));
+            so-far = omega (arith, k .so-far);
+          }
+
+    pub kept-done : n ≤ i → i ≡ keptFront q nothing (decoded n ws)
     unfolding keptFront
     kept-done h =
-        let here : keptFront q (drop i (decoded n ws)) ≡ 0 = rw (no-field n ws few i h) in
+        let here : keptFront q r (drop i (decoded n ws)) ≡ 0 = rw (no-field n ws few i h) in
         omega (arith, k .so-far)
 
 -- ---- the loop over the words of two
@@ -104,28 +121,45 @@ module _ (m : ℕ) (vs : List ℕ) (few : m ≤ length vs) (n : ℕ) (ws : List 
 -- ---- the first field that breaks a promise
 
 module _ (q : Promise) (end : ℕ) where
-  abbrev BreakNone : List Placed → Type 0
-  BreakNone ps = length ps ≤ keptFront q (fieldsIn ps) → firstBreak q ps ≡ nowhere
+  abbrev BreakNone : Reach → List Placed → Type 0
+  BreakNone r ps = length ps ≤ keptFront q r (fieldsIn ps) → breakFrom q r ps ≡ nowhere
 
-  pub break-none : (ps : List Placed) → BreakNone ps
-  unfolding keptFront firstBreak
-  break-none [] h = refl
-  break-none (p ∷ ps) h = step (keptBy q (p .what)) h (λ k. break-none ps k)
+  none-from : (r : Reach) (ps : List Placed) → BreakNone r ps
+  unfolding keptFront breakFrom
+  none-from r [] h = refl
+  none-from r (p ∷ ps) h =
+      step (with r (p .what)) (keptBy q (with r (p .what)) (p .what)) h (λ k. none-from (with r (p .what)) ps k)
     where
-      step : (t : Bool) → suc (length ps) ≤ (if t then suc (keptFront q (fieldsIn ps)) else 0) → BreakNone ps → (if t then firstBreak q ps else p .place) ≡ nowhere
-      step true k ih = ih (omega arith)
-      step false k ih = absurd (omega arith)
+      step : (s : Reach) (t : Bool) → suc (length ps) ≤ (if t then suc (keptFront q s (fieldsIn ps)) else 0)
+          → BreakNone s ps → (if t then breakFrom q s ps else p .place) ≡ nowhere
+      step s true k ih = ih (omega arith)
+      step s false k ih = absurd (omega arith)
 
-  pub break-at : (ps : List Placed) → keptFront q (fieldsIn ps) < length ps → firstBreak q ps ≡ placeOf end ps (keptFront q (fieldsIn ps))
-  unfolding keptFront firstBreak placeOf
-  break-at [] h = absurd (omega arith)
-  break-at (p ∷ ps) h = step (keptBy q (p .what)) h (λ k. break-at ps k)
+  abbrev BreakAt : Reach → List Placed → Type 0
+  BreakAt r ps =
+      keptFront q r (fieldsIn ps) < length ps → breakFrom q r ps ≡ placeOf end ps (keptFront q r (fieldsIn ps))
+
+  at-from : (r : Reach) (ps : List Placed) → BreakAt r ps
+  unfolding keptFront breakFrom placeOf
+  at-from r [] h = absurd (omega arith)
+  at-from r (p ∷ ps) h =
+      step (with r (p .what)) (keptBy q (with r (p .what)) (p .what)) h (λ k. at-from (with r (p .what)) ps k)
     where
-      step : (t : Bool) → (if t then suc (keptFront q (fieldsIn ps)) else 0) < suc (length ps)
-          → (keptFront q (fieldsIn ps) < length ps → firstBreak q ps ≡ placeOf end ps (keptFront q (fieldsIn ps)))
-          → (if t then firstBreak q ps else p .place) ≡ placeOf end (p ∷ ps) (if t then suc (keptFront q (fieldsIn ps)) else 0)
-      step true k ih = ih (omega arith)
-      step false k ih = refl
+      step : (s : Reach) (t : Bool) → (if t then suc (keptFront q s (fieldsIn ps)) else 0) < suc (length ps)
+          → BreakAt s ps
+          → (if t then breakFrom q s ps else p .place)
+          ≡ placeOf end (p ∷ ps) (if t then suc (keptFront q s (fieldsIn ps)) else 0)
+      step s true k ih = ih (omega arith)
+      step s false k ih = refl
+
+  pub break-none : (ps : List Placed) → length ps ≤ keptFront q nothing (fieldsIn ps) → firstBreak q ps ≡ nowhere
+  unfolding firstBreak
+  break-none ps h = none-from nothing ps h
+
+  pub break-at : (ps : List Placed) → keptFront q nothing (fieldsIn ps) < length ps
+      → firstBreak q ps ≡ placeOf end ps (keptFront q nothing (fieldsIn ps))
+  unfolding firstBreak
+  break-at ps h = at-from nothing ps h
 
 -- ---- the first field that is not the old layout's
 

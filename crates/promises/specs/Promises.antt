@@ -1,7 +1,7 @@
 -- What a layout promises: whether demand 3 (document 01), M-107 and M-113 (02) speak of it; and whether one layout is another with fields added.
 -- THE EFFECTS OF THE CALLS are `promised` and `extended`.
-use Prim.Native.Nat.{ℕ, suc, _-_}
-use mathlib.Core.Bool.{Bool, _&&_, not}
+use Prim.Native.Nat.{ℕ, suc, _+_, _-_}
+use mathlib.Core.Bool.{Bool, _&&_}
 use mathlib.Core.List.{List, [], _∷_}
 use lib.ListN.{length}
 use lib.Dec.{eqb, leb}
@@ -12,35 +12,81 @@ use Rattle.layout.specs.declared.Shape.the-variants.{Text, Digits, Integers, Re
 use Rattle.layout.specs.declared.Count.{Count}
 use Rattle.layout.specs.declared.Count.the-variants.{Absent, Star, Times}
 use Rattle.layout.specs.declared.Field.{Field}
-use Rattle.layout.specs.declared.Refusal.the-variants.{BadSize}
-use Rattle.layout.specs.Refusals.{if_then_else_, Result, ok, refused, _>>=_, demand}
+use Rattle.layout.specs.declared.Refusal.the-variants.{BadSize, WrongSlots, NoRoom}
+use Rattle.layout.specs.Refusals.{if_then_else_, numberOf, Result, ok, refused, _>>=_, demand}
 use Rattle.layout.specs.Layout.{maxLayout, toNat}
+use Rattle.layout.specs.Words.{slotsTaken}
+use Rattle.record.specs.Table.{maxSlots, maxRecord}
 use Rattle.record.specs.Packing.{accepted, refusal}
-use Rattle.runs.specs.Ends.{plainCode, plainCount}
+use Rattle.runs.specs.Ends.{plainCode, plainCount, fills}
 use Rattle.lossless.specs.Claim.{losslessCode}
 use Rattle.promises.specs.declared.Promise.{Promise}
-use Rattle.promises.specs.declared.Promise.the-variants.{Grows, Keeps, Joins}
+use Rattle.promises.specs.declared.Promise.the-variants.{Grows, Keeps, Joins, Plain, Slots, Room}
+use Rattle.promises.specs.declared.Reach.{Reach}
 use Rattle.promises.specs.declared.Told.{Told}
 use Rattle.promises.specs.Placed.{Placed, fieldsIn, placedFields}
 
--- ---- the three promises, field by field; the type Promise is the source's
+-- ---- how far a layout has come with a field; the type Reach is the source's
 
-abbrev pub keptBy : Promise → Field → Bool
--- the layout may grow at its end (01, demand 3): no star, no `X`, no `@`, no count of 0
-keptBy Grows f = plainCode (f .code) && plainCount (f .count)
--- reading by it loses nothing (02, M-107, the fields that it lists)
-keptBy Keeps f = losslessCode (f .code) (f .count) && plainCount (f .count)
+-- in front of the first field
+abbrev pub nothing : Reach
+nothing = record { slots = 0; end = 0 }
+
+-- with one field more: the slots that it and those before it take, and its end, what they fill in packing added up
+-- (01, What demand 3 reads back)
+abbrev pub with : Reach → Field → Reach
+with r f = record { slots = r .slots + slotsTaken f; end = r .end + fills (f .code) (f .count) }
+
+-- ---- the promises, field by field; the type Promise is the source's
+
+-- no star, no `X`, no `@`, no count of 0 (01, demand 3)
+abbrev pub plainField : Field → Bool
+plainField f = plainCode (f .code) && plainCount (f .count)
+
+-- reading it loses nothing (02, M-107, the fields that it lists)
+abbrev pub losslessField : Field → Bool
+losslessField f = losslessCode (f .code) (f .count) && plainCount (f .count)
+
+-- the limits (01, Slot tables, sizes): past them every packing by a plain layout is refused, so that the theorems say
+-- nothing of it
+abbrev pub slotsFit : Reach → Bool
+slotsFit r = leb (r .slots) maxSlots
+
+abbrev pub endFits : Reach → Bool
+endFits r = leb (r .end) maxRecord
+
+abbrev pub fits : Reach → Bool
+fits r = slotsFit r && endFits r
+
+-- whether a field keeps a promise, where the layout has come so far with it
+abbrev pub keptBy : Promise → Reach → Field → Bool
+-- the layout may grow at its end (01, demand 3)
+keptBy Grows r f = plainField f && fits r
+-- reading by it loses nothing (02, M-107)
+keptBy Keeps r f = losslessField f && fits r
 -- it may be joined with others (02, M-113): no `X`, no `@`
-keptBy Joins f = plainCode (f .code)
+keptBy Joins r f = plainCode (f .code)
+-- the first of these promises in its three parts, which `extends` asks for one after the other
+keptBy Plain r f = plainField f
+keptBy Slots r f = slotsFit r
+keptBy Room r f = endFits r
 
 -- what stands for a place where there is none; every place in a layout is below `maxLayout`
 abbrev pub nowhere : ℕ
 nowhere = 4294967295
 
--- the place of the first field that breaks a promise
+-- the place of the first field that breaks a promise, where the fields before have come so far
+unfoldable pub breakFrom : Promise → Reach → List Placed → ℕ
+unfolding fills
+breakFrom q r [] = nowhere
+breakFrom q r (p ∷ ps) =
+    let here = with r (p .what) in
+    let later = breakFrom q here ps in
+    if keptBy q here (p .what) then later else p .place
+
 unfoldable pub firstBreak : Promise → List Placed → ℕ
-firstBreak q [] = nowhere
-firstBreak q (p ∷ ps) = if keptBy q (p .what) then firstBreak q ps else p .place
+unfolding breakFrom
+firstBreak q ps = breakFrom q nothing ps
 
 -- ---- the same field: type, flag and count agree (01, What demand 3 reads back)
 
@@ -112,13 +158,20 @@ notPlain = 18
 abbrev pub refusedNew : ℕ → ℕ → Told
 refusedNew number place = record { answer = record { number = number; first = place; second = 0 }; fourth = 1 }
 
--- what is answered of the old layout's fields and the new one's, whose text has so many bytes: 0, the old fields, the fields added, 0
+-- refuses the new layout at a place, and goes on where there is none
+abbrev pub refusedAt : ℕ → ℕ → Told → Told
+refusedAt number place next = if eqb place nowhere then next else refusedNew number place
+
+-- What is answered of the old layout's fields and the new one's, whose text has so many bytes: 17, 18, 5 and 11 in this
+-- order; or 0, the old fields, the fields added, 0.
 unfoldable pub grown : ℕ → List Field → List Placed → Told
 unfolding firstDifference firstBreak
 grown end fs ps =
-    if not (eqb (firstDifference end fs ps) nowhere) then refusedNew fieldsDiffer (firstDifference end fs ps)
-    else if not (eqb (firstBreak Grows ps) nowhere) then refusedNew notPlain (firstBreak Grows ps)
-    else told (length fs) (length ps - length fs) 0
+    refusedAt fieldsDiffer (firstDifference end fs ps)
+    (refusedAt notPlain (firstBreak Plain ps)
+    (refusedAt (numberOf WrongSlots) (firstBreak Slots ps)
+    (refusedAt (numberOf NoRoom) (firstBreak Room ps)
+    (told (length fs) (length ps - length fs) 0))))
 
 -- the new text read, beside the old layout's fields
 unfoldable pub extendedBy : List Field → List ℕ → Told

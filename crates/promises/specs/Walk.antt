@@ -1,5 +1,5 @@
 -- What the functions inside the two calls compute: numbers of fields at the front of a layout, and the place of one.
-use Prim.Native.Nat.{ℕ, suc, _+_, _*_, _/_, _≤_, _<_}
+use Prim.Native.Nat.{ℕ, suc, _+_, _*_, _/_, _^_, _≤_, _<_}
 use mathlib.Core.Path.{_≡_}
 use mathlib.Core.Bool.{true}
 use mathlib.Core.List.{List, [], _∷_}
@@ -16,14 +16,23 @@ use Rattle.layout.specs.Refusals.{if_then_else_, ok, refused}
 use Rattle.layout.specs.Layout.{maxLayout, toNat, fieldsOf}
 use Rattle.layout.specs.Words.{skipNumber, backNumber, gotoNumber, decoded}
 use Rattle.promises.specs.declared.Promise.{Promise}
+use Rattle.promises.specs.declared.Reach.{Reach}
 use Rattle.promises.specs.declared.Told.{Told}
 use Rattle.promises.specs.Placed.{Placed, placedFields, placeOf}
-use Rattle.promises.specs.Promises.{keptBy, firstBreak, sameField, layoutFields, grown}
+use Rattle.promises.specs.Promises.{with, keptBy, firstBreak, sameField, layoutFields, grown}
 
--- how many fields at the front keep a promise
-unfoldable pub keptFront : Promise → List Field → ℕ
-keptFront q [] = 0
-keptFront q (f ∷ fs) = if keptBy q f then suc (keptFront q fs) else 0
+-- how many fields at the front keep a promise, where the fields before have come so far
+unfoldable pub keptFront : Promise → Reach → List Field → ℕ
+keptFront q r [] = 0
+keptFront q r (f ∷ fs) = if keptBy q (with r f) f then suc (keptFront q (with r f) fs) else 0
+
+-- the most bytes that the field of a word can fill, since its count is below 2 ^ 23 (`FitCount` in
+-- crates/layout/specs/Words.antt), and those of a layout: far below what a number of 64 bits holds
+abbrev pub fieldReach : ℕ
+fieldReach = 8 * 2 ^ 23
+
+abbrev pub layoutReach : ℕ
+layoutReach = maxLayout * fieldReach
 
 -- the number that a type has in a word (crates/layout/specs/Words.antt)
 abbrev pub typeIn : Code → ℕ

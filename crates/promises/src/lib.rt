@@ -7,13 +7,13 @@ ghost use Prim.Native.Nat.{_≤_, _<_};
 ghost use lib.ListN.{length};
 ghost use Rattle.layout.specs.declared.Code.the-variants.{Move};
 ghost use Rattle.layout.specs.Lent.{before, after};
-ghost use Rattle.layout.specs.Layout.{maxLayout};
-ghost use Rattle.layout.specs.Words.{fieldOf, decoded};
+ghost use Rattle.layout.specs.Layout.{maxLayout, takesSlot, toNat};
+ghost use Rattle.layout.specs.Words.{FitCode, FitCount, fieldOf, decoded};
 ghost use Rattle.record.specs.Packing.{refusal};
-ghost use Rattle.runs.specs.Ends.{plainCode, plainCount};
+ghost use Rattle.runs.specs.Ends.{plainCode, plainCount, fills};
 ghost use Rattle.lossless.specs.Claim.{showsAll, losslessCode};
-ghost use Rattle.promises.specs.Promises.{keptBy, sameField, told, refusedNew, promised, extendedBy, extended};
-ghost use Rattle.promises.specs.Walk.{keptFront, sameFront, typeIn, PlaceOf, Holds, ReadAs, BreaksAt, GrownAs};
+ghost use Rattle.promises.specs.Promises.{nothing, with, plainField, losslessField, slotsFit, endFits, fits, keptBy, sameField, told, refusedNew, promised, extendedBy, extended};
+ghost use Rattle.promises.specs.Walk.{keptFront, fieldReach, layoutReach, sameFront, typeIn, PlaceOf, Holds, ReadAs, BreaksAt, GrownAs};
 use layout::Code;
 use layout::Count;
 use layout::Field;
@@ -23,11 +23,21 @@ use layout::Refusal;
 use layout::Shape;
 use record::Answer;
 
-// What a layout may promise: to grow at its end, to keep everything that is read, to be joined.
+// What a layout may promise: to grow at its end, to keep everything that is read, to be joined. The first has three
+// parts: the fields are plain, they take no more slots than a table may have, and they end within the longest record.
 pub enum Promise {
     Grows,
     Keeps,
     Joins,
+    Plain,
+    Slots,
+    Room,
+}
+
+// How far a layout has come: the slots that its fields take so far, and where the last of them ends.
+pub struct Reach {
+    pub slots: usize,
+    pub end: usize,
 }
 
 // What a call answers: the three numbers of an answer and a fourth.
@@ -43,6 +53,61 @@ const NOWHERE: u32 = 4294967295;
 const FIELDS_DIFFER: u32 = 17;
 
 const NOT_PLAIN: u32 = 18;
+
+// ---- how far a layout has come
+
+// The slots that a field takes.
+fn slots_taken(k: Code) -> usize
+    ensures { λ r. ⌜ r ≡ toNat (takesSlot k) ⌝ }
+{
+    match k {
+        Code::Data(_s) => 1,
+        Code::Move(_m) => 0,
+    }
+}
+
+fn fills_motion(m: Motion, n: Count) -> usize
+    ensures { λ r. ⌜ r ≡ fills (Move m) n ⌝ }
+{
+    match m {
+        Motion::Skip => record::amount(n, 0),
+        Motion::Back => 0,
+        Motion::Goto => 0,
+    }
+}
+
+// The bytes that a field fills in packing.
+fn fills(k: Code, n: Count) -> usize
+    requires { ⌜ FitCode k × FitCount n ⌝ }
+    ensures { λ r. ⌜ (r ≡ fills k n) × (r ≤ fieldReach) ⌝ }
+{
+    match k {
+        Code::Data(s) => sizes::bytes_for(s, record::amount(n, 0)),
+        Code::Move(m) => fills_motion(m, n),
+    }
+}
+
+impl Reach {
+    // In front of the first field.
+    fn nothing() -> Reach
+        ensures { λ r. ⌜ r ≡ nothing ⌝ }
+    {
+        Reach { slots: 0, end: 0 }
+    }
+
+    // With one field more.
+    fn with(self, f: Field) -> Reach
+        requires { ⌜ FitCode (f .code) × FitCount (f .count) × (self .slots ≤ maxLayout) × (self .end ≤ layoutReach) ⌝ }
+        ensures { λ r. ⌜ r ≡ with self f ⌝ }
+    {
+        let k = f.code;
+        let n = f.count;
+        Reach {
+            slots: self.slots + slots_taken(k),
+            end: self.end + fills(k, n),
+        }
+    }
+}
 
 // ---- the promises, field by field
 
@@ -102,28 +167,70 @@ fn lossless_code(k: Code, n: Count) -> bool
     }
 }
 
-// Whether a field keeps a promise.
-fn kept_by(q: Promise, f: Field) -> bool
-    ensures { λ r. ⌜ r ≡ keptBy q f ⌝ }
+fn plain_field(f: Field) -> bool
+    ensures { λ r. ⌜ r ≡ plainField f ⌝ }
 {
     let k = f.code;
     let n = f.count;
+    both(plain_code(k), plain_count(n))
+}
+
+fn lossless_field(f: Field) -> bool
+    ensures { λ r. ⌜ r ≡ losslessField f ⌝ }
+{
+    let k = f.code;
+    let n = f.count;
+    both(lossless_code(k, n), plain_count(n))
+}
+
+// No more slots than a table may have.
+fn slots_fit(r: Reach) -> bool
+    ensures { λ b. ⌜ b ≡ slotsFit r ⌝ }
+{
+    r.slots <= record::MAX_SLOTS
+}
+
+// An end within the longest record.
+fn end_fits(r: Reach) -> bool
+    ensures { λ b. ⌜ b ≡ endFits r ⌝ }
+{
+    r.end <= record::MAX_RECORD
+}
+
+fn fits(r: Reach) -> bool
+    ensures { λ b. ⌜ b ≡ fits r ⌝ }
+{
+    both(slots_fit(r), end_fits(r))
+}
+
+// Whether a field keeps a promise, where the layout has come so far with it.
+fn kept_by(q: Promise, r: Reach, f: Field) -> bool
+    ensures { λ b. ⌜ b ≡ keptBy q r f ⌝ }
+{
     match q {
-        Promise::Grows => both(plain_code(k), plain_count(n)),
-        Promise::Keeps => both(lossless_code(k, n), plain_count(n)),
-        Promise::Joins => plain_code(k),
+        Promise::Grows => both(plain_field(f), fits(r)),
+        Promise::Keeps => both(lossless_field(f), fits(r)),
+        Promise::Joins => {
+            let k = f.code;
+            plain_code(k)
+        }
+        Promise::Plain => plain_field(f),
+        Promise::Slots => slots_fit(r),
+        Promise::Room => end_fits(r),
     }
 }
 
 // How many fields at the front of the n words keep a promise.
 fn kept_front(words: &[u32], n: usize, q: Promise) -> usize
-    requires { ⌜ n ≤ length (now words) ⌝ }
-    ensures { λ r. ⌜ r ≡ keptFront q (decoded n (before words)) ⌝ }
+    requires { ⌜ (n ≤ length (now words)) × (n ≤ maxLayout) ⌝ }
+    ensures { λ r. ⌜ r ≡ keptFront q nothing (decoded n (before words)) ⌝ }
 {
+    let mut r = Reach::nothing();
     let mut i: usize = 0;
     while i < n {
         let f = layout::field_of(words[i]);
-        if !kept_by(q, f) {
+        r = r.with(f);
+        if !kept_by(q, r, f) {
             return i;
         }
         i += 1;
@@ -226,18 +333,17 @@ impl Told {
         }
     }
 
-    // A layout's own refusal; `which` says whose it is.
-    fn refused(why: Refusal, place: usize, which: u32) -> Told
-        requires { ⌜ place < maxLayout ⌝ }
+    // A refusal that other calls give too; `which` says in which layout its place lies.
+    fn refused(why: Refusal, place: u32, which: u32) -> Told
         ensures { λ r. ⌜ r ≡ record { answer = refusal why place; fourth = which } ⌝ }
     {
         Told {
-            answer: Answer::refused(why, place as u32),
+            answer: Answer::refused(why, place),
             fourth: which,
         }
     }
 
-    // A refusal of the new layout beside the old one.
+    // A refusal of the new layout that no other call gives.
     fn refused_new(number: u32, place: u32) -> Told
         ensures { λ r. ⌜ r ≡ refusedNew number place ⌝ }
     {
@@ -263,15 +369,17 @@ fn read_layout(text: &[u8], words: &mut [u32]) -> Parsed
     parser::parse(text, true, words)
 }
 
-// Says where a layout breaks each promise: 0 and three places, for growing at its end, for losing nothing when it is read, and for being joined; 4294967295
-// stands for no place. Or the refusal that packing by it would give, 1 to 4, and its place.
+// Says where a layout breaks each promise: 0 and three places, for growing at its end, for losing nothing when it is
+// read, and for being joined; 4294967295 stands for no place. A field that takes a slot more than a table may have, or
+// that ends past the longest record, breaks the first two. Or the refusal that packing by it would give, 1 to 4, and
+// its place.
 pub fn promises(layout: &[u8]) -> Told
     ensures { λ r. ⌜ r ≡ promised (before layout) ⌝ }
 {
     let mut words: [u32; layout::MAX_LAYOUT] = [0; layout::MAX_LAYOUT];
     let p = read_layout(layout, &mut words);
     match p {
-        Parsed::Refused(why, place) => Told::refused(why, place, 0),
+        Parsed::Refused(why, place) => Told::refused(why, place as u32, 0),
         Parsed::Fields(n, _slots) => {
             let grows = first_break(layout, &words, n, Promise::Grows);
             let keeps = first_break(layout, &words, n, Promise::Keeps);
@@ -290,9 +398,17 @@ fn grown(old: &[u32], m: usize, text: &[u8], new: &[u32], n: usize) -> Told
     if k < m {
         return Told::refused_new(FIELDS_DIFFER, place_of(text, k) as u32);
     }
-    let b = first_break(text, new, n, Promise::Grows);
-    if b != NOWHERE {
-        return Told::refused_new(NOT_PLAIN, b);
+    let plain = first_break(text, new, n, Promise::Plain);
+    if plain != NOWHERE {
+        return Told::refused_new(NOT_PLAIN, plain);
+    }
+    let slots = first_break(text, new, n, Promise::Slots);
+    if slots != NOWHERE {
+        return Told::refused(Refusal::WrongSlots, slots, 1);
+    }
+    let room = first_break(text, new, n, Promise::Room);
+    if room != NOWHERE {
+        return Told::refused(Refusal::NoRoom, room, 1);
     }
     Told::accepted(m as u32, (n - m) as u32, 0)
 }
@@ -305,21 +421,23 @@ fn extends_words(old: &[u32], m: usize, new: &[u8]) -> Told
     let mut words: [u32; layout::MAX_LAYOUT] = [0; layout::MAX_LAYOUT];
     let p = read_layout(new, &mut words);
     match p {
-        Parsed::Refused(why, place) => Told::refused(why, place, 1),
+        Parsed::Refused(why, place) => Told::refused(why, place as u32, 1),
         Parsed::Fields(n, _slots) => grown(old, m, new, &words, n),
     }
 }
 
-// Says whether the new layout is the old one with fields added at its end, so that demand 3 speaks of the two: 0, the fields of the old layout, the fields
-// added, 0. Or the refusal of a layout, 1 to 4, its place, 0, and 0 for the old layout or 1 for the new one; or 17 where the new fields do not begin with
-// the old ones, or 18 where a field of the new layout is not plain, with the place in the new text, 0, and 1.
+// Says whether the new layout is the old one with fields added at its end, so that demand 3 speaks of the two: 0, the
+// fields of the old layout, the fields added, 0. Or the refusal of a layout, 1 to 4, its place, 0, and 0 for the old
+// layout or 1 for the new one; or 17 where the new fields do not begin with the old ones, 18 where a field of the new
+// layout is not plain, 5 where one takes a slot more than a table may have, or 11 where one ends past the longest
+// record, with its place in the new text, 0, and 1.
 pub fn extends(old: &[u8], new: &[u8]) -> Told
     ensures { λ r. ⌜ r ≡ extended (before old) (before new) ⌝ }
 {
     let mut words: [u32; layout::MAX_LAYOUT] = [0; layout::MAX_LAYOUT];
     let p = read_layout(old, &mut words);
     match p {
-        Parsed::Refused(why, place) => Told::refused(why, place, 0),
+        Parsed::Refused(why, place) => Told::refused(why, place as u32, 0),
         Parsed::Fields(m, _slots) => extends_words(&words, m, new),
     }
 }

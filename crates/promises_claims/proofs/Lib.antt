@@ -1,5 +1,7 @@
 -- The claims proved, and the examples.
 mod Examples
 mod Places
+pub mod Kept
+mod NotEmpty
 pub mod Promises
 pub mod Extends

@@ -1,5 +1,6 @@
--- At each place stands the type character of its field: a step that is a field has read it there, and the text from there on is what is left of it.
-use Prim.Native.Nat.{ℕ, zero, suc, _<_}
+-- At each place stands its field: a step that is a field has read it there, and the text from there on is what is left
+-- of it. What is read next lies behind the bytes that belong to the field.
+use Prim.Native.Nat.{ℕ, zero, suc, _+_, _≤_, _<_}
 use native.Mathlib.Omega.{arith}
 use native.Mathlib.Nat.{lt-of-not-le}
 use native.Mathlib.Decide.{decLe}
@@ -12,8 +13,8 @@ use Rattle.layout.specs.Refusals.{Result, ok}
 use Rattle.layout.specs.Layout.{Step, space, field, bad, stepOf, extra}
 use Rattle.layout.proofs.Laws.{no-refusal, bound, ok-inj}
 use Rattle.promises.specs.Placed.{Placed, placedBefore, placedFrom, placedFields}
-use Rattle.promises.proofs.Places.{forgotten, Reads, reads-step}
-use Rattle.promises_claims.specs.Claim.{Stand, PlacesOf}
+use Rattle.promises.proofs.Places.{forgotten}
+use Rattle.promises_claims.specs.Claim.{StandsAt, Stand, PlacesOf}
 
 -- ---- the whole text
 
@@ -33,25 +34,41 @@ left text at c cs e = elim (decLe (length text) at) [
       )
 ]
 
-module _ (text : List ℕ) where
-  stand-step : (at c : ℕ) (cs : List ℕ) (s : Step) (rest : Result (List Placed)) → at < length text → getD text at 0 ≡ c → Reads c cs s
-      → ((qs : List Placed) → rest ≡ ok qs → Stand text qs) → (ps : List Placed) → placedBefore at s rest ≡ ok ps → Stand text ps
-  stand-step at c cs space rest h g o ih ps e = ih ps e
-  stand-step at c cs (field f n) rest h g o ih ps e =
-      let (qs, e₁, e₂) = bound rest (λ qs. ok (record { what = f; place = at } ∷ qs)) ps e in
-      subst (Stand text) (ok-inj e₂) (h, rw g (o .0), ih qs e₁)
-  stand-step at c cs (bad why place) rest h g o ih ps e = no-refusal e
+-- fields that stand from a byte on stand from every byte before it on
+stand-weaker : (text : List ℕ) (from at : ℕ) → at ≤ from → (ps : List Placed) → Stand text from ps → Stand text at ps
+stand-weaker text from at h [] s = tt
+stand-weaker text from at h (p ∷ ps) (n, here, later) =
+    (n, record { behind = omega (arith, here .behind); inside = here .inside; found = here .found }, later)
 
-  stand-from : (cs : List ℕ) (at n : ℕ) → drop at text ≡ cs → (ps : List Placed) → placedFrom at n cs ≡ ok ps → Stand text ps
+module _ (text : List ℕ) where
+  stand-step : (at c : ℕ) (cs : List ℕ) (s : Step) (rest : Result (List Placed)) → Left text at c cs
+      → stepOf true at c cs ≡ s
+      → ((qs : List Placed) → rest ≡ ok qs → Stand text (suc at + extra s) qs)
+      → (ps : List Placed) → placedBefore at s rest ≡ ok ps → Stand text at ps
+  stand-step at c cs space rest l e ih ps k = stand-weaker text (suc at + 0) at (omega arith) ps (ih ps k)
+  stand-step at c cs (field f n) rest l e ih ps k =
+      let (qs, k₁, k₂) = bound rest (λ qs. ok (record { what = f; place = at } ∷ qs)) ps k in
+      let here : StandsAt text at (record { what = f; place = at }) n =
+      record { behind = omega arith; inside = l .inside; found = rw (l .here, l .after) e } in
+      let later : Stand text (at + 1 + n) qs = stand-weaker text (suc at + n) (at + 1 + n) (omega arith) qs (ih qs k₁) in
+      subst (Stand text at) (ok-inj k₂) (n, here, later)
+  stand-step at c cs (bad why place) rest l e ih ps k = no-refusal k
+
+  stand-from : (cs : List ℕ) (at n : ℕ) → drop at text ≡ cs → (ps : List Placed) → placedFrom at n cs ≡ ok ps
+      → Stand text (at + n) ps
   unfolding placedFrom
-  stand-from [] at n d ps e = subst (Stand text) (ok-inj e) tt
-  stand-from (c ∷ cs) at (suc n) d ps e = stand-from cs (suc at) n (left text at c cs d .after) ps e
+  stand-from [] at n d ps e = subst (Stand text (at + n)) (ok-inj e) tt
+  stand-from (c ∷ cs) at (suc n) d ps e =
+      stand-weaker text (suc at + n) (at + suc n) (omega arith) ps
+      (stand-from cs (suc at) n (left text at c cs d .after) ps e)
   stand-from (c ∷ cs) at zero d ps e =
       let l : Left text at c cs = left text at c cs d in
       let s : Step = stepOf true at c cs in
-      stand-step at c cs s (placedFrom (suc at) (extra s) cs) (l .inside) (l .here) (reads-step at c cs) (λ qs k. stand-from cs (suc at) (extra s) (l .after) qs k) ps e
+      stand-weaker text at (at + 0) (omega arith) ps
+      (stand-step at c cs s (placedFrom (suc at) (extra s) cs) l refl
+      (λ qs k. stand-from cs (suc at) (extra s) (l .after) qs k) ps e)
 
-  pub stands : (ps : List Placed) → placedFields text ≡ ok ps → Stand text ps
+  pub stands : (ps : List Placed) → placedFields text ≡ ok ps → Stand text 0 ps
   unfolding placedFields
   stands ps e = stand-from text 0 0 refl ps e
 

@@ -1,75 +1,34 @@
--- No field breaks a promise just where all fields keep it, since every place lies in the text and so is not the number that stands for none. All fields keep
--- it just where the layout is one of which the theorem speaks.
+-- The call tells of each promise where it is broken first, and that is nowhere just where all fields keep it, which is
+-- what the theorem asks of a layout. Where M-107 speaks of it, its records are those that the call promised.
 use Prim.Native.Nat.{ℕ, _≤_}
-use native.Mathlib.Omega.{arith}
 use mathlib.Core.Path.{_≡_, refl, sym, ap, _∙_}
-use mathlib.Core.Bool.{Bool, true, false, _&&_, true≢false}
-use mathlib.Core.List.{List, [], _∷_}
+use mathlib.Core.Bool.{true}
+use mathlib.Core.List.{List}
 use lib.ListN.{length}
 use lib.Dec.{T, leb}
 use borrow.Author.Tests.{le-leb, leb-true}
 use Rattle.layout.specs.declared.Field.{Field}
 use Rattle.layout.specs.declared.Refusal.the-variants.{BadSize}
-use Rattle.layout.specs.Refusals.{if_then_else_, Result, ok, refused}
+use Rattle.layout.specs.Refusals.{Result, ok, refused}
 use Rattle.layout.specs.Layout.{maxLayout, fieldsOf}
 use Rattle.layout.proofs.Laws.{demanded, no-number-zero}
 use Rattle.record.specs.Packing.{pack, packs}
 use Rattle.record.proofs.Sizes.{Sized, sized}
 use Rattle.runs.proofs.Calls.{T→true, packs-passed, accepted-result}
 use Rattle.evolution.specs.Claim.{plain}
-use Rattle.lossless.specs.Claim.{lossless, Layout}
+use Rattle.lossless.specs.Claim.{lossless, Layout, Archived}
 use Rattle.lossless.proofs.LosesNothing.{loses-nothing}
 use Rattle.gluing.specs.Claim.{forward, Part}
 use Rattle.gluing.proofs.Glues.{glues}
 use Rattle.promises.specs.declared.Promise.{Promise}
 use Rattle.promises.specs.declared.Promise.the-variants.{Grows, Keeps, Joins}
 use Rattle.promises.specs.Placed.{Placed, fieldsIn, placedFields}
-use Rattle.promises.specs.Promises.{keptBy, nowhere, firstBreak, told, layoutFields, inLayout, promised}
+use Rattle.promises.specs.Promises.{nothing, nowhere, firstBreak, told, layoutFields, inLayout, promised}
 use Rattle.promises.proofs.Places.{Placing, placing, placed-fields}
-use Rattle.promises_claims.specs.Claim.{_⇔_, Stand, Accepted, Packing, Promises}
+use Rattle.promises_claims.specs.Claim.{_⇔_, Stand, Accepted, Packing, Limited, KeepsAll, Archivable, Promises}
 use Rattle.promises_claims.proofs.Places.{stands}
-
--- ---- all fields keep a promise
-
-abbrev pub allKeep : Promise → List Field → Bool
-allKeep q [] = true
-allKeep q (f ∷ fs) = keptBy q f && allKeep q fs
-
-true→T : (b : Bool) → b ≡ true → T b
-true→T b e = rw e tt
-
-pub break-kept : (q : Promise) (text : List ℕ) (ps : List Placed) → length text ≤ maxLayout → Stand text ps → firstBreak q ps ≡ nowhere → allKeep q (fieldsIn ps) ≡ true
-unfolding firstBreak
-break-kept q text [] h s e = refl
-break-kept q text (p ∷ ps) h s e = step (keptBy q (p .what)) e (λ k. break-kept q text ps h (s .2) k)
-  where
-    step : (t : Bool) → (if t then firstBreak q ps else p .place) ≡ nowhere → (firstBreak q ps ≡ nowhere → allKeep q (fieldsIn ps) ≡ true) → (t && allKeep q (fieldsIn ps)) ≡ true
-    step true k ih = ih k
-    step false k ih = absurd (omega (arith, s .0))
-
-pub kept-break : (q : Promise) (ps : List Placed) → allKeep q (fieldsIn ps) ≡ true → firstBreak q ps ≡ nowhere
-unfolding firstBreak
-kept-break q [] e = refl
-kept-break q (p ∷ ps) e = step (keptBy q (p .what)) e (λ k. kept-break q ps k)
-  where
-    step : (t : Bool) → (t && allKeep q (fieldsIn ps)) ≡ true → (allKeep q (fieldsIn ps) ≡ true → firstBreak q ps ≡ nowhere) → (if t then firstBreak q ps else p .place) ≡ nowhere
-    step true k ih = ih k
-    step false k ih = absurd (true≢false (sym k))
-
-pub plain-all : (fs : List Field) → plain fs ≡ allKeep Grows fs
-unfolding plain
-plain-all [] = refl
-plain-all (f ∷ fs) = rw (plain-all fs)
-
-lossless-all : (fs : List Field) → lossless fs ≡ allKeep Keeps fs
-unfolding lossless
-lossless-all [] = refl
-lossless-all (f ∷ fs) = rw (lossless-all fs)
-
-forward-all : (fs : List Field) → forward fs ≡ allKeep Joins fs
-unfolding forward
-forward-all [] = refl
-forward-all (f ∷ fs) = rw (forward-all fs)
+use Rattle.promises_claims.proofs.Kept.{true→T, allKeep, unbroken, grows-kept, keeps-kept, forward-kept}
+use Rattle.promises_claims.proofs.NotEmpty.{each-record, some-record, archived-limits}
 
 -- ---- a layout that is accepted
 
@@ -79,7 +38,7 @@ pub record Found (layout : List ℕ) (fs : List Field) : Type 0 where
   pub here : placedFields layout ≡ ok placed
   pub whole : layoutFields layout ≡ ok placed
   pub same : fieldsIn placed ≡ fs
-  pub stand : Stand layout placed
+  pub stand : Stand layout 0 placed
 
 pub found : (layout : List ℕ) (fs : List Field) → length layout ≤ maxLayout → fieldsOf true layout ≡ ok fs → Found layout fs
 unfolding layoutFields
@@ -91,7 +50,7 @@ found layout fs h e =
 pub record Opened (layout : List ℕ) (ps : List Placed) : Type 0 where
   pub short : length layout ≤ maxLayout
   pub fields : fieldsOf true layout ≡ ok (fieldsIn ps)
-  pub stand : Stand layout ps
+  pub stand : Stand layout 0 ps
 
 pub opened : (layout : List ℕ) (ps : List Placed) → layoutFields layout ≡ ok ps → Opened layout ps
 unfolding layoutFields
@@ -108,11 +67,25 @@ module _ (layout : List ℕ) where
     unfolding promised
     answers = rw (f .whole)
 
-    exactly : (q : Promise) (b : Bool) (n : ℕ) → b ≡ allKeep q (a .fields) → n ≡ firstBreak q (f .placed) → (n ≡ nowhere) ⇔ T b
-    exactly q b n p e = (
-      λ k. true→T b (p ∙ ap (allKeep q) (sym (f .same)) ∙ break-kept q layout (f .placed) (a .short) (f .stand) (sym e ∙ k)),
-      λ t. e ∙ kept-break q (f .placed) (ap (allKeep q) (f .same) ∙ sym p ∙ T→true b t),
-    )
+    -- what is told of a promise that all fields keep just where P holds
+    exactly : (q : Promise) (P : Type 0) (n : ℕ) → n ≡ firstBreak q (f .placed)
+        → (allKeep q nothing (a .fields) ≡ true) ⇔ P → (n ≡ nowhere) ⇔ P
+    exactly q P n e (there, back) =
+        let (kept, unbroken) = unbroken q layout (f .placed) (a .fields) (a .short) (f .stand) (f .same) in
+        (λ k. there (kept (sym e ∙ k)), λ p. e ∙ unbroken (back p))
+
+    grows-exactly : (promised layout .answer .first ≡ nowhere) ⇔ (T (plain (a .fields)) × Limited (a .fields))
+    grows-exactly = exactly Grows _ _ (ap (λ t. t .answer .first) answers) (grows-kept (a .fields))
+
+    keeps-exactly : (promised layout .answer .second ≡ nowhere) ⇔ (T (lossless (a .fields)) × Limited (a .fields))
+    keeps-exactly = exactly Keeps _ _ (ap (λ t. t .answer .second) answers) (keeps-kept (a .fields))
+
+    joins-exactly : (promised layout .fourth ≡ nowhere) ⇔ T (forward (a .fields))
+    joins-exactly =
+        exactly Joins _ _ (ap (λ t. t .fourth) answers) (
+          λ k. true→T (forward (a .fields)) (forward-kept (a .fields) ∙ k),
+          λ t. sym (forward-kept (a .fields)) ∙ T→true (forward (a .fields)) t,
+        )
 
   accepted-by : promised layout .answer .number ≡ 0 → Accepted layout
   unfolding promised
@@ -141,23 +114,42 @@ part layout area p e =
       output = p .output;
       fields = a .fields;
       has-fields = a .has-fields;
-      goes-forward = exactly layout a Joins (forward (a .fields)) (promised layout .fourth) (forward-all (a .fields)) (ap (λ t. t .fourth) (answers layout a)) .0 e;
+      goes-forward = joins-exactly layout a .0 e;
       accepted = p .accepted;
     }
+
+-- ---- M-107
+
+module _ (layout : List ℕ) where
+  -- the lossless layout of what was told
+  form : KeepsAll layout → (l : Layout) × (l .text ≡ layout) × (length layout ≤ maxLayout) × Limited (l .fields)
+  form (z, e) =
+      let a : Accepted layout = accepted-by layout z in
+      let (kept, limits) = keeps-exactly layout a .0 e in
+      let l : Layout = record { text = layout; fields = a .fields; has-fields = a .has-fields; is-lossless = kept } in
+      (l, refl, a .short, limits)
+
+  archivable : KeepsAll layout → Archivable layout
+  archivable t =
+      let (l, is, short, limits) = form t in
+      record { form = l; is-text = is; one = some-record l (rw is short) limits }
+
+  archived : (l : Layout) → Archived l → KeepsAll (l .text)
+  archived l r =
+      let (short, limits) = archived-limits l r in
+      let a : Accepted (l .text) = record { fields = l .fields; short = short; has-fields = l .has-fields } in
+      (ap (λ t. t .answer .number) (answers (l .text) a), keeps-exactly (l .text) a .1 (l .is-lossless, limits))
 
 pub promises-hold : (layout : List ℕ) → Promises layout
 unfolding part
 promises-hold layout = record {
   accepts = (accepted-by layout, λ a. ap (λ t. t .answer .number) (answers layout a));
-  grows = λ a. exactly layout a Grows (plain (a .fields)) _ (plain-all (a .fields)) (ap (λ t. t .answer .first) (answers layout a));
-  keeps = keeps;
-  joins = λ a. exactly layout a Joins (forward (a .fields)) _ (forward-all (a .fields)) (ap (λ t. t .fourth) (answers layout a));
-  loses-nothing = λ z e.
-      let a : Accepted layout = accepted-by layout z in
-      let l : Layout = record { text = layout; fields = a .fields; has-fields = a .has-fields; is-lossless = keeps a .0 e } in
-      (l, refl, loses-nothing l);
+  grows = grows-exactly layout;
+  keeps = keeps-exactly layout;
+  joins = joins-exactly layout;
+  loses-nothing = λ t.
+      let (l, is, short, limits) = form layout t in
+      (l, is, loses-nothing l, each-record l (rw is short) limits);
+  archives = (archivable layout, λ b. rw (b .is-text) at (archived layout (b .form) (b .one)));
   glues = λ other area p q e k. glues area .two (part layout area p e) (part other area q k);
 }
-  where
-    keeps : (a : Accepted layout) → (promised layout .answer .second ≡ nowhere) ⇔ T (lossless (a .fields))
-    keeps a = exactly layout a Keeps (lossless (a .fields)) _ (lossless-all (a .fields)) (ap (λ t. t .answer .second) (answers layout a))

@@ -1,21 +1,22 @@
--- What the answers of `promises` and `extends` have to do with the three theorems: demand 3 (document 01), M-107 and M-113 (02). Each answer says just what
--- the theorem asks of a layout, no less and no more; so where it is given, the theorem holds. The proof is in proofs/Promises.antt and proofs/Extends.antt.
-use Prim.Native.Nat.{ℕ, _+_, _*_, _≤_, _<_}
+-- What the answers of `promises` and `extends` have to do with the three theorems: demand 3 (document 01), M-107 and
+-- M-113 (02). Each answer says just what the theorem asks of a layout, no less and no more; so where it is given, the
+-- theorem holds, and there is something of which it speaks. The proof is in proofs/Promises.antt, proofs/Extends.antt
+-- and proofs/NotEmpty.antt.
+use Prim.Native.Nat.{ℕ, suc, _+_, _*_, _≤_, _<_}
 use mathlib.Core.Path.{_≡_}
-use mathlib.Core.Bool.{true}
+use mathlib.Core.Bool.{Bool, true}
 use mathlib.Core.List.{List, [], _∷_, _++_}
-use lib.ListN.{length, getD, take}
+use lib.ListN.{length, getD, take, drop}
 use lib.Dec.{T}
 use Rattle.layout.specs.declared.Field.{Field}
-use Rattle.layout.specs.declared.Typed.the-variants.{Known}
 use Rattle.layout.specs.Refusals.{ok}
-use Rattle.layout.specs.Layout.{maxLayout, typeOf, fieldsOf, slotCount}
-use Rattle.record.specs.Table.{slotsOf, slotWidth}
+use Rattle.layout.specs.Layout.{maxLayout, field, stepOf, fieldsOf, slotCount}
+use Rattle.record.specs.Table.{maxSlots, maxRecord, slotsOf, slotWidth}
 use Rattle.record.specs.Geometry.{sizesFit}
 use Rattle.record.specs.Packing.{argumentsFit, pack}
 use Rattle.runs.specs.Ends.{endOf, recordOf}
-use Rattle.evolution.specs.Claim.{plain, Layouts, ReadsBack}
-use Rattle.lossless.specs.Claim.{lossless, Layout, LosesNothing}
+use Rattle.evolution.specs.Claim.{plain, Layouts, recordBy, Reading, ReadsBack}
+use Rattle.lossless.specs.Claim.{lossless, Layout, areBytes, Archived, LosesNothing}
 use Rattle.gluing.specs.Claim.{forward, glue, Gives}
 use Rattle.promises.specs.Placed.{Placed, withoutPlaces, placedFields}
 use Rattle.promises.specs.Promises.{nowhere, sameField, told, promised, extended}
@@ -27,15 +28,22 @@ A ⇔ B = (A → B) × (B → A)
 
 -- ---- places
 
--- at each place stands the type character of the field
-abbrev pub Stand : List ℕ → List Placed → Type 0
-Stand text [] = Unit {0}
-Stand text (p ∷ ps) = (p .place < length text) × (typeOf (getD text (p .place) 0) ≡ Known (p .what .code)) × Stand text ps
+-- A field stands in a text at its place, which is `from` or behind it: there the layout reader finds this very field,
+-- with n bytes behind its type character.
+pub record StandsAt (text : List ℕ) (from : ℕ) (p : Placed) (n : ℕ) : Type 0 where
+  pub behind : from ≤ p .place
+  pub inside : p .place < length text
+  pub found : stepOf true (p .place) (getD text (p .place) 0) (drop (suc (p .place)) text) ≡ field (p .what) n
+
+-- the fields stand in a text from the byte `from` on, each behind the end of the one before it; so their places rise
+abbrev pub Stand : List ℕ → ℕ → List Placed → Type 0
+Stand text from [] = Unit {0}
+Stand text from (p ∷ ps) = (n : ℕ) × StandsAt text from p n × Stand text (p .place + 1 + n) ps
 
 pub record PlacesOf (text : List ℕ) : Type 0 where
   -- without their places the fields are those that the layout reader gives, and a refusal is the same
   pub fields : withoutPlaces (placedFields text) ≡ fieldsOf true text
-  pub stand : (ps : List Placed) → placedFields text ≡ ok ps → Stand text ps
+  pub stand : (ps : List Placed) → placedFields text ≡ ok ps → Stand text 0 ps
 
 -- ---- fields that are the same
 
@@ -60,25 +68,52 @@ pub record Packing (layout area : List ℕ) : Type 0 where
 abbrev pub resultBy : {layout area : List ℕ} → Packing layout area → List ℕ
 resultBy {layout} {area} p = recordOf (pack layout (p .slots) area (p .output))
 
+-- the limits of the calls (01, Slot tables, sizes): no more slots than a table may have, an end within the longest record
+pub record Limited (fs : List Field) : Type 0 where
+  pub slots : slotCount fs ≤ maxSlots
+  pub end : endOf fs ≤ maxRecord
+
+-- what the call tells of a layout that may grow, and of one by which reading loses nothing
+abbrev pub MayGrow : List ℕ → Type 0
+MayGrow layout = (promised layout .answer .number ≡ 0) × (promised layout .answer .first ≡ nowhere)
+
+abbrev pub KeepsAll : List ℕ → Type 0
+KeepsAll layout = (promised layout .answer .number ≡ 0) × (promised layout .answer .second ≡ nowhere)
+
+-- M-107 speaks of a layout: some record of it meets the premises ..
+pub record Archivable (layout : List ℕ) : Type 0 where
+  pub form : Layout
+  pub is-text : form .text ≡ layout
+  pub one : Archived form
+
+-- .. and every run of bytes that its fields fill does
+abbrev pub EachRecord : Layout → Type 0
+EachRecord l =
+    (bs : List ℕ) → T (areBytes bs) → length bs ≡ endOf (l .fields) → (r : Archived l) × (r .bytes ≡ bs)
+
 pub record Promises (layout : List ℕ) : Type 0 where
   -- the call accepts these layouts and no others
   pub accepts : (promised layout .answer .number ≡ 0) ⇔ Accepted layout
   -- the three numbers say whether the layout is one of which a theorem speaks: demand 3, M-107, M-113
-  pub grows : (a : Accepted layout) → (promised layout .answer .first ≡ nowhere) ⇔ T (plain (a .fields))
-  pub keeps : (a : Accepted layout) → (promised layout .answer .second ≡ nowhere) ⇔ T (lossless (a .fields))
+  pub grows : (a : Accepted layout)
+      → (promised layout .answer .first ≡ nowhere) ⇔ (T (plain (a .fields)) × Limited (a .fields))
+  pub keeps : (a : Accepted layout)
+      → (promised layout .answer .second ≡ nowhere) ⇔ (T (lossless (a .fields)) × Limited (a .fields))
   pub joins : (a : Accepted layout) → (promised layout .fourth ≡ nowhere) ⇔ T (forward (a .fields))
-  -- so where the second is told, reading by the layout loses nothing (02, M-107) ..
-  pub loses-nothing :
-      promised layout .answer .number ≡ 0 → promised layout .answer .second ≡ nowhere
-      → (l : Layout) × (l .text ≡ layout) × LosesNothing l
-  -- .. and where the third is told of this layout and of another, packing by the two joined gives the two results joined (02, M-113)
+  -- so where the second is told, reading by the layout loses nothing (02, M-107), whatever the record ..
+  pub loses-nothing : KeepsAll layout → (l : Layout) × (l .text ≡ layout) × LosesNothing l × EachRecord l
+  -- .. and it is told of just those layouts of which M-107 speaks
+  pub archives : KeepsAll layout ⇔ Archivable layout
+  -- Where the third is told of this layout and of another, packing by the two joined gives the two results joined
+  -- (02, M-113).
   pub glues :
       (other area : List ℕ) (p : Packing layout area) (q : Packing other area) → promised layout .fourth ≡ nowhere → promised other .fourth ≡ nowhere
       → Gives area (glue (record { text = layout; slots = p .slots }) (record { text = other; slots = q .slots })) (resultBy p ++ resultBy q)
 
 -- ---- `extends`
 
--- what demand 3 asks of two layouts (01, What demand 3 reads back): fields are added at the end, and the new layout is plain
+-- what demand 3 asks of two layouts (01, What demand 3 reads back): fields are added at the end, the new layout is
+-- plain, and it keeps to the limits
 pub record Extension (old new : List ℕ) : Type 0 where
   pub fields : List Field
   pub added : List Field
@@ -87,6 +122,7 @@ pub record Extension (old new : List ℕ) : Type 0 where
   pub old-fields : fieldsOf true old ≡ ok fields
   pub new-fields : fieldsOf true new ≡ ok (fields ++ added)
   pub is-plain : T (plain (fields ++ added))
+  pub limited : Limited (fields ++ added)
 
 -- all else that it asks: the arguments, and the buffers of the two packings (the premises of `Layouts` in crates/evolution)
 pub record Lent {old new : List ℕ} (e : Extension old new) : Type 0 where
@@ -123,23 +159,56 @@ layoutsOf {old} {new} e a =
       old-room = a .old-room;
     }
 
+-- a reading of a record that is cut at k, into some table and area from some mark on (the premise `Reading` in
+-- crates/evolution)
+pub record SomeReading (l : Layouts) (packing layout : Bool) (k : ℕ) : Type 0 where
+  pub slots : List ℕ
+  pub area : List ℕ
+  pub mark : ℕ
+  pub reading : Reading l packing layout k slots area mark
+
+-- Demand 3 has something to say of two layouts: there are arguments and buffers; and whatever those are, either layout
+-- reads either record, wherever that is cut.
+pub record NotEmpty {old new : List ℕ} (e : Extension old new) : Type 0 where
+  pub lent : Lent e
+  pub readings : (a : Lent e) (packing layout : Bool) (k : ℕ) → k ≤ length (recordBy (layoutsOf e a) packing)
+      → SomeReading (layoutsOf e a) packing layout k
+
+-- demand 3 speaks of two layouts: its premises can be met with their texts
+pub record Spoken (old new : List ℕ) : Type 0 where
+  pub layouts : Layouts
+  pub is-old : layouts .old ≡ old
+  pub is-new : layouts .new ≡ new
+
 pub record Extends (old new : List ℕ) : Type 0 where
-  -- the call accepts two layouts just where the new one is the old one with fields added, and plain ..
+  -- the call accepts two layouts just where the new one is the old one with fields added, plain and within the limits ..
   pub accepts : (extended old new .answer .number ≡ 0) ⇔ Extension old new
   -- .. and tells how many fields the old one has, and how many are added
   pub counts : (e : Extension old new) → extended old new ≡ told (length (e .fields)) (length (e .added)) 0
   -- SO WHERE IT ACCEPTS, DEMAND 3 HOLDS: whatever the arguments and buffers, both packings and every reading keep it
   pub keeps : extended old new .answer .number ≡ 0 → (e : Extension old new) × ((a : Lent e) → ReadsBack (layoutsOf e a))
+  -- AND IT SAYS SOMETHING: there are arguments, buffers and readings ..
+  pub not-empty : (e : Extension old new) → NotEmpty e
+  -- .. and of other layouts than these it says nothing
+  pub speaks : (extended old new .answer .number ≡ 0) ⇔ Spoken old new
   -- what was added year after year was added
   pub chain : (newer : List ℕ) → extended old new .answer .number ≡ 0 → extended new newer .answer .number ≡ 0
       → extended old newer ≡ told (extended old new .answer .first) (extended old new .answer .second + extended new newer .answer .second) 0
 
 -- ---- both calls
 
--- a layout that may grow, and another one that may, put right behind it: the text of both extends the first
+-- a layout may grow just where it extends itself
+abbrev pub GrowsItself : Type 0
+GrowsItself = (layout : List ℕ) → MayGrow layout ⇔ (extended layout layout .answer .number ≡ 0)
+
+-- A layout that may grow, and another one that may, put right behind it: where the two together keep to the limits, the
+-- text of both extends the first, by the fields of the second. (`curlew_layout` tells the slots and the end of each.)
 abbrev pub GrowsBy : Type 0
 GrowsBy =
-    (layout other : List ℕ) → length (layout ++ other) ≤ maxLayout
-    → promised layout .answer .number ≡ 0 → promised layout .answer .first ≡ nowhere
-    → promised other .answer .number ≡ 0 → promised other .answer .first ≡ nowhere
-    → extended layout (layout ++ other) .answer .number ≡ 0
+    (layout other : List ℕ) (a : Accepted layout) (b : Accepted other)
+    → promised layout .answer .first ≡ nowhere
+    → promised other .answer .first ≡ nowhere
+    → length (layout ++ other) ≤ maxLayout
+    → slotCount (a .fields) + slotCount (b .fields) ≤ maxSlots
+    → endOf (a .fields) + endOf (b .fields) ≤ maxRecord
+    → extended layout (layout ++ other) ≡ told (length (a .fields)) (length (b .fields)) 0

@@ -1,5 +1,6 @@
 -- An old layout that is refused is refused so here; the rest is said of its fields.
 use mathlib.Core.Path.{_∙_}
+use native.Mathlib.Omega.{arith}
 use Rattle.layout.specs.declared.Parsed.the-variants.{Fields, Refused}
 use Rattle.promises.specs.Walk.{ReadAs}
 use Rattle.promises.proofs.Calls.{extends-refused, extends-by}
@@ -30,8 +31,11 @@ read-layout-requires c κs = search needs
 enum-known-p : tie.Need-enum-known-p
 enum-known-p c = search needs
 
+cast-refused : tie.Need-cast-refused
+cast-refused c = omega (arith, bad c .1)
+
 refused-requires : tie.Need-refused-requires
-refused-requires c κs = bad c .1
+refused-requires c κs = search needs
 
 enum-known-p-2 : tie.Need-enum-known-p-2
 enum-known-p-2 c = search needs
@@ -55,6 +59,7 @@ extends-spec =
     slice-aggregate-read-layout
     read-layout-requires
     enum-known-p
+    cast-refused
     refused-requires
     enum-known-p-2
     slice-aggregate-extends-words

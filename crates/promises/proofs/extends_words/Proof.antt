@@ -1,4 +1,5 @@
 -- A new layout that is refused is refused so here; one that is read is held against the old fields.
+use native.Mathlib.Omega.{arith}
 use Rattle.layout.specs.declared.Parsed.the-variants.{Fields, Refused}
 use Rattle.promises.specs.Walk.{ReadAs}
 use Rattle.promises.proofs.Calls.{by-refused, by-grown}
@@ -29,8 +30,11 @@ read-layout-requires c κs = search needs
 enum-known-p : tie.Need-enum-known-p
 enum-known-p c = search needs
 
+cast-refused : tie.Need-cast-refused
+cast-refused c = omega (arith, bad c .1)
+
 refused-requires : tie.Need-refused-requires
-refused-requires c κs = bad c .1
+refused-requires c κs = search needs
 
 enum-known-p-2 : tie.Need-enum-known-p-2
 enum-known-p-2 c = search needs
@@ -54,6 +58,7 @@ extends-words-spec =
     slice-aggregate-read-layout
     read-layout-requires
     enum-known-p
+    cast-refused
     refused-requires
     enum-known-p-2
     slice-aggregate-grown

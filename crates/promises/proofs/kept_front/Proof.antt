@@ -1,6 +1,6 @@
--- What the loop keeps is `Kept`: the fields before i keep the promise, and so many more as those from i on say.
+-- What the loop keeps is `Kept`: the fields before i keep the promise and have come so far, and so many more keep it as
+-- those from i on say.
 use Prim.Native.Nat.{_-_}
-use mathlib.Core.Path.{sym, _∙_}
 use native.Mathlib.Omega.{arith}
 use borrow.Author.Tests.{not-true, not-false}
 use borrow.Author.Needs.{needs}
@@ -9,31 +9,45 @@ use Rattle.promises.proofs.kept_front.Statement.{statement}
 use Rattle.promises.proofs.kept_front.Tie as tie
 
 abbrev Inv-loop : tie.InvT-loop
-Inv-loop words n q i₀ i = Kept q n words i
+Inv-loop words n q r₀ i₀ r i = Kept q n words i r
 
 abbrev μ-loop : tie.MeasureT-loop
-μ-loop words n q i₀ i = n - i
+μ-loop words n q r₀ i₀ r i = n - i
+
+nothing-requires : tie.Need-nothing-requires Inv-loop μ-loop
+nothing-requires c κs = search needs
 
 loop-holds : tie.Need-loop-holds Inv-loop μ-loop
-loop-holds c = kept-none _ _ _
+loop-holds c = rw (c .nothing .ensures) (kept-none _ _ _)
 
 mul-field-of : tie.Need-mul-field-of Inv-loop μ-loop
-mul-field-of c = omega (arith, c .before .before .before .pre)
+mul-field-of c = omega (arith, c .before .before .before .before .pre)
 
 shared-slice-read-field-of : tie.Need-shared-slice-read-field-of Inv-loop μ-loop
-shared-slice-read-field-of c = omega (arith, c .before .before .before .before .pre)
+shared-slice-read-field-of c = omega (arith, c .before .before .before .before .before .pre)
 
 field-of-requires : tie.Need-field-of-requires Inv-loop μ-loop
 field-of-requires c κs = search needs
+
+with-requires : tie.Need-with-requires Inv-loop μ-loop
+with-requires c κs =
+    let l = c .before .before .before in
+    let pre = l .before .before .before .pre in
+    let inv = l .loop .inv in
+    let field = c .field-of .ensures in
+    (field .code, field .count, omega (arith, inv .few, inv .within, pre), omega (arith, inv .near, inv .within, pre))
 
 kept-by-requires : tie.Need-kept-by-requires Inv-loop μ-loop
 kept-by-requires c κs = search needs
 
 returns : tie.Need-returns Inv-loop μ-loop
 returns c =
-    let test = c .before .before .before .before in
-    let kept = sym (c .before .kept-by .ensures) ∙ not-true _ (c .if1 .taken) in
-    kept-stop _ _ _ (test .before .before .before .pre) _ (test .before .loop .inv) (test .loop-test .taken) (rw (c .before .before .field-of .ensures .same) at kept)
+    let with = c .before .before in
+    let field = with .before in
+    let test = field .before .before in
+    kept-stop _ _ _ (test .before .before .before .before .pre .0) _ _ (test .before .loop .inv)
+    (test .loop-test .taken) _ (field .field-of .ensures) _ (with .with .ensures) _
+    (c .before .kept-by .ensures) (not-true _ (c .if1 .taken))
 
 add-i : tie.Need-add-i Inv-loop μ-loop
 add-i c = search needs
@@ -43,12 +57,16 @@ loop-less c = omega arith
 
 loop-again : tie.Need-loop-again Inv-loop μ-loop
 loop-again c =
-    let test = c .before .before .before .before in
-    let kept = sym (c .before .kept-by .ensures) ∙ not-false _ (c .if1 .left) in
-    kept-more _ _ _ (test .before .before .before .pre) _ (test .before .loop .inv) (test .loop-test .taken) (rw (c .before .before .field-of .ensures .same) at kept)
+    let with = c .before .before in
+    let field = with .before in
+    let test = field .before .before in
+    kept-more _ _ _ (test .before .before .before .before .pre .0) _ _ (test .before .loop .inv)
+    (test .loop-test .taken) _ (field .field-of .ensures) _ (with .with .ensures) _
+    (c .before .kept-by .ensures) (not-false _ (c .if1 .left))
 
 returns-2 : tie.Need-returns-2 Inv-loop μ-loop
-returns-2 c = kept-done _ _ _ (c .before .before .before .pre) _ (c .before .loop .inv) (c .loop-test .left)
+returns-2 c =
+    kept-done _ _ _ (c .before .before .before .before .pre .0) _ _ (c .before .loop .inv) (c .loop-test .left)
 
 pub kept-front-spec : {M : Type 1} → statement M
 kept-front-spec =
@@ -56,10 +74,12 @@ kept-front-spec =
     (tie.spec
     Inv-loop
     μ-loop
+    nothing-requires
     loop-holds
     mul-field-of
     shared-slice-read-field-of
     field-of-requires
+    with-requires
     kept-by-requires
     returns
     add-i

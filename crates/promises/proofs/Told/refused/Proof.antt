@@ -3,9 +3,6 @@ use borrow.Author.Needs.{needs}
 use Rattle.promises.proofs.Told.refused.Statement.{statement}
 use Rattle.promises.proofs.Told.refused.Tie as tie
 
-cast-refused : tie.Need-cast-refused
-cast-refused c = search needs
-
 refused-requires : tie.Need-refused-requires
 refused-requires c κs = search needs
 
@@ -13,4 +10,4 @@ returns : tie.Need-returns
 returns c = rw (c .refused .ensures)
 
 pub refused-spec : {M : Type 1} → statement M
-refused-spec = tie.close (tie.spec cast-refused refused-requires returns)
+refused-spec = tie.close (tie.spec refused-requires returns)

@@ -1,0 +1,25 @@
+-- The two sums are far below the width of a `usize`.
+use native.Mathlib.Omega.{arith}
+use Rattle.layout.specs.Layout.{takesSlot}
+use Rattle.layout.proofs.Steps.{bit-le}
+use borrow.Author.Needs.{needs}
+use Rattle.promises.proofs.Reach.with.Statement.{statement}
+use Rattle.promises.proofs.Reach.with.Tie as tie
+
+slots-taken-requires : tie.Need-slots-taken-requires
+slots-taken-requires c κs = search needs
+
+add-t6 : tie.Need-add-t6
+add-t6 c = omega (arith, bit-le (takesSlot (c .before .before .args .f .code)), c .before .slots-taken .ensures)
+
+fills-requires : tie.Need-fills-requires
+fills-requires c κs = search needs
+
+add-t8 : tie.Need-add-t8
+add-t8 c = search needs
+
+returns : tie.Need-returns
+returns c = cc
+
+pub with-spec : {M : Type 1} → statement M
+with-spec = tie.close (tie.spec slots-taken-requires add-t6 fills-requires add-t8 returns)
