@@ -184,15 +184,20 @@
  *
  *   CURLEW_OK, grows, keeps, joins
  *
- *   grows   it may grow at its end: no X, no @, no `*`, no count of 0
+ *   grows   it may grow at its end: no X, no @, no `*`, no count of 0, and within the limits
  *   keeps   reading loses nothing: only a, integers and q Q, b B with counts that 8 divides and h H with even counts;
- *           no `*`, no count of 0
+ *           no `*`, no count of 0, and within the limits
  *   joins   it may be joined with other such layouts: no X, no @
+ *
+ * The limits are at most CURLEW_MAX_SLOTS fields that take a slot, and a record of at most CURLEW_MAX_RECORD bytes,
+ * those that x fills counted. Past them every packing is refused, so there would be no record of which grows or keeps
+ * could speak; within them there always is one. The first field past a limit breaks both.
  *
  * Each of the three is CURLEW_NOWHERE where the promise is kept, and else the byte of the layout at which the first
  * field stands that breaks it. The layout `a6 A12 Su` answers CURLEW_NOWHERE, 3, CURLEW_NOWHERE: it may grow and be
- * joined, and byte 3, the A, drops blanks. curlew_get_answer gets grows and keeps, as first and second, and
- * curlew_get_joins the third. A layout that packing would refuse is refused just so.
+ * joined, and byte 3, the A, drops blanks. `a32768 c` answers 7, 7, CURLEW_NOWHERE: with the c its record would be too
+ * long. curlew_get_answer gets grows and keeps, as first and second, and curlew_get_joins the third. A layout that
+ * packing would refuse is refused just so.
  *
  * curlew_extends takes last year's layout and this year's. It accepts the two where the new one is the old one with
  * fields added at its end, or with none, and is one that may grow. Then all is well between the years: either layout
@@ -204,13 +209,16 @@
  * Fields count and not the text: they are the same where type, flag and count are. `c3 su` and `c03su` have the same
  * fields; `c` is not `c1`, since without a count a slot holds exactly one integer. Refused are the layouts that
  * packing would refuse, the old one first; then, with CURLEW_OTHER_FIELDS, a new layout that does not begin with the
- * old one's fields, at its first field that differs, or at its length where it has too few; then, with
- * CURLEW_NOT_PLAIN, one that may not grow, at the first field that breaks this. The fourth number of a refusal says in
- * which layout the place lies: 0 in the old one, 1 in the new one (curlew_get_which).
+ * old one's fields, at its first field that differs, or at its length where it has too few; then one that may not
+ * grow: with CURLEW_NOT_PLAIN at its first X, @, `*` or count of 0; with CURLEW_BAD_SLOTS at the first field that
+ * takes a slot more than CURLEW_MAX_SLOTS; with CURLEW_NO_ROOM at the first field that ends past CURLEW_MAX_RECORD
+ * bytes. The fourth number of a refusal says in which layout the place lies: 0 in the old one, 1 in the new one
+ * (curlew_get_which).
  *
  *   curlew_extends("A8 S2", 5, "A8 S2 S", 7, reply, sizeof reply)     CURLEW_OK, 2, 1, 0
  *   curlew_extends("A8 S2", 5, "A8 S3", 5, reply, sizeof reply)       CURLEW_OTHER_FIELDS, 3, 0, 1
  *   curlew_extends("A8 S2", 5, "A8 S2 c*", 8, reply, sizeof reply)    CURLEW_NOT_PLAIN, 6, 0, 1
+ *   curlew_extends("S2", 2, "S2 a32768", 9, reply, sizeof reply)      CURLEW_NO_ROOM, 3, 0, 1
  *
  * What was added year after year may be asked for each year alone: where this year's layout extends last year's, and
  * next year's this year's, next year's extends last year's, too.
@@ -347,7 +355,8 @@
  *    4   CURLEW_BAD_MOVE     `@` has no count, or packing met `x*`                  byte of the type character
  *    5   CURLEW_BAD_SLOTS    packing: not one slot for each field that takes one;   0
  *                            reading a record or a sheet: too few slots;
- *                            rescue: fewer slots than legs
+ *                            rescue: fewer slots than legs; extends: the new        extends: byte of the first
+ *                            layout takes more than CURLEW_MAX_SLOTS                field too many
  *    6   CURLEW_NOT_SET      packing: the slot is not set                           the slot
  *    7   CURLEW_BAD_SLOT     packing, writing a sheet, mean: the slot's kind is     the slot
  *                            above 4, or its value does not lie inside the area
@@ -361,7 +370,9 @@
  *   11   CURLEW_NO_ROOM      the result does not fit the output run, or the         0
  *                            values do not fit the area from the mark on; the
  *                            report does not hold the findings; a layout from
- *                            Perl is longer than its run or CURLEW_MAX_LAYOUT
+ *                            Perl is longer than its run or CURLEW_MAX_LAYOUT;
+ *                            extends: the record of the new layout is longer        extends: byte of the first
+ *                            than CURLEW_MAX_RECORD                                 field that ends past it
  *   12   CURLEW_BAD_SHEET    the sheet is too short or its header's length is       0
  *                            wrong, or a version 2 sheet would fit version 1;
  *                            the length or the kind of an entry is wrong            the entry's first byte
@@ -380,7 +391,7 @@
  * slot in turn; 11. Reading a sheet: 1; 13; 12; 5; 11. Rescuing one: 1; 13; 5; 11. Comparing: all of reading the
  * first copy, then all of reading the second, then 11 for the report. Mean: 1; then 7, 8, 9 and 14 for each slot in
  * turn. From Perl: 1; 15; 11. Layout, promises: 1; then 2, 3 and 4 for each field in turn. Extends: these for the old
- * layout, then for the new one; 17; 18.
+ * layout, then for the new one; 17; 18; 5; 11.
  *
  * No byte is written before the last of them: a refusal writes the reply and nothing else. A reply of a wrong size
  * makes the call return 1 and write nothing at all.
@@ -807,13 +818,13 @@ static inline const char *curlew_refusal(uint32_t number)
     case CURLEW_BAD_TYPE: return "the layout has an unknown type";
     case CURLEW_BAD_COUNT: return "a count in the layout is too large";
     case CURLEW_BAD_MOVE: return "the layout has an @ without a count, or an x* in packing";
-    case CURLEW_BAD_SLOTS: return "the number of slots does not suit the layout";
+    case CURLEW_BAD_SLOTS: return "the number of slots does not suit the layout, or the layout takes too many";
     case CURLEW_NOT_SET: return "the slot is not set";
     case CURLEW_BAD_SLOT: return "the slot has an unknown kind, or its value lies outside the area";
     case CURLEW_WRONG_KIND: return "the slot holds another kind of value than the field wants";
     case CURLEW_BAD_LIST: return "the slot holds fewer items than the count, or not one where there is no count";
     case CURLEW_BAD_DIGIT: return "the slot's string has a character that is not a digit";
-    case CURLEW_NO_ROOM: return "the result does not fit the run that is to hold it";
+    case CURLEW_NO_ROOM: return "the result does not fit the run that is to hold it, or the layout's record is too long";
     case CURLEW_BAD_SHEET: return "the sheet was cut, or one of its lengths or kinds is wrong";
     case CURLEW_BAD_VERSION: return "the sheet does not begin with a version that is known";
     case CURLEW_BAD_MARK: return "the mark lies outside 0 to 1,000,000";

@@ -7,9 +7,9 @@
 
 #define NOWHERE CURLEW_NOWHERE
 
-static struct run old, new, reply;
-static struct run *const one[] = {&old, &reply};
-static struct run *const two[] = {&old, &new, &reply};
+static struct run old_layout, new_layout, reply;
+static struct run *const one[] = {&old_layout, &reply};
+static struct run *const two[] = {&old_layout, &new_layout, &reply};
 #define ONE (sizeof one / sizeof one[0])
 #define TWO (sizeof two / sizeof two[0])
 
@@ -33,7 +33,7 @@ static void run_promises(const char *name, uint32_t number)
         uint32_t returned;
 
         lend_runs(one, ONE, (enum place)place);
-        returned = curlew_promises(old.guard.at, old.len, reply.guard.at, reply.len);
+        returned = curlew_promises(old_layout.guard.at, old_layout.len, reply.guard.at, reply.len);
         check(returned == number, name, "number returned");
         check_runs(one, ONE, name);
     }
@@ -47,7 +47,8 @@ static void run_extends(const char *name, uint32_t number)
         uint32_t returned;
 
         lend_runs(two, TWO, (enum place)place);
-        returned = curlew_extends(old.guard.at, old.len, new.guard.at, new.len, reply.guard.at, reply.len);
+        returned = curlew_extends(old_layout.guard.at, old_layout.len, new_layout.guard.at, new_layout.len,
+                                  reply.guard.at, reply.len);
         check(returned == number, name, "number returned");
         check_runs(two, TWO, name);
     }
@@ -55,15 +56,15 @@ static void run_extends(const char *name, uint32_t number)
 
 static void promises(const char *text, uint32_t number, uint32_t grows, uint32_t keeps, uint32_t joins)
 {
-    set_run(&old, text, strlen(text));
+    set_run(&old_layout, text, strlen(text));
     expect(number, grows, keeps, joins);
     run_promises(text, number);
 }
 
 static void extends(const char *from, const char *to, uint32_t number, uint32_t first, uint32_t second, uint32_t third)
 {
-    set_run(&old, from, strlen(from));
-    set_run(&new, to, strlen(to));
+    set_run(&old_layout, from, strlen(from));
+    set_run(&new_layout, to, strlen(to));
     expect(number, first, second, third);
     run_extends(to, number);
 }
@@ -114,25 +115,102 @@ static void test_extends(void)
     extends("c", "c x*", CURLEW_BAD_MOVE, 2, 0, 1);
 }
 
+/* n one-letter fields, and a text behind them */
+static const char *fields(size_t n, char type, const char *behind)
+{
+    static char texts[2][2 * CURLEW_MAX_LAYOUT];
+    static int which;
+    char *text = texts[which ^= 1];
+
+    memset(text, type, n);
+    strcpy(text + n, behind);
+    return text;
+}
+
+static void test_slots(void)
+{
+    promises(fields(63, 'c', ""), CURLEW_OK, NOWHERE, NOWHERE, NOWHERE);
+    promises(fields(64, 'c', ""), CURLEW_OK, NOWHERE, NOWHERE, NOWHERE);
+    promises(fields(65, 'c', ""), CURLEW_OK, 64, 64, NOWHERE);
+    promises(fields(66, 'c', ""), CURLEW_OK, 64, 64, NOWHERE);
+    promises(fields(64, 'c', " A"), CURLEW_OK, 65, 65, NOWHERE);
+    promises(fields(63, 'c', "A q"), CURLEW_OK, 65, 63, NOWHERE);
+    promises(fields(64, 'c', "xxx"), CURLEW_OK, NOWHERE, 64, NOWHERE);
+    promises(fields(64, 'c', "x c"), CURLEW_OK, 66, 64, NOWHERE);
+    promises(fields(63, 'c', "c*c"), CURLEW_OK, 63, 63, NOWHERE);
+    promises(fields(64, 'c', "cX"), CURLEW_OK, 64, 64, 65);
+    extends("c", fields(63, 'c', ""), CURLEW_OK, 1, 62, 0);
+    extends("c", fields(64, 'c', ""), CURLEW_OK, 1, 63, 0);
+    extends("c", fields(65, 'c', ""), CURLEW_BAD_SLOTS, 64, 0, 1);
+    extends(fields(64, 'c', ""), fields(64, 'c', " a"), CURLEW_BAD_SLOTS, 65, 0, 1);
+    extends(fields(64, 'c', ""), fields(64, 'c', "x"), CURLEW_OK, 64, 1, 0);
+    extends(fields(64, 'c', ""), fields(64, 'c', "x  b8"), CURLEW_BAD_SLOTS, 67, 0, 1);
+    extends(fields(65, 'c', ""), fields(65, 'c', ""), CURLEW_BAD_SLOTS, 64, 0, 1);
+    extends(fields(65, 'c', ""), "c", CURLEW_OTHER_FIELDS, 1, 0, 1);
+    extends(fields(65, 'c', ""), fields(64, 'c', ""), CURLEW_OTHER_FIELDS, 64, 0, 1);
+    extends("c", fields(65, 'c', " c*"), CURLEW_NOT_PLAIN, 66, 0, 1);
+    extends("c", fields(64, 'c', "c0"), CURLEW_NOT_PLAIN, 64, 0, 1);
+    extends("c", fields(200, 'x', ""), CURLEW_OTHER_FIELDS, 0, 0, 1);
+    extends("x", fields(200, 'x', ""), CURLEW_OK, 1, 199, 0);
+}
+
+static void test_room(void)
+{
+    promises("a32767", CURLEW_OK, NOWHERE, NOWHERE, NOWHERE);
+    promises("a32768", CURLEW_OK, NOWHERE, NOWHERE, NOWHERE);
+    promises("a32767c", CURLEW_OK, NOWHERE, NOWHERE, NOWHERE);
+    promises("a32768 c", CURLEW_OK, 7, 7, NOWHERE);
+    promises("c a32768", CURLEW_OK, 2, 2, NOWHERE);
+    promises("s16384", CURLEW_OK, NOWHERE, NOWHERE, NOWHERE);
+    promises("s16385", CURLEW_OK, 0, 0, NOWHERE);
+    promises("w32768", CURLEW_OK, 0, 0, NOWHERE);
+    promises("q4096", CURLEW_OK, NOWHERE, NOWHERE, NOWHERE);
+    promises("q4096 x", CURLEW_OK, 6, 6, NOWHERE);
+    promises("b32768 h32768 a12288", CURLEW_OK, NOWHERE, NOWHERE, NOWHERE);
+    promises("b32768 h32768 a12288 b", CURLEW_OK, 21, 21, NOWHERE);
+    promises("A32768 c c*", CURLEW_OK, 7, 0, NOWHERE);
+    promises("c* a32768 c", CURLEW_OK, 0, 0, NOWHERE);
+    promises("a32768 X2 c", CURLEW_OK, 7, 7, 7);
+    extends("a32768", "a32768", CURLEW_OK, 1, 0, 0);
+    extends("a32768", "a32768 a", CURLEW_NO_ROOM, 7, 0, 1);
+    extends("a32768", "a32768x", CURLEW_NO_ROOM, 6, 0, 1);
+    extends("x32768", "x32768 c c", CURLEW_NO_ROOM, 7, 0, 1);
+    extends("c", "c a32767", CURLEW_OK, 1, 1, 0);
+    extends("c", "c a32768", CURLEW_NO_ROOM, 2, 0, 1);
+    extends("w4095", "w4095 b64", CURLEW_OK, 1, 1, 0);
+    extends("w4095", "w4095 b65", CURLEW_NO_ROOM, 6, 0, 1);
+    extends("w4095", "w4095 b64 b", CURLEW_NO_ROOM, 10, 0, 1);
+    extends("i32768", "i32768", CURLEW_NO_ROOM, 0, 0, 1);
+    extends("w32768", "w32768 c*", CURLEW_NOT_PLAIN, 7, 0, 1);
+    extends("w32768", "c", CURLEW_OTHER_FIELDS, 0, 0, 1);
+    extends("", fields(64, 'c', " a32768"), CURLEW_BAD_SLOTS, 65, 0, 1);
+    extends("", fields(64, 'w', " a32768 a"), CURLEW_BAD_SLOTS, 65, 0, 1);
+    extends("", fields(63, 'w', " a32768"), CURLEW_NO_ROOM, 64, 0, 1);
+    extends("", "w32768 w32768 w32768", CURLEW_NO_ROOM, 0, 0, 1);
+}
+
 static void test_sizes(void)
 {
     static const size_t sizes[] = {0, 12, 15, 17};
     char text[CURLEW_MAX_LAYOUT + 2];
     size_t i;
 
-    memset(text, 'c', sizeof text);
+    memset(text, 'x', sizeof text);
     text[CURLEW_MAX_LAYOUT + 1] = '\0';
     promises(text, CURLEW_BAD_SIZE, 0, 0, 0);
-    extends(text, "c", CURLEW_BAD_SIZE, 0, 0, 0);
-    extends("c", text, CURLEW_BAD_SIZE, 0, 0, 1);
+    extends(text, "x", CURLEW_BAD_SIZE, 0, 0, 0);
+    extends("x", text, CURLEW_BAD_SIZE, 0, 0, 1);
     text[CURLEW_MAX_LAYOUT] = '\0';
-    promises(text, CURLEW_OK, NOWHERE, NOWHERE, NOWHERE);
-    extends("c", text, CURLEW_OK, 1, CURLEW_MAX_LAYOUT - 1, 0);
+    promises(text, CURLEW_OK, NOWHERE, 0, NOWHERE);
+    extends("x", text, CURLEW_OK, 1, CURLEW_MAX_LAYOUT - 1, 0);
     extends(text, text, CURLEW_OK, CURLEW_MAX_LAYOUT, 0, 0);
-    extends(text, "c", CURLEW_OTHER_FIELDS, 1, 0, 1);
+    extends(text, "x", CURLEW_OTHER_FIELDS, 1, 0, 1);
+    memset(text, 'c', CURLEW_MAX_LAYOUT);
+    promises(text, CURLEW_OK, CURLEW_MAX_SLOTS, CURLEW_MAX_SLOTS, NOWHERE);
+    extends(text, text, CURLEW_BAD_SLOTS, CURLEW_MAX_SLOTS, 0, 1);
     for (i = 0; i < sizeof sizes / sizeof sizes[0]; i++) {
-        set_run(&old, "a", 1);
-        set_run(&new, "a", 1);
+        set_run(&old_layout, "a", 1);
+        set_run(&new_layout, "a", 1);
         set_run(&reply, NULL, sizes[i]);
         run_promises("a reply of another size", CURLEW_BAD_SIZE);
         run_extends("a reply of another size", CURLEW_BAD_SIZE);
@@ -141,11 +219,13 @@ static void test_sizes(void)
 
 int main(void)
 {
-    open_run(&old, "old layout", 0);
-    open_run(&new, "new layout", 0);
+    open_run(&old_layout, "old layout", 0);
+    open_run(&new_layout, "new layout", 0);
     open_run(&reply, "reply", 1);
     test_promises();
     test_extends();
+    test_slots();
+    test_room();
     test_sizes();
     return summary();
 }
