@@ -1,4 +1,4 @@
--- Worked examples, computed from the definitions: the 13 checked examples of document 01, and a dozen more.
+-- Worked examples, computed from the definitions: the 13 checked examples of document 01, and more.
 -- Each list is one statement, `CheckedHold` and `MoreHold`, proved in proofs/Examples.antt.
 use Prim.Native.Nat.{ℕ, zero, suc, _+_, _-_, _*_, _^_}
 use Prim.Native.String.{String}
@@ -119,7 +119,7 @@ checked =
 abbrev pub CheckedHold : Type 0
 CheckedHold = T (all checked)
 
--- ---- a dozen more, each for something that the thirteen leave open; the other examples of 001 to 003 are run by the program `tour`
+-- ---- more, each for something that the thirteen leave open; the other examples of 001 to 003 are run by the program `tour`
 
 unfoldable pub more : List Example
 unfolding str ints minus

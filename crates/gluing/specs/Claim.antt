@@ -22,7 +22,7 @@ forward (f ∷ fs) = plainCode (f .code) && forward fs
 
 -- ---- templates
 
--- a layout and the slots that are packed by it, three or more numbers to a slot as `slotWidth` says
+-- a layout and the slots that are packed by it, `slotWidth` numbers to a slot
 pub record Template : Type 0 where
   pub text : List ℕ
   pub slots : List ℕ

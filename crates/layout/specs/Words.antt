@@ -104,7 +104,7 @@ abbrev pub shapeOf : Code → Shape
 shapeOf (Data s) = s
 shapeOf (Move m) = Text 0
 
--- a number up to the last has a type
+-- asked of a number: where it is not above the last, it has a type (the numbers in the gap have none)
 abbrev pub HasType : ℕ → Type 0
 HasType d = d ≤ lastType → typeNumbered d ≡ Known (known (typeNumbered d))
 
