@@ -34,6 +34,7 @@ _curlew()
         pack) options+=' --json --tsv --output -o' ;;
         sheet) options+=' --json --tsv --output -o' ;;
         mean) options+=' --json --tsv --legs' ;;
+        layout) options+=' --json --tsv --extends' ;;
         *) options+=' --json --tsv' ;;
     esac
     [[ $second == read || $second == write ]] && options+=' --record'

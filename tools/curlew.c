@@ -18,12 +18,14 @@ struct command {
     const char *gives;
     unsigned options;
     size_t least, most; /* operands */
-    size_t least_record, most_record; /* operands with --record */
+    size_t least_other, most_other; /* operands with --record or --extends */
     int (*run)(const struct options *options);
 };
 
 static const struct command commands[] = {
-    {"layout", NULL, "LAYOUT", "the fields of a layout", FORMS, 1, 1, 0, 0, command_layout},
+    {"layout", NULL, "LAYOUT\n       curlew layout --extends OLD NEW",
+     "the fields of a layout and what it promises, or whether NEW is OLD with fields added", FORMS | OPTION_EXTENDS, 1, 1, 2, 2,
+     command_layout},
     {"pack", NULL, "LAYOUT VALUE... [-o FILE]", "values become a record", FORMS | OPTION_OUTPUT, 1, ANY, 0, 0, command_pack},
     {"read", NULL, "LAYOUT [FILE] [--records N [-j [N]]]", "what a record says, or a file of records of N bytes each",
      FORMS | OPTION_RECORDS | OPTION_JOBS, 1, 2, 0, 0, command_read},
@@ -68,6 +70,7 @@ static void usage(struct text *to)
                     "  --records N the file has records of N bytes each\n"
                     "  -j [N]      N threads, or as many as there are cores\n"
                     "  --legs LIST the entries that are legs, as 2-4,6\n"
+                    "  --extends   layout: whether a second layout is the first one with fields added\n"
                     "  --help, --version\n\n"
                     "Exit status: 0 done, 1 differences or a refusal, 2 bad use or a file that cannot be read or written.\n"
                     "curlew(1) says more.\n");
@@ -139,9 +142,9 @@ static const struct command *find(struct options *options)
 
 static int run(const struct command *command, const struct options *options)
 {
-    int record = (options->given & OPTION_RECORD) != 0;
-    size_t least = record ? command->least_record : command->least;
-    size_t most = record ? command->most_record : command->most;
+    int other = (options->given & (OPTION_RECORD | OPTION_EXTENDS)) != 0;
+    size_t least = other ? command->least_other : command->least;
+    size_t most = other ? command->most_other : command->most;
 
     if (options->given & OPTION_HELP)
         return show_usage(command);

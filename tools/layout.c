@@ -56,7 +56,17 @@ static void bytes_cell(struct table *table, const struct layout *layout, const s
         table_number(table, bytes_filled(layout, field));
 }
 
-static void layout_rows(const struct layout *layout, struct table *table)
+/* In tab-separated text the first field that stands against a promise says so in a column of its own. */
+static void promise_cells(struct table *table, const struct field *field, struct promises promises)
+{
+    const uint32_t against[] = {promises.grows, promises.keeps, promises.joins};
+    size_t i;
+
+    for (i = 0; i < sizeof against / sizeof against[0]; i++)
+        table_word(table, against[i] == field->start ? "no" : "-", PLAIN);
+}
+
+static void layout_rows(const struct layout *layout, enum form form, struct promises promises, struct table *table)
 {
     struct walk walk = {1, 1, 0, 0};
     size_t value = 0, i;
@@ -78,6 +88,8 @@ static void layout_rows(const struct layout *layout, struct table *table)
         else
             table_word(table, "unknown", PLAIN);
         bytes_cell(table, layout, field);
+        if (form == TSV)
+            promise_cells(table, field, promises);
         walk_on(&walk, layout, field);
     }
 }
@@ -123,7 +135,16 @@ static void field_json(const struct layout *layout, const struct field *field, c
     text_char(out, '}');
 }
 
-static void layout_json(const struct layout *layout, struct curlew_answer answer, struct text *out)
+/* "grows":true, or "grows":false and the byte of the layout at which the field stands that is against it. */
+static void promise_json(const char *key, const char *place_key, uint32_t place, struct text *out)
+{
+    json_key(out, key);
+    text_string(out, place == CURLEW_NOWHERE ? "true" : "false");
+    if (place != CURLEW_NOWHERE)
+        json_number(out, place_key, place);
+}
+
+static void layout_json(const struct layout *layout, struct curlew_answer answer, struct promises promises, struct text *out)
 {
     struct walk walk = {1, 1, 0, 0};
     size_t value = 0, i;
@@ -134,6 +155,9 @@ static void layout_json(const struct layout *layout, struct curlew_answer answer
     json_number(out, "bytes", answer.second);
     json_key(out, "starred");
     text_string(out, has_star(layout) ? "true" : "false");
+    promise_json("grows", "grows_byte", promises.grows, out);
+    promise_json("keeps", "keeps_byte", promises.keeps, out);
+    promise_json("joins", "joins_byte", promises.joins, out);
     json_key(out, "fields");
     text_char(out, '[');
     for (i = 0; i < layout->count; i++) {
@@ -162,27 +186,59 @@ static void layout_summary(const struct layout *layout, struct curlew_answer ans
     text_count(out, answer.second, "byte\n", "bytes\n");
 }
 
-int command_layout(const struct options *options)
+static void promise_line(const struct layout *layout, const char *promise, uint32_t place, struct text *out)
 {
-    static const struct column columns[] = {{"field", 1}, {"type", 0}, {"in words", 0}, {"count", 1}, {"first byte", 1}, {"bytes", 1}};
-    static struct layout layout;
-    struct curlew_answer answer;
-    struct text out = {0};
+    size_t i = 0;
+
+    text_format(out, "%-23s", promise);
+    if (place == CURLEW_NOWHERE) {
+        text_string(out, "yes\n");
+        return;
+    }
+    while (i + 1 < layout->count && layout->fields[i].start < place)
+        i++;
+    text_format(out, "no, because of %.*s\n", (int)layout->fields[i].length, layout->text + layout->fields[i].start);
+    text_caret(out, "        ", layout->text, layout->length, place);
+}
+
+/* Rows of fields; for people also what they come to. */
+static void layout_table(const struct layout *layout, enum form form, struct curlew_answer answer, struct promises promises,
+                         struct text *out)
+{
+    static const struct column columns[] = {{"field", 1}, {"type", 0}, {"in words", 0}, {"count", 1}, {"first byte", 1}, {"bytes", 1},
+                                            {"may grow", 0}, {"loses nothing", 0}, {"may be joined", 0}};
+    size_t width = sizeof columns / sizeof columns[0];
     struct table table;
 
+    table_start(&table, columns, form == TSV ? width : width - 3);
+    layout_rows(layout, form, promises, &table);
+    table_print(&table, form, out);
+    table_free(&table);
+    if (form == PEOPLE) {
+        layout_summary(layout, answer, out);
+        promise_line(layout, "may grow at its end:", promises.grows, out);
+        promise_line(layout, "reading loses nothing:", promises.keeps, out);
+        promise_line(layout, "may be joined:", promises.joins, out);
+    }
+}
+
+int command_layout(const struct options *options)
+{
+    static struct layout layout;
+    struct curlew_answer answer;
+    struct promises promises;
+    struct text out = {0};
+
+    if (options->given & OPTION_EXTENDS)
+        return layout_extends(options);
     if (!layout_for_packing(&layout, options->operands[0]))
         return REFUSED;
     answer = call_layout(layout.text, layout.length);
-    if (options->form == JSON) {
-        layout_json(&layout, answer, &out);
-    } else {
-        table_start(&table, columns, sizeof columns / sizeof columns[0]);
-        layout_rows(&layout, &table);
-        table_print(&table, options->form, &out);
-        table_free(&table);
-        if (options->form == PEOPLE)
-            layout_summary(&layout, answer, &out);
-    }
+    promises = call_promises(&layout);
+    if (options->form == JSON)
+        layout_json(&layout, answer, promises, &out);
+    else
+        layout_table(&layout, options->form, answer, promises, &out);
     output_text(&out);
     layout_notes(answer);
     text_free(&out);

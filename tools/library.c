@@ -31,6 +31,29 @@ struct curlew_answer call_layout(const char *text, size_t length)
     return curlew_get_answer(reply);
 }
 
+struct promises call_promises(const struct layout *layout)
+{
+    uint8_t reply[CURLEW_PROMISES_REPLY];
+    struct promises promises;
+
+    curlew_promises(layout->text, layout->length, reply, sizeof reply);
+    promises.grows = curlew_get_answer(reply).first;
+    promises.keeps = curlew_get_answer(reply).second;
+    promises.joins = curlew_get_joins(reply);
+    return promises;
+}
+
+struct extends_answer call_extends(const char *older, const char *newer)
+{
+    uint8_t reply[CURLEW_EXTENDS_REPLY];
+    struct extends_answer answer;
+
+    curlew_extends(older, strlen(older), newer, strlen(newer), reply, sizeof reply);
+    answer.answer = curlew_get_answer(reply);
+    answer.which = curlew_get_which(reply);
+    return answer;
+}
+
 struct curlew_answer call_pack(const struct layout *layout, const struct values *values, uint8_t *record)
 {
     uint8_t reply[CURLEW_PACK_REPLY];
@@ -146,7 +169,7 @@ struct curlew_answer call_from_perl(const char *text, size_t length, char *layou
 static int take_layout(struct layout *layout, struct curlew_answer answer)
 {
     if (answer.number != CURLEW_OK) {
-        refuse_layout(layout->text, layout->length, answer);
+        refuse_layout("layout", layout->text, layout->length, answer);
         return 0;
     }
     layout_split(layout);

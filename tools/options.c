@@ -84,7 +84,7 @@ struct option {
 static const struct option long_options[] = {
     {"--json", OPTION_JSON}, {"--tsv", OPTION_TSV}, {"--output", OPTION_OUTPUT}, {"--records", OPTION_RECORDS},
     {"--jobs", OPTION_JOBS}, {"--record", OPTION_RECORD}, {"--legs", OPTION_LEGS}, {"--help", OPTION_HELP},
-    {"--version", OPTION_VERSION},
+    {"--version", OPTION_VERSION}, {"--extends", OPTION_EXTENDS},
 };
 
 /* The name of the first option among the bits. */
@@ -123,7 +123,7 @@ static void take_option(struct options *options, const char *argument, char ***n
 
     if (bit == 0)
         bad_use("unknown option (put -- before values that begin with -)", argument);
-    if (joined != NULL && (bit & (OPTION_JSON | OPTION_TSV | OPTION_RECORD | OPTION_HELP | OPTION_VERSION)))
+    if (joined != NULL && (bit & (OPTION_JSON | OPTION_TSV | OPTION_RECORD | OPTION_HELP | OPTION_VERSION | OPTION_EXTENDS)))
         bad_use("this option takes nothing behind a =", argument);
     options->given |= bit;
     if (bit == OPTION_JSON || bit == OPTION_TSV)

@@ -61,15 +61,15 @@ static void refuse_at(const char *name, const char *text, size_t length, struct 
     advise("%s", words.advice);
 }
 
-void refuse_layout(const char *text, size_t length, struct curlew_answer answer)
+void refuse_layout(const char *name, const char *text, size_t length, struct curlew_answer answer)
 {
     if (answer.number == CURLEW_BAD_SIZE) {
-        complain("layout: it has %lu bytes, and a layout has at most %d (number 1)", (unsigned long)length, CURLEW_MAX_LAYOUT);
+        complain("%s: it has %lu bytes, and a layout has at most %d (number 1)", name, (unsigned long)length, CURLEW_MAX_LAYOUT);
         advise("Leave out the spaces, or put fields of one type together, as in Su5.");
     } else if (answer.number >= CURLEW_BAD_TYPE && answer.number <= CURLEW_BAD_MOVE) {
-        refuse_at("layout", text, length, answer);
+        refuse_at(name, text, length, answer);
     } else {
-        refuse("layout", answer.number);
+        refuse(name, answer.number);
     }
 }
 

@@ -109,6 +109,18 @@ void caret(const void *text, size_t length, size_t place)
     free(drawing);
 }
 
+void text_caret(struct text *to, const char *lead, const void *text, size_t length, size_t place)
+{
+    size_t size = curlew_point(text, length, place, NULL, 0) + 1;
+    char *drawing = get_memory(size);
+    size_t first;
+
+    curlew_point(text, length, place, drawing, size);
+    first = strcspn(drawing, "\n");
+    text_format(to, "%s%.*s\n%*s%s\n", lead, (int)first, drawing, (int)strlen(lead), "", drawing + first + 1);
+    free(drawing);
+}
+
 void ink_on(struct text *text, enum ink ink)
 {
     static const char *const inks[] = {"", "\033[1m", "\033[33m", "\033[31m"};

@@ -79,6 +79,8 @@ void streams_start(void);
 void complain(const char *format, ...);
 void advise(const char *format, ...); /* the line behind a complaint: what to do */
 void caret(const void *text, size_t length, size_t place);
+/* the same two lines in a text, the first behind `lead` and the second behind as many spaces */
+void text_caret(struct text *to, const char *lead, const void *text, size_t length, size_t place);
 void progress_line(const char *text);
 void ink_on(struct text *text, enum ink ink);
 void ink_off(struct text *text, enum ink ink);
@@ -116,6 +118,7 @@ enum form { PEOPLE, JSON, TSV };
 #define OPTION_LEGS 64u
 #define OPTION_HELP 128u
 #define OPTION_VERSION 256u
+#define OPTION_EXTENDS 512u
 
 struct options {
     unsigned given; /* OPTION_ bits */
@@ -180,10 +183,22 @@ struct rescue_answer {
     uint32_t dropped;
 };
 
+/* For each promise the byte of the first field that stands against it, or CURLEW_NOWHERE. */
+struct promises {
+    uint32_t grows, keeps, joins;
+};
+
+struct extends_answer {
+    struct curlew_answer answer;
+    uint32_t which; /* the layout in which the place of a refusal lies: 0 the old one, 1 the new one */
+};
+
 void values_start(struct values *values);
 void values_clear(struct values *values, size_t count);
 void values_free(struct values *values);
 struct curlew_answer call_layout(const char *text, size_t length);
+struct promises call_promises(const struct layout *layout); /* of a layout for packing: it is not refused */
+struct extends_answer call_extends(const char *older, const char *newer);
 struct curlew_answer call_pack(const struct layout *layout, const struct values *values, uint8_t *record);
 struct read_answer call_read(const struct layout *layout, const uint8_t *record, size_t length, struct values *values);
 struct curlew_answer call_sheet_write(const struct values *values, uint8_t *sheet);
@@ -209,7 +224,7 @@ void value_json(struct text *to, const struct values *values, size_t slot, const
 
 /* ---- refuse.c: refusals in words ---- */
 
-void refuse_layout(const char *text, size_t length, struct curlew_answer answer);
+void refuse_layout(const char *name, const char *text, size_t length, struct curlew_answer answer);
 void refuse_template(const char *text, size_t length, struct curlew_answer answer);
 void refuse_value(const struct layout *layout, struct curlew_answer answer);
 void refuse_sheet(const char *name, struct curlew_answer answer);
@@ -253,6 +268,7 @@ int pack_and_show(const struct options *options, const struct layout *layout, co
 /* ---- the subcommands ---- */
 
 int command_layout(const struct options *options);
+int layout_extends(const struct options *options); /* curlew layout --extends */
 int command_pack(const struct options *options);
 int command_read(const struct options *options);
 int command_sheet_write(const struct options *options);
