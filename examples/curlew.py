@@ -31,7 +31,7 @@ import struct
 from collections import namedtuple
 
 # As in the header.
-VERSION_NUMBER = 2000
+VERSION_NUMBER = 2001
 SLOT_SIZE = 16
 NO_POSITION = 4294967295
 ITEM_SIZE = 8
@@ -57,22 +57,24 @@ BAD_SLOTS = 5
 ITEM_CODES = {SIGNED: "q", UNSIGNED: "Q", REAL: "d"}
 
 REFUSALS = {
-    1: "a run is larger than its limit or no whole number of slots, or the mark lies above the area",
+    1: "a layout, a run or the legs exceed their limit, a slot is cut, or the start mark lies above the area",
     2: "the layout has an unknown type",
     3: "a count in the layout is too large",
     4: "the layout has an @ without a count, or an x* in packing",
-    5: "the number of slots does not suit the layout, or the layout takes too many",
+    5: "the slots are too few for the values, or too many for a packing",
     6: "the slot is not set",
     7: "the slot has an unknown kind, or its value lies outside the area",
     8: "the slot holds another kind of value than the field wants",
     9: "the slot holds fewer items than the count, or not one where there is no count",
     10: "the slot's string has a character that is not a digit",
-    11: "the result does not fit the run that is to hold it, or the layout's record is too long",
-    12: "the sheet was cut, or one of its lengths or kinds is wrong",
+    11: "the result is longer than the run that is to hold it, or than its limit",
+    12: "the sheet was cut, a length or kind in it is wrong, or it is of version 2 and fits version 1",
     13: "the sheet does not begin with a version that is known",
     14: "the mark lies outside 0 to 1,000,000",
     15: "the template cannot go on like this, or it ends inside a group",
     16: "the slot holds a NaN, which no single is stored for",
+    17: "the new layout does not begin with the fields of the old one",
+    18: "the new layout has a field that keeps it from growing",
 }
 
 # What is left of a damaged sheet: the values, how many entries were kept, slots cleared and bytes dropped.

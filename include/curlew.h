@@ -20,7 +20,7 @@
  * No text ends in a zero byte here: a layout, a template, a string and a record have just the length that is given.
  *
  *
- * FIVE MISTAKES THAT ARE EASILY MADE
+ * SIX MISTAKES THAT ARE EASILY MADE
  *
  * The length of a record is its own and not that of its buffer. The bytes behind the record would be read too, and
  * zero bytes are marks of 0. The reply of packing has the length; write
@@ -47,6 +47,12 @@
  * more room than a record may have. Give it a part of a larger run.
  *
  *   out, room < CURLEW_MAX_RECORD ? room : CURLEW_MAX_RECORD,        and not out, room
+ *
+ * An integer that its field has no room for is not refused: packing stores its low-order bits, so a mark of 256 packed
+ * by `cu` is read as 0, and one of 200 packed by `c` as -56. Choose a field that holds the largest mark, or look at the
+ * value before you pack it.
+ *
+ *   if (mark < 0 || mark > 255) ..                                   before a `cu` is packed
  *
  *
  * VALUES: SLOTS AND THE AREA
@@ -109,7 +115,7 @@
  * are. r R store the single (binary32) nearest to it, at a tie the one whose last bit is 0, numbers too small for a
  * normal single too; the sign always stays. What is too large, an infinity too, becomes the largest finite single; a
  * NaN is refused with 16. Reading a single gives the double that equals it. A NaN that is read has the sign it had,
- * and its other bits 29 places higher, so a signalling one stays signalling. The flag changes nothing.
+ * and its payload moves up 29 bits, so a signalling one stays signalling. The flag changes nothing.
  *
  * Digits: a field fills whole bytes, count/8 (b B) or count/2 (h H) rounded up. Digits that are missing are
  * stored as 0, spare bits are 0 and are skipped in reading, and digits past the count are not looked at.
@@ -160,14 +166,15 @@
  * as well. A record can only lose its tail, so "not set" comes back for the fields behind its end: every field before
  * one that is set is set, too.
  *
- * A layout without X, @, `*` and counts of 0 may therefore grow: put new fields behind the old ones, and old
- * records can be read by the new layout and new records by the old one. A record may also lose its end: what is
- * left of it gives the values of the fields that are still whole.
+ * A layout without X, @, `*` and counts of 0 may therefore grow: put new fields of the same sort after the old ones,
+ * again without X, @, `*` and counts of 0, and old records can be read by the new layout and new records by the old
+ * one. A record may also lose its end: what is left of it gives the values of the fields that are still whole.
  *
  * Reading loses nothing where every byte of the record belongs to a value and every bit of it is shown: a layout of
- * `a`, integers and `q Q`, counted or not, `b B` with counts that 8 divides and `h H` with even counts, and a
- * record of just the length that its fields fill. Read such a record and pack the slots by the same layout, and you
- * have it back; two of them that show the same values are the same bytes.
+ * `a`, integers and `q Q`, without a count or with one, `b B` with counts that 8 divides and `h H` with even counts, no
+ * count of 0 and no `*`, and a record of just the length that its fields fill. Read such a record and pack the slots by
+ * the same layout, and you have it back; two of them that show the same values are the same bytes. With a `*` it may be
+ * otherwise: `a*c` reads all of `xyz` into its first slot, and the second is not set.
  *
  * curlew_promises and curlew_extends say whether all this holds of your layouts: see WHAT A LAYOUT PROMISES.
  *
@@ -244,9 +251,13 @@
  * area, or in a record, is of no matter. curlew_sheet_write writes the slots given to it; the bytes of the run
  * behind the sheet stay as they were. curlew_sheet_read puts the values into the area from the mark on, as
  * curlew_read does, and sets a slot for each entry; an entry that is not set clears its slot to CURLEW_UNSET, start
- * 0, length 0. All slots that it sets have CURLEW_NO_POSITION. Slots beyond the entries stay as they were. Writing
- * a table and reading it back shows the same values, and the slots of a sheet that was read are written as the same
- * sheet, byte for byte.
+ * 0, length 0. All slots that it sets have CURLEW_NO_POSITION. Slots beyond the entries stay as they were. Where there
+ * is room for it, writing a table and reading it back shows the same values, and the slots of a sheet that was read are
+ * written as the same sheet, byte for byte.
+ *
+ * A value that several slots share is stored once for each of them. So a table may have a sheet with more bytes of
+ * values than an area holds: two slots over one value of 300,000 bytes are written, and no area can take the sheet
+ * whole (number 11). Rescue by the legs that an area holds takes the entries from the front.
  *
  * Version 2 is for larger tables: its lengths have four bytes in both places, so its header has five bytes. A table
  * is written as version 1 wherever all lengths of that version are at most 65,535, whatever room the run has, and as
@@ -274,8 +285,9 @@
  *
  * Kept and cleared add up to the legs. Dropped are the bytes that belong neither to the header nor to a kept entry;
  * of a sheet shorter than its header that is every byte. A sheet that curlew_sheet_read accepts, with an entry for
- * every leg, is rescued as it is read. A sheet that was cut keeps exactly the entries that end at or before the
- * cut. Write the rescued slots again, and a rescue of that sheet keeps every leg, clears none and drops nothing.
+ * every leg, is rescued as it is read. A sheet that was cut keeps exactly the entries that end at or before the cut,
+ * where the area has room for their values. Write the rescued slots again: where curlew_sheet_write accepts them, and
+ * there is room, a rescue of that sheet keeps every leg, clears none and drops nothing.
  *
  *
  * COMPARING TWO COPIES OF A RECORD
@@ -486,8 +498,8 @@
 #include <string.h>
 
 /* The version of this header and of its library; the number is 1,000 times the first part plus the second. */
-#define CURLEW_VERSION "2.0"
-#define CURLEW_VERSION_NUMBER 2000
+#define CURLEW_VERSION "2.1"
+#define CURLEW_VERSION_NUMBER 2001
 
 /* A call takes less stack than this, in bytes. */
 #define CURLEW_STACK 8192
@@ -814,18 +826,20 @@ static inline const char *curlew_refusal(uint32_t number)
 {
     switch (number) {
     case CURLEW_OK: return "accepted";
-    case CURLEW_BAD_SIZE: return "a run is larger than its limit or no whole number of slots, or the mark lies above the area";
+    case CURLEW_BAD_SIZE:
+        return "a layout, a run or the legs exceed their limit, a slot is cut, or the start mark lies above the area";
     case CURLEW_BAD_TYPE: return "the layout has an unknown type";
     case CURLEW_BAD_COUNT: return "a count in the layout is too large";
     case CURLEW_BAD_MOVE: return "the layout has an @ without a count, or an x* in packing";
-    case CURLEW_BAD_SLOTS: return "the number of slots does not suit the layout, or the layout takes too many";
+    case CURLEW_BAD_SLOTS: return "the slots are too few for the values, or too many for a packing";
     case CURLEW_NOT_SET: return "the slot is not set";
     case CURLEW_BAD_SLOT: return "the slot has an unknown kind, or its value lies outside the area";
     case CURLEW_WRONG_KIND: return "the slot holds another kind of value than the field wants";
     case CURLEW_BAD_LIST: return "the slot holds fewer items than the count, or not one where there is no count";
     case CURLEW_BAD_DIGIT: return "the slot's string has a character that is not a digit";
-    case CURLEW_NO_ROOM: return "the result does not fit the run that is to hold it, or the layout's record is too long";
-    case CURLEW_BAD_SHEET: return "the sheet was cut, or one of its lengths or kinds is wrong";
+    case CURLEW_NO_ROOM: return "the result is longer than the run that is to hold it, or than its limit";
+    case CURLEW_BAD_SHEET:
+        return "the sheet was cut, a length or kind in it is wrong, or it is of version 2 and fits version 1";
     case CURLEW_BAD_VERSION: return "the sheet does not begin with a version that is known";
     case CURLEW_BAD_MARK: return "the mark lies outside 0 to 1,000,000";
     case CURLEW_BAD_TEMPLATE: return "the template cannot go on like this, or it ends inside a group";
@@ -839,7 +853,7 @@ static inline const char *curlew_refusal(uint32_t number)
 /*
  * Writes the layout, and below it a caret under a place of it, as a compiler points at a fault:
  *
- *   a6 c5000
+ *   a6 c50000
  *       ^
  *
  * Bytes that do not print appear as dots; a place past the end points behind the last byte. Like snprintf it writes at

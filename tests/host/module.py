@@ -34,7 +34,7 @@ def as_in_header(path):
         sys.exit("failed: the module has too few constants")
     for name in shared:
         equal((name, getattr(curlew, name)), (name, numbers.get(name)))
-    texts = {numbers[name]: words for name, words in re.findall(r'case CURLEW_(\w+): return "(.*)";', text)}
+    texts = {numbers[name]: words for name, words in re.findall(r'case CURLEW_(\w+):\s+return "(.*)";', text)}
     equal({0: "accepted", **curlew.REFUSALS}, texts)
 
 

@@ -9,7 +9,7 @@ OWN = [ctypes.c_void_p, SIZE]
 ITEMS = {2: "q", 3: "Q", 4: "d"}
 SLOT = struct.Struct(">4I")
 THREE, FOUR = struct.Struct(">3I"), struct.Struct(">4I")
-NO_POSITION = 2 ** 32 - 1
+NO_POSITION = NOWHERE = 2 ** 32 - 1
 
 
 def load(path):
@@ -23,7 +23,10 @@ def load(path):
     lib.curlew_mean.argtypes = RUN + RUN + OWN
     lib.curlew_from_perl.argtypes = RUN + OWN + OWN
     lib.curlew_layout.argtypes = RUN + OWN
-    for name in ("pack", "read", "sheet_write", "sheet_read", "sheet_rescue", "compare", "mean", "from_perl", "layout"):
+    lib.curlew_promises.argtypes = RUN + OWN
+    lib.curlew_extends.argtypes = RUN + RUN + OWN
+    for name in ("pack", "read", "sheet_write", "sheet_read", "sheet_rescue", "compare", "mean", "from_perl", "layout",
+                 "promises", "extends"):
         getattr(lib, "curlew_" + name).restype = ctypes.c_uint32
     return lib
 
@@ -131,6 +134,18 @@ def look(lib, layout):
     return THREE.unpack(reply.raw)
 
 
+def promises(lib, layout):
+    reply, reply_run = own(FOUR.size)
+    lib.curlew_promises(*lent(layout), *reply_run)
+    return FOUR.unpack(reply.raw)
+
+
+def extends(lib, old, new):
+    reply, reply_run = own(FOUR.size)
+    lib.curlew_extends(*lent(old), *lent(new), *reply_run)
+    return FOUR.unpack(reply.raw)
+
+
 def equal(got, expected):
     if got != expected:
         sys.exit(f"failed: got {got}, expected {expected}")
@@ -180,6 +195,14 @@ def main():
     equal(from_perl(lib, b"(a) 2"), ((15, 4, 0), None))
     equal(look(lib, b"A8 S2 b* @20"), (0, 3, 20))
     equal(look(lib, b"A8 x*"), (4, 3, 0))
+    equal(promises(lib, b"a6 A12 Su"), (0, NOWHERE, 3, NOWHERE))
+    equal(promises(lib, b"c" * 65), (0, 64, 64, NOWHERE))
+    equal(promises(lib, b"c @"), (4, 2, 0, 0))
+    equal(extends(lib, b"A8 S2", b"A8 S2 S"), (0, 2, 1, 0))
+    equal(extends(lib, b"A8 S2", b"A8 S3"), (17, 3, 0, 1))
+    equal(extends(lib, b"A8 S2", b"A8 S2 c*"), (18, 6, 0, 1))
+    equal(extends(lib, b"c", b"c" * 65), (5, 64, 0, 1))
+    equal(extends(lib, b"a", b"a a32768"), (11, 2, 0, 1))
     equal(lib.curlew_pack(None, 0, None, 0, None, 0, None, 0, None, 0), 1)
 
 
