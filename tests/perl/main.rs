@@ -42,6 +42,8 @@ mod perl;
 #[allow(dead_code)]
 #[path = "../second/perl_calls.rs"]
 mod perl_calls;
+#[path = "../second/promises.rs"]
+mod promises;
 #[path = "../second/reader.rs"]
 mod reader;
 #[path = "../second/reals.rs"]

@@ -1,7 +1,7 @@
 //! A call with everything lent to it, and what is found after it.
 
 use crate::compare::{self, Side};
-use crate::{describe, mean, packer, perl, reader, rescue, sheet};
+use crate::{describe, mean, packer, perl, promises, reader, rescue, sheet};
 use std::ops::{Deref, DerefMut};
 
 #[derive(Clone, Copy, PartialEq, Eq, Debug)]
@@ -15,9 +15,11 @@ pub enum Which {
     Mean,
     FromPerl,
     Layout,
+    Promises,
+    Extends,
 }
 
-pub const CALLS: [Which; 9] = [
+pub const CALLS: [Which; 11] = [
     Which::Pack,
     Which::Read,
     Which::SheetWrite,
@@ -27,6 +29,8 @@ pub const CALLS: [Which; 9] = [
     Which::Mean,
     Which::FromPerl,
     Which::Layout,
+    Which::Promises,
+    Which::Extends,
 ];
 
 impl Which {
@@ -40,14 +44,15 @@ impl Which {
             Which::SheetRescue => &[0, 1, 5, 11, 13],
             Which::Mean => &[0, 1, 7, 8, 9, 14],
             Which::FromPerl => &[0, 1, 11, 15],
-            Which::Layout => &[0, 1, 2, 3, 4],
+            Which::Layout | Which::Promises => &[0, 1, 2, 3, 4],
+            Which::Extends => &[0, 1, 2, 3, 4, 5, 11, 17, 18],
         }
     }
 }
 
 /// The runs that a call may be lent; those that are not lent to it stay empty.
 /// In packing `record` is the output buffer. In comparing `record`, `slots` and `area` are the first's.
-/// In translating a template `layout` is the buffer.
+/// In translating a template `layout` is the buffer; beside a layout with fields added `template` is the old one.
 #[derive(Clone, PartialEq, Eq, Default)]
 pub struct Runs {
     pub layout: Vec<u8>,
@@ -90,7 +95,8 @@ impl Runs {
             ],
             Which::Mean => vec![slots, area, reply],
             Which::FromPerl => vec![("template", &mut self.template), layout, reply],
-            Which::Layout => vec![layout, reply],
+            Which::Layout | Which::Promises => vec![layout, reply],
+            Which::Extends => vec![("template", &mut self.template), layout, reply],
         }
     }
 }
@@ -247,6 +253,8 @@ pub fn by_twin(call: &Call) -> After {
         Which::Mean => mean::mean_call(&call.slots, &call.area, &mut runs.reply),
         Which::FromPerl => perl::from_perl_call(&call.template, &mut runs.layout, &mut runs.reply),
         Which::Layout => describe::layout_call(&call.layout, &mut runs.reply),
+        Which::Promises => promises::promises_call(&call.layout, &mut runs.reply),
+        Which::Extends => promises::extends_call(&call.template, &call.layout, &mut runs.reply),
     };
     after
 }

@@ -7,6 +7,7 @@ mod limits;
 mod mean;
 mod packer;
 mod perl;
+mod promises;
 mod reader;
 mod reals;
 mod rescue;
@@ -240,4 +241,34 @@ pub unsafe extern "C" fn twin_layout(
     reply_len: usize,
 ) -> u32 {
     describe::layout_call(lent(layout, layout_len), lent_mut(reply, reply_len))
+}
+
+/// # Safety
+/// Each pointer leads to a run of its length; `reply` overlaps no other run.
+#[no_mangle]
+pub unsafe extern "C" fn twin_promises(
+    layout: *const u8,
+    layout_len: usize,
+    reply: *mut u8,
+    reply_len: usize,
+) -> u32 {
+    promises::promises_call(lent(layout, layout_len), lent_mut(reply, reply_len))
+}
+
+/// # Safety
+/// Each pointer leads to a run of its length; `reply` overlaps no other run.
+#[no_mangle]
+pub unsafe extern "C" fn twin_extends(
+    old_layout: *const u8,
+    old_layout_len: usize,
+    new_layout: *const u8,
+    new_layout_len: usize,
+    reply: *mut u8,
+    reply_len: usize,
+) -> u32 {
+    promises::extends_call(
+        lent(old_layout, old_layout_len),
+        lent(new_layout, new_layout_len),
+        lent_mut(reply, reply_len),
+    )
 }

@@ -100,6 +100,20 @@ extern "C" {
     ) -> u32;
     fn curlew_layout(layout: *const u8, layout_len: usize, reply: *mut u8, reply_len: usize)
         -> u32;
+    fn curlew_promises(
+        layout: *const u8,
+        layout_len: usize,
+        reply: *mut u8,
+        reply_len: usize,
+    ) -> u32;
+    fn curlew_extends(
+        old_layout: *const u8,
+        old_layout_len: usize,
+        new_layout: *const u8,
+        new_layout_len: usize,
+        reply: *mut u8,
+        reply_len: usize,
+    ) -> u32;
 }
 
 const GUARD: usize = 40;
@@ -186,6 +200,8 @@ pub fn by_library(call: &Call) -> (After, Vec<&'static str>) {
             Which::Mean => curlew_mean(at[0], len[0], at[1], len[1], at[2], len[2]),
             Which::FromPerl => curlew_from_perl(at[0], len[0], at[1], len[1], at[2], len[2]),
             Which::Layout => curlew_layout(at[0], len[0], at[1], len[1]),
+            Which::Promises => curlew_promises(at[0], len[0], at[1], len[1]),
+            Which::Extends => curlew_extends(at[0], len[0], at[1], len[1], at[2], len[2]),
         }
     };
     let mut broken = Vec::new();

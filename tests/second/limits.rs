@@ -41,6 +41,8 @@ pub const REPLY_BYTES: usize = 12;
 pub const READ_REPLY_BYTES: usize = 16;
 /// The reply of a rescue: four numbers.
 pub const RESCUE_REPLY_BYTES: usize = 16;
+/// The replies of what is asked of layouts: four numbers.
+pub const PROMISES_REPLY_BYTES: usize = 16;
 /// The reply of a mean: three numbers, whether there is a mean, and the mean.
 pub const MEAN_REPLY_BYTES: usize = 24;
 /// The bytes that a comparison reports on each value field.

@@ -23,6 +23,8 @@ mod nearest;
 mod packer;
 mod perl;
 mod perl_calls;
+mod promises;
+mod promises_calls;
 mod reader;
 mod real_calls;
 mod reals;
@@ -72,6 +74,7 @@ fn main() {
     mean_calls::run(&mut tally);
     perl_calls::run(&mut tally);
     layout_calls::run(&mut tally);
+    promises_calls::run(&mut tally);
     lossless::run(&mut tally);
     glue_calls::run(&mut tally);
     real_calls::run(&mut tally);
@@ -90,6 +93,7 @@ fn main() {
         mean_calls::round(&mut dice, &mut tally);
         perl_calls::round(&mut dice, &mut tally);
         layout_calls::round(&mut dice, &mut scratch, &mut tally);
+        promises_calls::round(&mut dice, &mut tally);
         lossless::round(&mut dice, &mut tally);
         glue_calls::round(&mut dice, &mut tally);
         real_calls::round(&mut dice, &mut tally);

@@ -7,7 +7,7 @@ const SHOWN: usize = 5;
 /// How much of a run is shown.
 const SHOWN_BYTES: usize = 200;
 /// Numbers that come back are below this.
-const NUMBERS: usize = 17;
+const NUMBERS: usize = 19;
 
 #[derive(Default)]
 pub struct Tally {
