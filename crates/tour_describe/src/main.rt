@@ -1,4 +1,6 @@
 // Layouts looked at before they are used: a line for each, with the three numbers: 0, slots, length of the shortest record; or the refusal and its place.
+// Then what is proved of layouts: a line for each, with the four numbers of the answer.
+use promises::Told;
 use tour_text::lines;
 use tour_text::print;
 
@@ -10,10 +12,36 @@ fn show(layout: &[u8], told: &[u8]) {
     print::text(b"\n");
 }
 
+fn told(t: Told) {
+    let a = t.answer;
+    print::answer(a.number, a.first, a.second);
+    print::numbers(&[t.fourth]);
+    print::text(b"\n");
+}
+
+fn promises(layout: &[u8]) {
+    let t = promises::promises(layout);
+    print::call(b"promises", layout);
+    told(t);
+}
+
+// The old layout, a bar, and the new one.
+fn extends(pair: &[u8]) {
+    let bar = lines::find(pair, 0, b'|');
+    if bar < pair.len() {
+        let new = bar + 1;
+        let t = promises::extends(&pair[0..bar], &pair[new..]);
+        print::call(b"extends", pair);
+        told(t);
+    }
+}
+
 fn example(kind: u8, rest: &[u8]) {
     match kind {
         b'h' => print::heading(rest),
         b'd' => show(rest, b""),
+        b'p' => promises(rest),
+        b'e' => extends(rest),
         _ => (),
     }
 }
@@ -34,7 +62,8 @@ fn run(list: &[u8]) {
     }
 }
 
-// Lists, one example a line: `d` and a layout, or `h` and a heading. A line of no such letter is no example.
+// Lists, one example a line: `d` and a layout to be described, `p` and one whose promises are asked for, `e` and an old layout and a new one, or `h` and a
+// heading. A line of no such letter is no example.
 fn counts() {
     run(
         b"
@@ -93,8 +122,54 @@ d a2x*
     );
 }
 
+// 4294967295 stands for no place.
+fn promised() {
+    run(
+        b"
+h\x20
+h Promises: layout -> 0, where it may not grow, where reading loses something, where it may not be joined
+p a6 b8 Su
+p A8 S2
+p c x2 c
+p c  su*
+p c0 X c
+p r q
+p a32768
+p a32768 c
+p c @
+h\x20
+h Extends: old|new -> 0, fields of the old layout, fields added, 0; refused: number, place, 0, which layout
+e A8 S2|A8 S2 S
+e c3 su|c03su
+e |
+e S c|S c1
+e S c|S\x20
+e a2 c*|a2 c*
+e a|a a32768
+e w32768|w32768
+e k|k
+e c|c x*
+",
+    );
+    limit(&[b'c'; 64], b"64 fields");
+    limit(&[b'c'; 65], b"65 fields");
+}
+
+// A layout at the limit of slots: what it promises, and whether it is the empty layout with fields added.
+fn limit(layout: &[u8], size: &[u8]) {
+    let p = promises::promises(layout);
+    print::call(b"promises", layout);
+    print::lent(size);
+    told(p);
+    let e = promises::extends(b"", layout);
+    print::call(b"extends", b"|..");
+    print::lent(size);
+    told(e);
+}
+
 fn main() {
     counts();
     limits();
     refusals();
+    promised();
 }
