@@ -21,7 +21,7 @@ CROWD = int(os.environ.get("BENCH_RECORDS", "1000000"))
 CROWD_ROUNDS = 3
 NAMES = {"ours": "ours", "plain": "plain C", "twin": "Rust twin", "tcl": "Tcl", "perl": "Perl", "python": "Python"}
 TITLES = {"w1": "w1 small mark record", "w2": "w2 b4096; b*, 4096 bytes", "w3": "w3 s2000", "w4": "w4 a4096",
-          "w5": "w5 64 fields of c", "q500": "500 doubles", "r1000": "1,000 singles", "a32768": "a32768",
+          "w5": "w5 64 fields of c", "i1000": "i1000", "I1000": "I1000", "c1000": "c1000", "q500": "500 doubles", "r1000": "1,000 singles", "a32768": "a32768",
           "b262144": "b32768; b*, 32,768 bytes", "s16000": "s16000", "b4096": "b4096, 512 bytes",
           "t8": "table of 8 slots", "t60000": "value of 60,000 bytes", "t500000": "value of 500,000 bytes",
           "same-w1": "w1 twice", "other-a4096": "a4096, one byte differs", "same-a4096": "a4096 twice"}

@@ -70,6 +70,11 @@ def eighths(dice, count):
     return [(2 * dice.randint(-400000, 400000) + 1) / 8 for _ in range(count)]
 
 
+def integers(dice, width, count):
+    most = 2 ** (8 * width - 1)
+    return [dice.randint(-most, most - 1) for _ in range(count)]
+
+
 def main_workloads():
     dice = random.Random(417)
     strip = "".join(dice.choice("01") for _ in range(4096))
@@ -79,9 +84,12 @@ def main_workloads():
              ["00417042", "Ada Lind", [417], [1234567], [61, 0, 88, -7, 100, 3], "110110101100", "0badcafe"],
              "a8 A20 n N c6 b12 H8"),
         Work("w2", "b4096", [strip], "b4096", read="b*", perl_read="b*", record=dice.randbytes(4096)),
-        Work("w3", "s2000", [[dice.randint(-32768, 32767) for _ in range(2000)]], "s<2000", "<2000h"),
+        Work("w3", "s2000", [integers(dice, 2, 2000)], "s<2000", "<2000h"),
         Work("w4", "a4096", [letters], "a4096", "4096s"),
-        Work("w5", "c" * 64, [[dice.randint(-128, 127)] for _ in range(64)], "c" * 64, "b" * 64),
+        Work("w5", "c" * 64, [integers(dice, 1, 1) for _ in range(64)], "c" * 64, "b" * 64),
+        Work("i1000", "i1000", [integers(dice, 4, 1000)], "l<1000", "<1000i"),
+        Work("I1000", "I1000", [integers(dice, 4, 1000)], "l>1000", ">1000i"),
+        Work("c1000", "c1000", [integers(dice, 1, 1000)], "c1000", "1000b"),
         Work("q500", "q500", [eighths(dice, 500)], "d<500", "<500d"),
         Work("r1000", "r1000", [eighths(dice, 1000)], "f<1000", "<1000f"),
     ]
@@ -95,18 +103,17 @@ def long_workloads():
     return [
         Work("a32768", "a32768", [letters], "a32768", "32768s"),
         Work("b262144", "b32768", [strip], "b32768", read="b*", perl_read="b*", record=dice.randbytes(32768)),
-        Work("s16000", "s16000", [[dice.randint(-32768, 32767) for _ in range(16000)]], "s<16000", "<16000h"),
+        Work("s16000", "s16000", [integers(dice, 2, 16000)], "s<16000", "<16000h"),
     ]
 
 
 def growth_workloads():
     dice = random.Random(418)
     for count in FIELD_COUNTS:
-        yield Work(f"f{count}", "c" * count, [[dice.randint(-128, 127)] for _ in range(count)], "c" * count, "b" * count)
+        yield Work(f"f{count}", "c" * count, [integers(dice, 1, 1) for _ in range(count)], "c" * count, "b" * count)
     for size in BYTE_COUNTS:
         items = size // 2
-        yield Work(f"s{size}", f"s{items}", [[dice.randint(-32768, 32767) for _ in range(items)]],
-                   f"s<{items}", f"<{items}h")
+        yield Work(f"s{size}", f"s{items}", [integers(dice, 2, items)], f"s<{items}", f"<{items}h")
     for count in DIGIT_COUNTS:
         strip = "".join(dice.choice("01") for _ in range(count))
         yield Work(f"b{count}", f"b{count}", [strip], f"b{count}", record=pack_digits(strip, count // 8))
