@@ -1,4 +1,5 @@
--- Laws of the definitions, for the crates above.
+-- Laws of the definitions, for the crates above; Answered has the worked examples of the order of refusals.
+mod Answered
 pub mod Bytes
 pub mod Bounds
 pub mod Stores

@@ -6,3 +6,4 @@ pub mod Geometry
 pub mod Cursor
 pub mod Packing
 pub mod Reading
+pub mod Order
