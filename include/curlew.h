@@ -213,8 +213,8 @@
  *
  *   CURLEW_OK, fields of the old layout, fields added, 0
  *
- * Fields count and not the text: they are the same where type, flag and count are. `c3 su` and `c03su` have the same
- * fields; `c` is not `c1`, since without a count a slot holds exactly one integer. Refused are the layouts that
+ * Fields count and not the text: two are the same where they agree in type, flag and count. `c3 su` and `c03su` have
+ * the same fields; `c` is not `c1`, since without a count a slot holds exactly one integer. Refused are the layouts
  * packing would refuse, the old one first; then, with CURLEW_OTHER_FIELDS, a new layout that does not begin with the
  * old one's fields, at its first field that differs, or at its length where it has too few; then one that may not
  * grow: with CURLEW_NOT_PLAIN at its first X, @, `*` or count of 0; with CURLEW_BAD_SLOTS at the first field that

@@ -35,7 +35,7 @@ stepped x = record { values = x .values; positions = x .positions; steps = suc (
 abbrev pub with : Value → ℕ → Found → Found
 with v at x = record { values = v ∷ x .values; positions = at ∷ x .positions; steps = suc (x .steps) }
 
--- The run over the fields from the place `at` on. A field that needs more bytes than remain is its last step.
+-- The run over the fields from the place `at` on. A field for which too few bytes are left is its last step.
 unfoldable pub run : List ℕ → ℕ → List Field → Found
 unfolding loaded
 run bs at [] = nothing
