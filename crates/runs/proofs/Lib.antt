@@ -3,3 +3,4 @@ pub mod Joined
 pub mod Calls
 pub mod Shown
 pub mod OneRun
+pub mod OldValues

@@ -1,3 +1,4 @@
--- What the theorems about packing and reading say of a layout's fields.
+-- What the theorems about packing and reading say of a layout's fields, and what holds of every reading.
 pub mod Ends
 pub mod OneRun
+pub mod OldValues
