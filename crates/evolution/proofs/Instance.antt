@@ -17,30 +17,8 @@ use Rattle.real.specs.Widening.{doubleOf}
 use Rattle.record.specs.Table.{slotsOf, Value, valueBytes}
 use Rattle.record.specs.Packing.{pack, filled, argumentsFit}
 use Rattle.runs.specs.Ends.{endOf}
+use Rattle.evolution.specs.Pair.{pair}
 use Rattle.evolution.specs.Claim.{Layouts, Reading, Whole, plain, recordBytes, argumentsBy, allBack, due, setBy, startsFrom, starts, carriedOut, fieldsBy}
-
--- `a3` and then `a03 xS`, with the arguments "ab" and {-2}
-unfoldable pub pair : Layouts
-unfolding fieldsOf plain argumentsFit slotsOf endOf slotCount
-pair = record {
-  old = bytes "a3";
-  new = bytes "a03 xS";
-  fields = record { code = Data (Text 0); unsigned = false; count = Times 3 } ∷ [];
-  added = record { code = Move Skip; unsigned = false; count = Absent } ∷ record { code = Data (Integers 2 true); unsigned = false; count = Absent } ∷ [];
-  slots = 1 ∷ 0 ∷ 2 ∷ 9 ∷ 2 ∷ 2 ∷ 1 ∷ 9 ∷ [];
-  area = bytes "ab" ++ (255 ∷ 255 ∷ 255 ∷ 255 ∷ 255 ∷ 255 ∷ 255 ∷ 254 ∷ []);
-  oldOutput = replicate 3 0;
-  newOutput = replicate 9 7;
-  old-fields = refl;
-  new-fields = refl;
-  is-plain = tt;
-  slot-for-each = refl;
-  served = refl;
-  new-sizes = tt;
-  old-sizes = tt;
-  new-room = omega arith;
-  old-room = omega arith;
-}
 
 -- The old record and the new one, not cut and cut inside the added fields, each read by the old layout and by the new one, from the mark 1 on,
 -- into eight nines and an area of twelve.

@@ -1,4 +1,5 @@
--- Demand 3, reals packed again, and worked examples of the definitions.
+-- Demand 3, an instance of its premises, reals packed again, and worked examples of the definitions.
 pub mod Claim
+pub mod Pair
 pub mod Again
 pub mod Examples

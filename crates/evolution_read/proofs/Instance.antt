@@ -4,7 +4,8 @@ use mathlib.Core.Bool.{Bool, true}
 use Prim.Native.Nat.{ℕ}
 use lib.ListN.{length, replicate}
 use Rattle.evolution.specs.Claim.{textOf, slotsBy, outputBy, recordBy}
-use Rattle.evolution.proofs.Instance.{pair, whole, cut-short}
+use Rattle.evolution.specs.Pair.{pair}
+use Rattle.evolution.proofs.Instance.{whole, cut-short}
 use Rattle.evolution_read.specs.Calls.{Lent, Meant}
 
 -- what the calls are lent for a packing by one of the two layouts and a reading by one, with so many bytes for the values

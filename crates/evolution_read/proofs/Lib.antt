@@ -1,3 +1,4 @@
 -- Laws of the two calls.
 mod Calls
 mod Instance
+mod Idle

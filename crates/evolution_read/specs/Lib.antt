@@ -1,2 +1,3 @@
--- The calls that demand 3 speaks of, and what it says of them.
+-- The calls that demand 3 speaks of, what it says of them, and which programs it rules out.
 pub mod Calls
+pub mod Idle
