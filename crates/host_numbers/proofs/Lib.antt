@@ -1,2 +1,3 @@
 -- Laws of numbers as bytes, for the calls for a C host.
 pub mod NumberLaws
+pub mod Claims
