@@ -11,7 +11,7 @@ use Rattle.record.specs.declared.ReadAnswer.{ReadAnswer}
 use Rattle.record.specs.Table.{slotWidth, slotsOf, slotNumbers, valueBytes}
 use Rattle.record.specs.Packing.{pack, filled}
 use Rattle.record.specs.Reading.{Read, putInto}
-use Rattle.evolution.specs.Claim.{Layouts, Reading, setBy, startsFrom, recordBytes, due, starts}
+use Rattle.evolution.specs.Claim.{Reading, setBy, startsFrom, recordBytes, due}
 use Rattle.evolution.specs.Pair.{pairWith, pair, other}
 use Rattle.evolution_read.specs.Calls.{PackedAndRead, Meant}
 use Rattle.evolution_read.specs.Idle.{call, Keeps, slotsDue, IdleProgramsFail}

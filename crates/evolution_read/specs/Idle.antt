@@ -4,7 +4,6 @@
 use Prim.Native.Nat.{ℕ, _≤_}
 use mathlib.Core.Path.{_≡_}
 use mathlib.Core.Bool.{true}
-use mathlib.Core.List.{List}
 use lib.ListN.{drop, replicate}
 use lib.Dec.{leb}
 use Rattle.layout.specs.Refusals.{if_then_else_}

@@ -90,7 +90,7 @@ rescued-saved sheet legs slots area mark buffer table values mark′ a =
 
 -- ---- a written sheet, cut
 
-sound-take : (m : ℕ) (es : List Entry) → AllSound es → AllSound (take m es)
+pub sound-take : (m : ℕ) (es : List Entry) → AllSound es → AllSound (take m es)
 sound-take zero es s = tt
 sound-take (suc m) [] s = tt
 sound-take (suc m) (e ∷ es) s = (s .0, sound-take m es (s .1))

@@ -1,0 +1,2 @@
+-- Demand 3 over slot records.
+pub mod ReadBack
