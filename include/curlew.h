@@ -286,8 +286,8 @@
  * Kept and cleared add up to the legs. Dropped are the bytes that belong neither to the header nor to a kept entry;
  * of a sheet shorter than its header that is every byte. A sheet that curlew_sheet_read accepts, with an entry for
  * every leg, is rescued as it is read. A sheet that was cut keeps exactly the entries that end at or before the cut,
- * where the area has room for their values. Write the rescued slots again: where curlew_sheet_write accepts them, and
- * there is room, a rescue of that sheet keeps every leg, clears none and drops nothing.
+ * and needs room for their values alone. Write the rescued slots again: where curlew_sheet_write accepts them, and
+ * there are slots and room, a rescue of that sheet keeps every leg, clears none and drops nothing.
  *
  *
  * COMPARING TWO COPIES OF A RECORD

@@ -1,4 +1,4 @@
 -- The laws that belong to no one function.
-mod Shown
+pub mod Shown
 pub mod Calls
 pub mod Lent

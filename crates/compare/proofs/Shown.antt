@@ -21,7 +21,7 @@ use Rattle.reading.specs.Tables.{TableRoom}
 use Rattle.compare_report.specs.Shown.{bytesOf, shownBytes, Holds}
 
 -- an item of a string is a byte of the area, and an integer eight
-area-size : (v : Value) → length (areaBytes v) ≡ length (v .items) * itemSize (v .kind)
+pub area-size : (v : Value) → length (areaBytes v) ≡ length (v .items) * itemSize (v .kind)
 unfolding areaBytes
 area-size v = go (eqb (v .kind) string)
   where

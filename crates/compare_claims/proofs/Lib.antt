@@ -1,3 +1,4 @@
--- Claims proves what specs/Claims.antt states.
+-- Claims and Verdicts prove what the files of these names in specs state.
 mod Examples
 pub mod Claims
+pub mod Verdicts

@@ -1,7 +1,7 @@
 -- What the claims share. A call on whole slots with a reply of its size is the call on their numbers; numbers below
 -- 2^32 come back from their bytes, in a reply and in the slots that a call leaves.
 use Prim.Native.Nat.{ℕ, zero, suc, _*_, _/_, _%_, _^_, _≤_, _<_}
-use native.Mathlib.Nat.{mod-lt, pow-le-pow-right}
+use native.Mathlib.Nat.{pow-le-pow-right}
 use native.Mathlib.Omega.{arith}
 use mathlib.Core.Path.{_≡_, refl, sym, ap, _∙_}
 use mathlib.Core.Bool.{Bool, true, false}
@@ -11,12 +11,12 @@ use lib.Dec.{eqb}
 use lib.ListN.{length, take, drop, getD, length-take, length-append, take-append-drop}
 use lib.Seq.{drop-cons, take-at, take-all, length-take-le}
 use Rattle.layout.specs.Refusals.{if_then_else_}
-use Rattle.record.specs.Bytes.{pieces, join, digits, number, ordered, numberBytes, numberAt, bigEndian, bigEndianIn}
+use Rattle.record.specs.Bytes.{pieces, join, number, ordered, numberBytes, numberAt, bigEndian, bigEndianIn}
 use Rattle.record.specs.Table.{numberLimit, slotWidth}
 use Rattle.record.specs.Packing.{Packed, pack}
 use Rattle.record.specs.Reading.{readAll}
 use Rattle.record.proofs.Bytes.{All, all-below, length-ordered, all-append, all-ordered, all-take, all-drop}
-use Rattle.record.proofs.NumberLaws.{bytes-next}
+use Rattle.runs.proofs.Told.{numbers-bytes}
 use Rattle.record.proofs.Widening.{number-below}
 use Rattle.record.proofs.Fields.{split}
 use Rattle.sheet.specs.Sheet.{write, read as readSheet}
@@ -127,16 +127,9 @@ unfolding numbersIn bigEndianIn
 numbers-small bs below = pieces-small (length bs / numberSize) bs (all-below bs below)
 
 -- what numbers are stored as are bytes
-number-bytes : (w x : ℕ) → All (λ b. b < 256) (numberBytes w x)
-unfolding numberBytes digits
-number-bytes zero x = tt
-number-bytes (suc w) x = rw bytes-next (mod-lt (x / 256 ^ w) (omega arith), number-bytes w x)
-
 are-bytes : (xs : List ℕ) → All (λ b. b < 256) (bytesOf xs)
-unfolding bytesOf bigEndian join
-are-bytes [] = tt
-are-bytes (x ∷ xs) =
-    all-append (λ b. b < 256) (numberBytes numberSize x) (bytesOf xs) (number-bytes numberSize x) (are-bytes xs)
+unfolding bytesOf
+are-bytes xs = numbers-bytes numberSize xs
 
 -- ---- slots to lend
 

@@ -5,9 +5,9 @@ use mathlib.Core.Path.{_≡_, refl, sym, ap, _∙_}
 use mathlib.Core.Bool.{true, _&&_}
 use mathlib.Core.List.{List, [], _∷_, map}
 use borrow.Author.Tests.{le-leb}
-use lib.Dec.{leb}
+use lib.Dec.{leb, ltb}
 use lib.ListN.{length, take, drop, length-take, take-append-drop}
-use lib.Seq.{take-all, take-length, drop-nil, length-take-le}
+use lib.Seq.{take-append-seam, take-all, take-length, drop-nil, length-take-le}
 use Rattle.layout.specs.declared.Refusal.the-variants.{BadSlot}
 use Rattle.layout.specs.Refusals.{ok}
 use Rattle.layout.proofs.Laws.{demanded}
@@ -19,13 +19,13 @@ use Rattle.record.proofs.Tables.{slots-take, length-slots}
 use Rattle.sheet.specs.Entries.{Entry, bodyBytes, valueBytes, entriesIn}
 use Rattle.sheet.specs.Sheet.{widthOf, versionFor, headerSize, maxSheet, sheetBytes, entryOf, entriesOf, slotFits, slotsFit, slotNumbers, versionOf, versionKnown, widthIn, entriesAt, putInto, read, write}
 use Rattle.sheet.specs.Claims.{seen, sheetOf, Stored}
-use Rattle.sheet.specs.Steps.{lentFits}
+use Rattle.sheet.specs.Steps.{lentFits, tableSheet}
 use Rattle.sheet.proofs.Entries.{AllSound}
 use Rattle.sheet.proofs.Tables.{slots-sound, same-seen, length-slot-numbers, front-few}
-use Rattle.sheet.proofs.Calls.{lengths, lent, Wrote, wrote, wrote-short, header-there, ReadIt, read-it, read-put}
+use Rattle.sheet.proofs.Calls.{lengths, lent, Wrote, wrote, wrote-short, write-done, header-there, ReadIt, read-it, read-put}
 use Rattle.sheet.proofs.Claims.{put-entries, put-fit, length-entries, true-is, version-known, sheet-is, table-kept}
 use Rattle.rescue_fill.specs.Rescue.{keptIn, droppedOf, filledUp, saved, Outcome, keeping, rescue}
-use Rattle.rescue.specs.Claims.{allKept, SoundRead, WrittenSaved, setBy, RescuedSaved, entriesFor, SavesFront, CutSaved}
+use Rattle.rescue.specs.Claims.{allKept, SoundRead, WrittenSaved, setBy, RescuedSaved, entriesFor, CutStored, SavesFront, CutSaved}
 use Rattle.rescue_fill.proofs.Calls.{rescue-put, rescued-it}
 use Rattle.rescue_fill.proofs.Filled.{filled-area, filled-front, filled-slots, filled-none, length-filled}
 use Rattle.rescue.proofs.Cuts.{wholeBy, whole-few, cut-entries, cut-exactly}
@@ -120,7 +120,7 @@ unfolding sheetBytes entriesIn
 cut-width zero v es = sym (ap (entriesIn (widthOf v)) (drop-nil (suc (widthOf v))))
 cut-width (suc k) v es = refl
 
-module _ {slots area buffer table values : List ℕ} {mark : ℕ} (k : ℕ) (s : Stored slots area buffer table values mark) where
+module _ {slots area buffer table values : List ℕ} {mark : ℕ} {k : ℕ} (s : CutStored slots area buffer table values mark k) where
   passed : Wrote slots area buffer
   passed = wrote slots area buffer (s .writing)
 
@@ -163,9 +163,15 @@ module _ {slots area buffer table values : List ℕ} {mark : ℕ} (k : ℕ) (s :
   cut : List ℕ
   cut = take k (sheetOf (write slots area buffer))
 
+  -- the sheet is that of the table
+  sheet-whole : sheetOf (write slots area buffer) ≡ tableSheet slots area
+  sheet-whole =
+      ap sheetOf (sym (write-done slots area buffer (passed .sizes) (passed .fits) (passed .room)))
+      ∙ take-append-seam (tableSheet slots area) (drop (length (tableSheet slots area)) buffer)
+
   cut-is : cut ≡ take k (sheetBytes v (widthOf v) es)
   unfolding es v cut
-  cut-is = ap (take k) (sheet-is s)
+  cut-is = ap (take k) sheet-whole
 
   kept-is : keptIn (widthIn cut) n cut ≡ front
   unfolding es keptIn front m n
@@ -180,13 +186,13 @@ module _ {slots area buffer table values : List ℕ} {mark : ℕ} (k : ℕ) (s :
   sizes =
       let sheet : List ℕ = sheetOf (write slots area buffer) in
       let start : mark ≤ length values = omega (arith, s .room) in
-      let small : length sheet ≤ maxSheet = rw (sheet-is s) (omega (arith, passed .room, lengths (length slots) (length area) (length buffer) (passed .sizes) .size)) in
+      let small : length sheet ≤ maxSheet = rw sheet-whole (omega (arith, passed .room, lengths (length slots) (length area) (length buffer) (passed .sizes) .size)) in
       let short : length (take k sheet) ≤ maxSheet = rw length-take (omega arith) in
       rw (true-is (tableFits (length table) (length values)) (s .sizes), le-leb (length (take k sheet)) maxSheet short, le-leb mark (length values) start)
 
   room : mark + length (valueBytes front) ≤ length values
-  unfolding front es
-  room = omega (arith, s .room, front-few front (drop m es) es (take-append-drop m es) .1)
+  unfolding front m es v wholeBy
+  room = s .room
 
   cut-effect : rescue cut n table values mark ≡ keeping cut n table values mark front
   unfolding n es v
@@ -210,15 +216,15 @@ module _ {slots area buffer table values : List ℕ} {mark : ℕ} (k : ℕ) (s :
       (put-entries table values mark front front-sound room ∙ sym (entries-take area m (slotsOf slots))))
 
   saves-front : SavesFront slots area table values mark k (take k (sheetOf (write slots area buffer)))
-  unfolding m front es n cut v
+  unfolding m front es n cut v wholeBy
   saves-front =
       record {
-        kept = m;
-        exactly = λ i h. cut-exactly (widthOf v) v es sound short k i (rw length-entries h);
-        count = ap (λ (o : Outcome). o .answer .first) cut-effect ∙ front-long;
+        exactly =
+            λ i h. ap (ltb i) front-long ∙ cut-exactly (widthOf v) v es sound short k i (rw length-entries h);
+        count = ap (λ (o : Outcome). o .answer .first) cut-effect;
         effect = cut-effect;
-        shows = cut-shows;
+        shows = rw front-long cut-shows;
       }
 
 pub cut-saved : CutSaved
-cut-saved slots area buffer table values mark k s = saves-front k s
+cut-saved slots area buffer table values mark k s = saves-front s

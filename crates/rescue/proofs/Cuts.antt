@@ -16,11 +16,7 @@ use Rattle.sheet.specs.Entries.{Entry, entryBytes, bodyBytes, beginsEntry, entr
 use Rattle.sheet.specs.Sheet.{headerSize, sheetBytes, entriesAt, entriesEnd}
 use Rattle.sheet.proofs.Entries.{AllSound, begins, length-entry, entry-number, entries-none, entries-in}
 use Rattle.sheet.proofs.Sheets.{sheet-body}
-
--- how many of the entries end within the first k bytes
-pub endBy : ℕ → ℕ → List Entry → ℕ
-endBy w k [] = 0
-endBy w k (e ∷ es) = let more = endBy w (k - length (entryBytes w e)) es in if leb (length (entryBytes w e)) k then suc more else 0
+use Rattle.rescue.specs.Claims.{endBy}
 
 -- the number in front needs its own bytes alone
 number-cut : (w k : ℕ) (bs : List ℕ) → w ≤ k → numberAt w (take k bs) 0 ≡ numberAt w bs 0
@@ -112,7 +108,7 @@ module _ (w : ℕ) where
   -- ---- the same of a whole sheet
 
   module _ (v : ℕ) (es : List Entry) (sound : AllSound es) (short : length (bodyBytes w es) < 256 ^ w) (k : ℕ) where
-    pub wholeBy : ℕ
+    unfoldable pub wholeBy : ℕ
     wholeBy = endBy w (k - headerSize w) es
 
     pub whole-few : wholeBy ≤ length es

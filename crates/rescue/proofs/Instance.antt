@@ -9,7 +9,7 @@ use Rattle.sheet.specs.Sheet.{entriesOf, write, read}
 use Rattle.sheet.specs.Examples.{okTable, okArea, okSheet}
 use Rattle.sheet.specs.Claims.{Stored}
 use Rattle.rescue_fill.specs.Rescue.{rescue}
-use Rattle.rescue.specs.Claims.{Again}
+use Rattle.rescue.specs.Claims.{Again, endBy, CutStored}
 
 reading : read okSheet (replicate 16 9) (replicate 20 170) 5 .answer .number ≡ 0
 unfolding okSheet read
@@ -25,3 +25,8 @@ again = record {
   rescuing = refl;
   stored = record { writing = refl; sizes = tt; enough-slots = omega arith; room = omega arith };
 }
+
+-- cut behind its second entry, with room for that entry's value alone
+cut-stored : CutStored okTable okArea (replicate 30 170) (replicate 16 9) (replicate 7 170) 5 11
+unfolding okTable okArea write slotsOf entriesOf valueBytes endBy
+cut-stored = record { writing = refl; sizes = tt; enough-slots = omega arith; room = omega arith }

@@ -1,14 +1,16 @@
 -- What a rescue keeps (02, M-109): claims on the call for all sheets, tables, areas, marks and cuts. The proofs are in proofs/Claims.antt,
 -- and proofs/Instance.antt meets the premises.
-use Prim.Native.Nat.{ℕ, suc, _*_, _<_}
+use Prim.Native.Nat.{ℕ, suc, _+_, _-_, _*_, _≤_, _<_}
 use mathlib.Core.Path.{_≡_}
-use mathlib.Core.List.{List, map}
+use mathlib.Core.List.{List, [], _∷_, map}
 use lib.ListN.{length, take}
-use lib.Dec.{leb, ltb}
+use lib.Dec.{T, leb, ltb}
+use Rattle.layout.specs.Refusals.{if_then_else_}
 use Rattle.record.specs.Table.{slotsOf, slotWidth}
+use Rattle.record.specs.Geometry.{tableFits}
 use Rattle.record.specs.Reading.{Read}
-use Rattle.sheet.specs.Entries.{Entry}
-use Rattle.sheet.specs.Sheet.{widthOf, versionFor, entriesOf, entriesEnd, write, read}
+use Rattle.sheet.specs.Entries.{Entry, entryBytes, valueBytes}
+use Rattle.sheet.specs.Sheet.{widthOf, headerSize, versionFor, entriesOf, entriesEnd, write, read}
 use Rattle.sheet.specs.Claims.{seen, sheetOf, Stored}
 use Rattle.rescue_fill.specs.Rescue.{saved, Outcome, keeping, rescue}
 
@@ -62,19 +64,43 @@ entriesFor slots area = entriesOf area (slotsOf slots)
 abbrev pub endOf : List ℕ → List ℕ → ℕ → ℕ
 endOf slots area i = entriesEnd (widthOf (versionFor (entriesFor slots area))) (take (suc i) (entriesFor slots area))
 
--- of a sheet that is cut at byte k exactly the entries that end at or before the cut are kept, and their slots show what they showed
+-- how many entries, whose lengths have w bytes, end within the first k bytes of those that all of them take
+unfoldable pub endBy : ℕ → ℕ → List Entry → ℕ
+unfolding entryBytes
+endBy w k [] = 0
+endBy w k (e ∷ es) =
+    let n = length (entryBytes w e) in
+    let more = endBy w (k - n) es in
+    if leb n k then suc more else 0
+
+-- the entries that are left of a table's sheet where that is cut at byte k
+abbrev pub leftBy : List ℕ → List ℕ → ℕ → List Entry
+leftBy slots area k =
+    let es = entriesFor slots area in
+    let w = widthOf (versionFor es) in
+    take (endBy w (k - headerSize w) es) es
+
+-- The writer accepts a table; a rescue of its sheet, cut at byte k, has slots for all of the table, and room for the values
+-- that are left.
+pub record CutStored (slots area buffer table values : List ℕ) (mark k : ℕ) : Type 0 where
+  pub writing : write slots area buffer .answer .number ≡ 0
+  pub sizes : T (tableFits (length table) (length values))
+  pub enough-slots : length (slotsOf slots) ≤ length (slotsOf table)
+  pub room : mark + length (valueBytes (leftBy slots area k)) ≤ length values
+
+-- Exactly the entries that end at or before the cut are kept, and their slots show what they showed.
 pub record SavesFront (slots area table values : List ℕ) (mark k : ℕ) (cut : List ℕ) : Type 0 where
-  pub kept : ℕ
-  pub exactly : (i : ℕ) → i < length (slotsOf slots) → ltb i kept ≡ leb (endOf slots area i) k
-  pub count : rescue cut (length (slotsOf slots)) table values mark .answer .first ≡ kept
+  pub exactly : (i : ℕ) → i < length (slotsOf slots) → ltb i (length (leftBy slots area k)) ≡ leb (endOf slots area i) k
+  pub count : rescue cut (length (slotsOf slots)) table values mark .answer .first ≡ length (leftBy slots area k)
   pub effect :
       rescue cut (length (slotsOf slots)) table values mark
-      ≡ keeping cut (length (slotsOf slots)) table values mark (take kept (entriesFor slots area))
+      ≡ keeping cut (length (slotsOf slots)) table values mark (leftBy slots area k)
   pub shows :
-      map (seen (rescue cut (length (slotsOf slots)) table values mark .area)) (take kept (slotsOf (rescue cut (length (slotsOf slots)) table values mark .slots)))
-      ≡ map (seen area) (take kept (slotsOf slots))
+      let o = rescue cut (length (slotsOf slots)) table values mark in
+      let n = length (leftBy slots area k) in
+      map (seen (o .area)) (take n (slotsOf (o .slots))) ≡ map (seen area) (take n (slotsOf slots))
 
 abbrev pub CutSaved : Type 0
 CutSaved =
-    (slots area buffer table values : List ℕ) (mark k : ℕ) → Stored slots area buffer table values mark
+    (slots area buffer table values : List ℕ) (mark k : ℕ) → CutStored slots area buffer table values mark k
     → SavesFront slots area table values mark k (take k (sheetOf (write slots area buffer)))

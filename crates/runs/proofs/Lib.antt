@@ -4,3 +4,4 @@ pub mod Calls
 pub mod Shown
 pub mod OneRun
 pub mod OldValues
+pub mod Told

@@ -58,7 +58,7 @@ module _ (xs ys : List ℕ) (mark : ℕ) (same : take mark xs ≡ take mark ys) 
       rw (drop-drop (i * integerSize) at xs, drop-drop (i * integerSize) at ys)
       (ap (λ (bs : List ℕ). number 256 (reverse bs)) (part-stays (at + i * integerSize) integerSize (omega arith)))
 
-  integers-stay : (at n : ℕ) → at + n * integerSize ≤ mark → integersIn n (drop at xs) ≡ integersIn n (drop at ys)
+  pub integers-stay : (at n : ℕ) → at + n * integerSize ≤ mark → integersIn n (drop at xs) ≡ integersIn n (drop at ys)
   integers-stay at n h =
       ext-getD 0 _ _
       (length-bigEndianIn integerSize n (drop at xs) ∙ sym (length-bigEndianIn integerSize n (drop at ys)))
