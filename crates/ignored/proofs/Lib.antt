@@ -1,0 +1,4 @@
+-- The proofs of what is not looked at.
+mod Positions
+mod Flags
+mod Instance
