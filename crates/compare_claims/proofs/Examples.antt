@@ -1,4 +1,5 @@
 -- The examples hold: one statement, which the checker computes. Then the theorems on one record each: their premises can be met.
+use native.Mathlib.Omega.{arith}
 use mathlib.Core.List.{List, []}
 use mathlib.Core.Path.{_≡_, refl}
 use Prim.Native.Nat.{ℕ, _*_}
@@ -9,7 +10,9 @@ use Rattle.record.specs.Table.{slotWidth}
 use Rattle.compare.specs.Comparing.{Compared, compare}
 use Rattle.compare_claims.specs.Claims.{WithItself, sameOrNeither, OtherWayRound, otherWay}
 use Rattle.compare_claims.specs.Examples.{all, examples}
+use Rattle.compare_claims.specs.Verdicts.{Lent, compared, firstShown, secondShown}
 use Rattle.compare_claims.proofs.Claims.{with-itself, other-way-round}
+use Rattle.compare_claims.proofs.Verdicts.{verdicts-say}
 
 examples-hold : T (all examples)
 unfolding all examples
@@ -35,3 +38,20 @@ itself = with-itself layout (bytes "ab c") slots area slots area (replicate 9 7)
 other-way : by (bytes "ab") (bytes "ab c") ≡ otherWay (by (bytes "ab c") (bytes "ab"))
 unfolding OtherWayRound compare
 other-way = other-way-round layout (bytes "ab c") (bytes "ab") slots area slots area (replicate 9 7) refl
+
+-- the first field gets 0, so its slots show the same in both tables
+abbrev lent : Lent
+lent = record {
+  layout = layout;
+  first = bytes "ab c";
+  second = bytes "ab d";
+  firstSlots = slots;
+  firstArea = area;
+  secondSlots = slots;
+  secondArea = area;
+  report = replicate 9 7;
+}
+
+first-same : firstShown (compared lent) 0 ≡ secondShown (compared lent) 0
+unfolding compare
+first-same = verdicts-say lent refl 0 (omega arith) .is-same .0 refl .2

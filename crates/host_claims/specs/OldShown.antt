@@ -1,5 +1,5 @@
--- A slot that a reading does not set and that lies below the mark still shows its old value (document 01, Reading), as
--- a C program sees it. The proof is in proofs/OldShown.antt.
+-- A slot that a reading leaves alone goes on showing its value, if that ends at or before the mark (document 01,
+-- Reading), as a C program sees it. The proof is in proofs/OldShown.antt.
 use Prim.Native.Nat.{ℕ, _≤_, _<_}
 use mathlib.Core.Path.{_≡_}
 use mathlib.Core.List.{List}

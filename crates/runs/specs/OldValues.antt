@@ -20,7 +20,7 @@ pub record Old (slots area : List ℕ) (mark i : ℕ) (r : Read) : Type 0 where
   -- .. and where its value ends at or before the mark, it shows in the area that is left what it showed in the one lent
   pub value : valueEnd (slotAt slots i) ≤ mark → shown (r .area) (slotAt (r .slots) i) ≡ shown area (slotAt slots i)
 
--- A SLOT THAT IS NOT SET AND LIES BELOW THE MARK still shows its old value.
+-- A SLOT THAT A READING LEAVES ALONE goes on showing its value, if that ends at or before the mark.
 abbrev pub OldValues : Type 0
 OldValues =
     (layout bs slots area : List ℕ) (mark i : ℕ) → slotsSet (read layout bs slots area mark) ≤ i
