@@ -9,8 +9,8 @@
  * that are not set; curlew_sheet_rescue keeps what is whole of a damaged one. curlew_compare reads two copies of
  * one record and says what differs. curlew_mean gives the mean of a candidate's marks. curlew_from_perl turns a
  * pack template of Perl into a layout. curlew_layout says how many slots a layout takes and how long its records are,
- * curlew_promises whether it may grow, loses nothing and may be joined, curlew_extends whether it is another layout
- * with fields added.
+ * curlew_fields what each of its fields is and where it begins, curlew_promises whether it may grow, loses nothing and
+ * may be joined, curlew_extends whether it is another layout with fields added.
  *
  * Link with libcurlew.a or libcurlew.so. The header serves C99 and C++, the library x86-64. Of other libraries it
  * needs memcpy, memmove and memset alone, which every C library has. It allocates nothing, keeps no state and does no
@@ -140,6 +140,40 @@
  * to 8 times CURLEW_MAX_COUNT for a field; above CURLEW_MAX_RECORD no packing by the layout is accepted, and
  * neither is one with more slots than CURLEW_MAX_SLOTS. A layout that packing would refuse is refused just so: 1
  * for its size, 2, 3 or 4 with the place.
+ *
+ *
+ * A LAYOUT'S FIELDS
+ *
+ * curlew_fields takes a layout and writes a row for each of its fields, in their order: CURLEW_FIELD_SIZE (32) bytes,
+ * eight big-endian 32-bit numbers, which curlew_get_field takes out.
+ *
+ *   place      the byte of the layout at which its type character stands
+ *   length     how many bytes of the layout it takes, its flag and its count with it
+ *   type       its type character
+ *   flag       1 where it has the flag `u`, else 0
+ *   count      its count; CURLEW_NO_COUNT where it has none, CURLEW_STAR for `*`
+ *   slot       the slot that it takes; CURLEW_NO_SLOT for x X @
+ *   position   the byte of the record at which packing begins it; CURLEW_OPEN where starred values decide that
+ *   bytes      how many bytes of the record it fills, none for X and @; CURLEW_OPEN where it is starred
+ *
+ * The layout `A8 Su2 c*X @16 c` has six rows:
+ *
+ *   place  length  type  flag  count            slot            position     bytes
+ *       0       2  'A'      0  8                0               0            8
+ *       3       3  'S'      1  2                1               8            4
+ *       7       2  'c'      0  CURLEW_STAR      2               12           CURLEW_OPEN
+ *       9       1  'X'      0  CURLEW_NO_COUNT  CURLEW_NO_SLOT  CURLEW_OPEN  0
+ *      11       3  '@'      0  16               CURLEW_NO_SLOT  CURLEW_OPEN  0
+ *      15       1  'c'      0  CURLEW_NO_COUNT  3               16           1
+ *
+ * A position that is given is so in every record that is packed by the layout. Behind a starred value it is open,
+ * until an `@` with a count or `X*` goes to a place that is known again; `@*` goes to the highest position so far,
+ * which stays open behind a starred value. Without starred values a record is as long as the largest of all position
+ * + bytes and of all counts of `@`, which is the length that curlew_layout answers. In a layout without X, @, `*` and
+ * counts of 0 the positions are those that curlew_read gives to the slots.
+ *
+ * A layout is judged as curlew_read judges it: `x*` is taken here, and counts as starred. The run may have any length
+ * that holds the rows; CURLEW_MAX_LAYOUT rows are always enough. Its other bytes stay as they were.
  *
  *
  * COMPOSING RECORDS
@@ -353,6 +387,7 @@
  *   mean            CURLEW_OK, how many slots are not set, 0; the mean
  *   from Perl       CURLEW_OK, length of the layout, 0
  *   layout          CURLEW_OK, slots that it takes, length of its shortest record
+ *   fields          CURLEW_OK, how many fields there are, 0
  *   promises        CURLEW_OK, where it may not grow, where it loses something; where it may not be joined
  *   extends         CURLEW_OK, fields of the old layout, fields added; 0 (refused: which layout)
  *   refused         the number of the refusal, the place of the fault, 0
@@ -383,6 +418,7 @@
  *                            values do not fit the area from the mark on; the
  *                            report does not hold the findings; a layout from
  *                            Perl is longer than its run or CURLEW_MAX_LAYOUT;
+ *                            the run does not hold the rows of the fields;
  *                            extends: the record of the new layout is longer        extends: byte of the first
  *                            than CURLEW_MAX_RECORD                                 field that ends past it
  *   12   CURLEW_BAD_SHEET    the sheet is too short or its header's length is       0
@@ -402,8 +438,8 @@
  * 5; then 6 to 10 and 16 for each slot in turn, the lower number first; then 11. Writing a sheet: 1; 7 for each
  * slot in turn; 11. Reading a sheet: 1; 13; 12; 5; 11. Rescuing one: 1; 13; 5; 11. Comparing: all of reading the
  * first copy, then all of reading the second, then 11 for the report. Mean: 1; then 7, 8, 9 and 14 for each slot in
- * turn. From Perl: 1; 15; 11. Layout, promises: 1; then 2, 3 and 4 for each field in turn. Extends: these for the old
- * layout, then for the new one; 17; 18; 5; 11.
+ * turn. From Perl: 1; 15; 11. Layout, promises: 1; then 2, 3 and 4 for each field in turn. Fields: the same, then 11.
+ * Extends: these for the old layout, then for the new one; 17; 18; 5; 11.
  *
  * No byte is written before the last of them: a refusal writes the reply and nothing else. A reply of a wrong size
  * makes the call return 1 and write nothing at all.
@@ -423,11 +459,13 @@
  *   legs of a rescue        at most CURLEW_MAX_SLOTS            64
  *   reply                   exactly CURLEW_PACK_REPLY, CURLEW_READ_REPLY, CURLEW_SHEET_REPLY, CURLEW_RESCUE_REPLY,
  *                           CURLEW_COMPARE_REPLY, CURLEW_MEAN_REPLY, CURLEW_PERL_REPLY,
- *                           CURLEW_LAYOUT_REPLY, CURLEW_PROMISES_REPLY or CURLEW_EXTENDS_REPLY bytes
+ *                           CURLEW_LAYOUT_REPLY, CURLEW_FIELDS_REPLY, CURLEW_PROMISES_REPLY or
+ *                           CURLEW_EXTENDS_REPLY bytes
  *
  * Number 1 compares the lengths that you give to a call with these limits. The output run must be no larger than a
- * record may be, even where the result is short, and so must the run for a sheet. The report of curlew_compare and
- * the run for a layout from Perl may have any length. A run of length 0 may be a null pointer.
+ * record may be, even where the result is short, and so must the run for a sheet. The report of curlew_compare, the
+ * run for a layout from Perl and the run for a layout's fields may have any length. A run of length 0 may be a null
+ * pointer.
  *
  *
  * YOUR DUTY
@@ -515,9 +553,11 @@
 #define CURLEW_MEAN_REPLY 24
 #define CURLEW_PERL_REPLY 12
 #define CURLEW_LAYOUT_REPLY 12
+#define CURLEW_FIELDS_REPLY 12
 #define CURLEW_PROMISES_REPLY 16
 #define CURLEW_EXTENDS_REPLY 16
 #define CURLEW_FINDING_SIZE 12
+#define CURLEW_FIELD_SIZE 32
 
 /* Limits. */
 #define CURLEW_MAX_LAYOUT 256
@@ -541,6 +581,12 @@
 
 /* In the place of a byte where a promise is kept. */
 #define CURLEW_NOWHERE 4294967295u
+
+/* In the row of a field: no count, `*` as its count, no slot, and what starred values decide. */
+#define CURLEW_NO_COUNT 4294967295u
+#define CURLEW_STAR 4294967294u
+#define CURLEW_NO_SLOT 4294967295u
+#define CURLEW_OPEN 4294967295u
 
 /* Verdicts of comparing. */
 #define CURLEW_SAME 0
@@ -635,6 +681,11 @@ uint32_t curlew_from_perl(const void *perl_template, size_t perl_template_len,
 uint32_t curlew_layout(const void *layout, size_t layout_len,
                        uint8_t *reply, size_t reply_len);
 
+/* Writes a row of CURLEW_FIELD_SIZE bytes for each field of a layout. Writes fields and reply. */
+uint32_t curlew_fields(const void *layout, size_t layout_len,
+                       uint8_t *fields, size_t fields_len,
+                       uint8_t *reply, size_t reply_len);
+
 /* Says where a layout breaks each promise: to grow, to lose nothing, to be joined. Writes reply. */
 uint32_t curlew_promises(const void *layout, size_t layout_len,
                          uint8_t *reply, size_t reply_len);
@@ -661,6 +712,18 @@ struct curlew_finding {
     uint32_t verdict;
     uint32_t place;
     uint32_t bits;
+};
+
+/* A field's eight numbers: see A LAYOUT'S FIELDS. */
+struct curlew_field {
+    uint32_t place;
+    uint32_t length;
+    uint32_t type;
+    uint32_t flag;
+    uint32_t count;
+    uint32_t slot;
+    uint32_t position;
+    uint32_t bytes;
 };
 
 /* An answer's three numbers: the number itself, then the two whose meaning depends on it. */
@@ -773,6 +836,23 @@ static inline struct curlew_finding curlew_get_finding(const uint8_t *report, si
     finding.place = curlew_get_number(from + 4);
     finding.bits = curlew_get_number(from + 8);
     return finding;
+}
+
+/* The row of field `index`, out of a run that curlew_fields wrote. */
+static inline struct curlew_field curlew_get_field(const uint8_t *fields, size_t index)
+{
+    const uint8_t *from = fields + index * CURLEW_FIELD_SIZE;
+    struct curlew_field field;
+
+    field.place = curlew_get_number(from);
+    field.length = curlew_get_number(from + 4);
+    field.type = curlew_get_number(from + 8);
+    field.flag = curlew_get_number(from + 12);
+    field.count = curlew_get_number(from + 16);
+    field.slot = curlew_get_number(from + 20);
+    field.position = curlew_get_number(from + 24);
+    field.bytes = curlew_get_number(from + 28);
+    return field;
 }
 
 /* The three numbers of a reply. */

@@ -25,8 +25,9 @@ def load(path):
     lib.curlew_layout.argtypes = RUN + OWN
     lib.curlew_promises.argtypes = RUN + OWN
     lib.curlew_extends.argtypes = RUN + RUN + OWN
+    lib.curlew_fields.argtypes = RUN + OWN + OWN
     for name in ("pack", "read", "sheet_write", "sheet_read", "sheet_rescue", "compare", "mean", "from_perl", "layout",
-                 "promises", "extends"):
+                 "promises", "extends", "fields"):
         getattr(lib, "curlew_" + name).restype = ctypes.c_uint32
     return lib
 
@@ -146,6 +147,14 @@ def extends(lib, old, new):
     return FOUR.unpack(reply.raw)
 
 
+def fields(lib, layout, room):
+    (rows, rows_run), (reply, reply_run) = own(room), own(THREE.size)
+    number = lib.curlew_fields(*lent(layout), *rows_run, *reply_run)
+    answer = THREE.unpack(reply.raw)
+    assert number == answer[0]
+    return answer, list(struct.iter_unpack(">8I", rows.raw[:32 * answer[1]])) if number == 0 else rows.raw
+
+
 def equal(got, expected):
     if got != expected:
         sys.exit(f"failed: got {got}, expected {expected}")
@@ -203,6 +212,12 @@ def main():
     equal(extends(lib, b"A8 S2", b"A8 S2 c*"), (18, 6, 0, 1))
     equal(extends(lib, b"c", b"c" * 65), (5, 64, 0, 1))
     equal(extends(lib, b"a", b"a a32768"), (11, 2, 0, 1))
+    none, star = 2 ** 32 - 1, 2 ** 32 - 2
+    equal(fields(lib, b"A8 Su2 c*X @16 c", 200), ((0, 6, 0), [
+        (0, 2, ord("A"), 0, 8, 0, 0, 8), (3, 3, ord("S"), 1, 2, 1, 8, 4), (7, 2, ord("c"), 0, star, 2, 12, none),
+        (9, 1, ord("X"), 0, none, none, none, 0), (11, 3, ord("@"), 0, 16, none, none, 0), (15, 1, ord("c"), 0, none, 3, 16, 1)]))
+    equal(fields(lib, b"A8 x* t", 64), ((2, 6, 0), bytes(64)))
+    equal(fields(lib, b"A8 x*", 63), ((11, 0, 0), bytes(63)))
     equal(lib.curlew_pack(None, 0, None, 0, None, 0, None, 0, None, 0), 1)
 
 

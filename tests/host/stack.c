@@ -123,6 +123,13 @@ static uint32_t layout(void)
     return curlew_layout(EVERY_TYPE, sizeof EVERY_TYPE - 1, reply, sizeof reply);
 }
 
+static uint32_t fields(void)
+{
+    uint8_t rows[(sizeof EVERY_TYPE - 1) * CURLEW_FIELD_SIZE], reply[CURLEW_FIELDS_REPLY];
+
+    return curlew_fields(EVERY_TYPE, sizeof EVERY_TYPE - 1, rows, sizeof rows, reply, sizeof reply);
+}
+
 static uint32_t promises(void)
 {
     uint8_t reply[CURLEW_PROMISES_REPLY];
@@ -147,7 +154,7 @@ static const struct call calls[] = {
     {"curlew_pack", pack}, {"curlew_read", read_record}, {"curlew_sheet_write", sheet_write},
     {"curlew_sheet_read", sheet_read}, {"curlew_sheet_rescue", sheet_rescue}, {"curlew_compare", compare},
     {"curlew_mean", mean}, {"curlew_from_perl", from_perl}, {"curlew_layout", layout},
-    {"curlew_promises", promises}, {"curlew_extends", extends},
+    {"curlew_fields", fields}, {"curlew_promises", promises}, {"curlew_extends", extends},
 };
 
 /* How many bytes of stack below this function's frame the call used. */

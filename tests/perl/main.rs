@@ -50,6 +50,8 @@ mod reader;
 mod reals;
 #[path = "../second/rescue.rs"]
 mod rescue;
+#[path = "../second/rows.rs"]
+mod rows;
 #[path = "../second/sheet.rs"]
 mod sheet;
 #[path = "../second/slots.rs"]

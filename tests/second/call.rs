@@ -1,7 +1,7 @@
 //! A call with everything lent to it, and what is found after it.
 
 use crate::compare::{self, Side};
-use crate::{describe, mean, packer, perl, promises, reader, rescue, sheet};
+use crate::{describe, mean, packer, perl, promises, reader, rescue, rows, sheet};
 use std::ops::{Deref, DerefMut};
 
 #[derive(Clone, Copy, PartialEq, Eq, Debug)]
@@ -17,9 +17,10 @@ pub enum Which {
     Layout,
     Promises,
     Extends,
+    Fields,
 }
 
-pub const CALLS: [Which; 11] = [
+pub const CALLS: [Which; 12] = [
     Which::Pack,
     Which::Read,
     Which::SheetWrite,
@@ -31,6 +32,7 @@ pub const CALLS: [Which; 11] = [
     Which::Layout,
     Which::Promises,
     Which::Extends,
+    Which::Fields,
 ];
 
 impl Which {
@@ -46,6 +48,7 @@ impl Which {
             Which::FromPerl => &[0, 1, 11, 15],
             Which::Layout | Which::Promises => &[0, 1, 2, 3, 4],
             Which::Extends => &[0, 1, 2, 3, 4, 5, 11, 17, 18],
+            Which::Fields => &[0, 1, 2, 3, 4, 11],
         }
     }
 }
@@ -53,6 +56,7 @@ impl Which {
 /// The runs that a call may be lent; those that are not lent to it stay empty.
 /// In packing `record` is the output buffer. In comparing `record`, `slots` and `area` are the first's.
 /// In translating a template `layout` is the buffer; beside a layout with fields added `template` is the old one.
+/// In listing fields `report` is the run for the rows.
 #[derive(Clone, PartialEq, Eq, Default)]
 pub struct Runs {
     pub layout: Vec<u8>,
@@ -97,6 +101,7 @@ impl Runs {
             Which::FromPerl => vec![("template", &mut self.template), layout, reply],
             Which::Layout | Which::Promises => vec![layout, reply],
             Which::Extends => vec![("template", &mut self.template), layout, reply],
+            Which::Fields => vec![layout, ("fields", &mut self.report), reply],
         }
     }
 }
@@ -255,6 +260,7 @@ pub fn by_twin(call: &Call) -> After {
         Which::Layout => describe::layout_call(&call.layout, &mut runs.reply),
         Which::Promises => promises::promises_call(&call.layout, &mut runs.reply),
         Which::Extends => promises::extends_call(&call.template, &call.layout, &mut runs.reply),
+        Which::Fields => rows::fields_call(&call.layout, &mut runs.report, &mut runs.reply),
     };
     after
 }

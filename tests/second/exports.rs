@@ -11,6 +11,7 @@ mod promises;
 mod reader;
 mod reals;
 mod rescue;
+mod rows;
 mod sheet;
 mod slots;
 
@@ -269,6 +270,24 @@ pub unsafe extern "C" fn twin_extends(
     promises::extends_call(
         lent(old_layout, old_layout_len),
         lent(new_layout, new_layout_len),
+        lent_mut(reply, reply_len),
+    )
+}
+
+/// # Safety
+/// Each pointer leads to a run of its length; `fields` and `reply` overlap no other run.
+#[no_mangle]
+pub unsafe extern "C" fn twin_fields(
+    layout: *const u8,
+    layout_len: usize,
+    fields: *mut u8,
+    fields_len: usize,
+    reply: *mut u8,
+    reply_len: usize,
+) -> u32 {
+    rows::fields_call(
+        lent(layout, layout_len),
+        lent_mut(fields, fields_len),
         lent_mut(reply, reply_len),
     )
 }

@@ -114,6 +114,14 @@ extern "C" {
         reply: *mut u8,
         reply_len: usize,
     ) -> u32;
+    fn curlew_fields(
+        layout: *const u8,
+        layout_len: usize,
+        fields: *mut u8,
+        fields_len: usize,
+        reply: *mut u8,
+        reply_len: usize,
+    ) -> u32;
 }
 
 const GUARD: usize = 40;
@@ -202,6 +210,7 @@ pub fn by_library(call: &Call) -> (After, Vec<&'static str>) {
             Which::Layout => curlew_layout(at[0], len[0], at[1], len[1]),
             Which::Promises => curlew_promises(at[0], len[0], at[1], len[1]),
             Which::Extends => curlew_extends(at[0], len[0], at[1], len[1], at[2], len[2]),
+            Which::Fields => curlew_fields(at[0], len[0], at[1], len[1], at[2], len[2]),
         }
     };
     let mut broken = Vec::new();

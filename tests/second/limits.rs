@@ -45,5 +45,8 @@ pub const RESCUE_REPLY_BYTES: usize = 16;
 pub const PROMISES_REPLY_BYTES: usize = 16;
 /// The reply of a mean: three numbers, whether there is a mean, and the mean.
 pub const MEAN_REPLY_BYTES: usize = 24;
+/// The reply of listing a layout's fields, and the bytes of a field's row.
+pub const FIELDS_REPLY_BYTES: usize = REPLY_BYTES;
+pub const ROW_BYTES: usize = 32;
 /// The bytes that a comparison reports on each value field.
 pub const REPORT_BYTES: usize = 12;

@@ -30,6 +30,8 @@ mod real_calls;
 mod reals;
 mod rescue;
 mod rescue_calls;
+mod row_calls;
+mod rows;
 mod sheet;
 mod sheet_calls;
 mod slots;
@@ -75,6 +77,7 @@ fn main() {
     perl_calls::run(&mut tally);
     layout_calls::run(&mut tally);
     promises_calls::run(&mut tally);
+    row_calls::run(&mut tally);
     lossless::run(&mut tally);
     glue_calls::run(&mut tally);
     real_calls::run(&mut tally);
@@ -94,6 +97,7 @@ fn main() {
         perl_calls::round(&mut dice, &mut tally);
         layout_calls::round(&mut dice, &mut scratch, &mut tally);
         promises_calls::round(&mut dice, &mut tally);
+        row_calls::round(&mut dice, &mut scratch, &mut tally);
         lossless::round(&mut dice, &mut tally);
         glue_calls::round(&mut dice, &mut tally);
         real_calls::round(&mut dice, &mut tally);

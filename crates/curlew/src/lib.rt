@@ -8,6 +8,7 @@ ghost use Rattle.host_compare.specs.Calls.{HostCompares};
 ghost use Rattle.host_mean.specs.Calls.{HostMeans};
 ghost use Rattle.host_perl.specs.Calls.{HostConverts};
 ghost use Rattle.host_describe.specs.Calls.{HostDescribes};
+ghost use Rattle.host_fields.specs.Calls.{HostLists};
 ghost use Rattle.host_promises.specs.Calls.{HostPromises, HostExtends};
 
 // Packs the arguments into `out` by the layout (Tcl's `binary format`).
@@ -131,6 +132,14 @@ pub extern "C" fn curlew_layout(layout: &[u8], reply: &mut [u8]) -> u32
     ensures { λ r. ⌜ HostDescribes layout reply r ⌝ }
 {
     host_describe::describe(layout, reply)
+}
+
+// Writes a row of eight numbers for each field of a layout.
+#[no_mangle]
+pub extern "C" fn curlew_fields(layout: &[u8], fields: &mut [u8], reply: &mut [u8]) -> u32
+    ensures { λ r. ⌜ HostLists layout fields reply r ⌝ }
+{
+    host_fields::fields(layout, fields, reply)
 }
 
 // Says where a layout breaks each promise: to grow at its end, to lose nothing when it is read, to be joined.

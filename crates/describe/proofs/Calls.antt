@@ -14,7 +14,7 @@ use Rattle.layout.specs.Refusals.{if_then_else_, ok, refused}
 use Rattle.layout.specs.Layout.{maxLayout, takesSlot, fieldsOf, slotCount}
 use Rattle.layout.specs.Words.{fieldOf, decoded, FieldOf}
 use Rattle.layout.proofs.Laws.{AllSound, packed-reads}
-use Rattle.describe.proofs.Counts.{AllCounted, counts-limited}
+use Rattle.placed.proofs.Counts.{AllCounted, counts-limited}
 use Rattle.layout.proofs.Decoded.{next-field, no-field}
 use Rattle.record.specs.declared.Answer.{Answer}
 use Rattle.record.specs.declared.Cursor.{Cursor}

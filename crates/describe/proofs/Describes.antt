@@ -13,7 +13,7 @@ use Rattle.layout.specs.declared.Refusal.the-variants.{BadSize}
 use Rattle.layout.specs.Refusals.{Result, ok, refused, _>>=_, demand}
 use Rattle.layout.specs.Layout.{maxLayout, fieldsOf, slotCount}
 use Rattle.layout.proofs.Laws.{ok-inj, no-number-zero, packed-reads}
-use Rattle.describe.proofs.Counts.{counts-limited, fields-few}
+use Rattle.placed.proofs.Counts.{counts-limited, fields-few}
 use Rattle.record.specs.declared.Answer.{Answer}
 use Rattle.record.specs.declared.Cursor.{Cursor}
 use Rattle.record.specs.Table.{slotsOf}

@@ -1,6 +1,5 @@
--- Laws of counts and of the pass over the fields; the claim; the call.
-mod Counts
-mod Passing
+-- Laws of the pass over the fields, for the crates above too; the claim; the call.
+pub mod Passing
 pub mod Describes
 mod Calls
 mod Instance

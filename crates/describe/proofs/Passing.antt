@@ -23,7 +23,7 @@ use Rattle.layout.specs.Refusals.{ok}
 use Rattle.layout.specs.Layout.{maxCount, inLimit}
 use Rattle.layout.specs.Words.{slotsTaken, FitCode}
 use Rattle.layout.proofs.Laws.{bound, ok-inj, AllSound}
-use Rattle.describe.proofs.Counts.{AllCounted}
+use Rattle.placed.proofs.Counts.{AllCounted}
 use Rattle.record.specs.declared.Cursor.{Cursor}
 use Rattle.record.specs.declared.slots.Slot.{Slot}
 use Rattle.record.specs.Bytes.{ceilDiv}
@@ -57,7 +57,7 @@ zeros-digits true (suc n) = zeros-digits true n
 zeros-digits false zero = tt
 zeros-digits false (suc n) = zeros-digits false n
 
-served-fewest : (s : Shape) (n : ℕ) → Served s n (replicate n 48)
+pub served-fewest : (s : Shape) (n : ℕ) → Served s n (replicate n 48)
 served-fewest (Text pad) n = tt
 served-fewest (Digits hex high) n =
     let zeros : List ℕ = replicate n 48 in

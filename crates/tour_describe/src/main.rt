@@ -1,5 +1,6 @@
 // Layouts looked at before they are used: a line for each, with the three numbers: 0, slots, length of the shortest record; or the refusal and its place.
-// Then what is proved of layouts: a line for each, with the four numbers of the answer.
+// Then what is proved of layouts: a line for each, with the four numbers of the answer. Then their fields: 0, fields, 0, and below it a line for each row, in
+// which `-` stands for no count, no slot and what is open, and `*` for a star.
 use promises::Told;
 use tour_text::lines;
 use tour_text::print;
@@ -36,12 +37,83 @@ fn extends(pair: &[u8]) {
     }
 }
 
+// The eight numbers of a row, each four bytes.
+const ROW_NUMBERS: usize = 8;
+
+const NUMBER_SIZE: usize = 4;
+
+const ROW_SIZE: usize = ROW_NUMBERS * NUMBER_SIZE;
+
+// A number of a row.
+fn number(n: u64) {
+    match n {
+        4294967295 => print::text(b" -"),
+        4294967294 => print::text(b" *"),
+        _ => {
+            print::text(b" ");
+            print::number(n);
+        }
+    }
+}
+
+// The number i of all rows: the first of a row begins a line, and the third is a character.
+fn shown(i: usize, n: u64) {
+    match i % ROW_NUMBERS {
+        0 => {
+            print::text(b"\n ");
+            number(n);
+        }
+        2 => {
+            print::text(b" ");
+            print::text(&[(n % 256) as u8]);
+        }
+        _ => number(n),
+    }
+}
+
+fn rows(run: &[u8]) {
+    let n = run.len() / NUMBER_SIZE;
+    let mut i = 0;
+    while i < n {
+        shown(i, big_endian::number_at(run, i * NUMBER_SIZE, NUMBER_SIZE));
+        i += 1;
+    }
+}
+
+fn wide(b: u8) -> u64 {
+    b as u64
+}
+
+// The rows that take so many bytes at the front of a run, and the byte behind them.
+fn filled(run: &[u8], bytes: usize) {
+    if run.len() <= bytes {
+        return;
+    }
+    rows(&run[0..bytes]);
+    print::text(b"\n  then");
+    number(wide(run[bytes]));
+}
+
+// The fields of a layout, in a run of bytes 170.
+fn list(layout: &[u8], run: &mut [u8], told: &[u8]) {
+    let a = fields::fields(layout, run);
+    print::call(b"fields", layout);
+    print::lent(told);
+    print::answer(a.number, a.first, a.second);
+    if a.number == 0 {
+        filled(run, a.first as usize * ROW_SIZE);
+    }
+    print::text(b"\n");
+}
+
 fn example(kind: u8, rest: &[u8]) {
     match kind {
         b'h' => print::heading(rest),
         b'd' => show(rest, b""),
         b'p' => promises(rest),
         b'e' => extends(rest),
+        b'f' => list(rest, &mut [170; 16 * ROW_SIZE], b""),
+        b's' => list(rest, &mut [170; 2 * ROW_SIZE - 1], b"run of 63 bytes"),
         _ => (),
     }
 }
@@ -62,8 +134,9 @@ fn run(list: &[u8]) {
     }
 }
 
-// Lists, one example a line: `d` and a layout to be described, `p` and one whose promises are asked for, `e` and an old layout and a new one, or `h` and a
-// heading. A line of no such letter is no example.
+// Lists, one example a line: `d` and a layout that is described, `f` and one whose fields are listed, `s` and one whose fields are listed in a run that
+// holds one row, `p` and one whose promises are asked for, `e` and an old layout and a new one, or `h` and a heading. A line of no such letter is no
+// example.
 fn counts() {
     run(
         b"
@@ -167,9 +240,52 @@ fn limit(layout: &[u8], size: &[u8]) {
     told(e);
 }
 
+// Fields: place and bytes in the text, type, flag, count, slot, position, bytes in the record.
+fn listed() {
+    run(
+        b"
+h\x20
+h Fields listed: layout -> 0, fields, 0; place, length, type, flag, count, slot, position, bytes
+f A8 S2
+f\x20\x20a0 Su03x\x20
+f b9H3q2rWI3
+h\x20
+h Moves
+f a5X2a1@*a2
+f @5X3x2@*X*c
+f X9@u4Xu
+h\x20
+h Stars: what they decide is open
+f a6 A12 Su  Su*X2 x* c @10 b12 @* X* c
+f @*a*@*c
+h\x20
+h Refused as reading would: layout -> number, place, 0; then for want of room
+f c3z
+f a3cu5000000
+f @
+s c
+s cs
+s c@
+",
+    );
+}
+
+// No field, and a layout of more fields than the run has rows.
+fn rooms() {
+    list(b"", &mut [0; 0], b"no run");
+    list(
+        &[b'c'; 256],
+        &mut [170; 256 * ROW_SIZE - 1],
+        b"run of 8191 bytes",
+    );
+    list(&[b'c'; 257], &mut [170; 1], b"layout of 257 bytes");
+}
+
 fn main() {
     counts();
     limits();
     refusals();
     promised();
+    listed();
+    rooms();
 }

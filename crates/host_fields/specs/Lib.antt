@@ -1,0 +1,2 @@
+-- What the call that lists a layout's fields means for a C host.
+pub mod Calls
