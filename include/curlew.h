@@ -79,6 +79,44 @@
  * this header put and get slots, integers, reals and answers.
  *
  *
+ * A TABLE, BUILT AND TAKEN APART
+ *
+ * A struct curlew_table lies over your two runs. It knows how much of each is in use, and no helper that is given one
+ * writes or reads past them.
+ *
+ *   slots, slots_room, slots_used    the run of slots, how many bytes it has room for, and how many are in use
+ *   area, area_room, area_used       the same of the area
+ *   full                             1 as soon as a value did not fit
+ *
+ * Add the values in the order of the fields, and give what is in use to a call that takes a table:
+ *
+ *   struct curlew_table table = curlew_table_over(slots, sizeof slots, area, sizeof area);
+ *
+ *   curlew_table_add_text(&table, "Ada", 3);
+ *   curlew_table_add_ints(&table, marks, 2);
+ *   curlew_table_add_unset(&table);
+ *   number = curlew_sheet_write(table.slots, table.slots_used, table.area, table.area_used,
+ *                               sheet, sizeof sheet, reply, sizeof reply);
+ *
+ * Each of them answers 1, or 0 where slots or area have no room left. It has added nothing then, and nothing is added
+ * behind it, so no value takes the slot of another. A full table has a cut slot at its end: every call refuses it with
+ * number 1, and nothing is lost without a word.
+ *
+ * To read into a table give the whole rooms, and say afterwards how many slots the reading set and how many the table
+ * has; those that were not in the record are not set then:
+ *
+ *   curlew_table_clear(&table);
+ *   number = curlew_read(layout, strlen(layout), record, length, table.slots, table.slots_room,
+ *                        table.area, table.area_room, 0, reply, sizeof reply);
+ *   if (number == CURLEW_OK && curlew_table_use(&table, curlew_get_answer(reply).first, 3)
+ *       && curlew_table_int(&table, 1, 0, &mark))
+ *       printf("%lld\n", (long long)mark);
+ *
+ * curlew_table_text, curlew_table_int, curlew_table_uint and curlew_table_real take values out. They answer 1 where the
+ * slot is in use and has such a value, and the value lies inside the area; else 0, and what you gave for the value
+ * stays as it was. A slot that is not set is never taken for a number.
+ *
+ *
  * LAYOUTS
  *
  * A layout is a row of fields. A field is a type character, perhaps the flag `u`, and perhaps a count: decimal
@@ -733,6 +771,17 @@ struct curlew_answer {
     uint32_t second;
 };
 
+/* A table over your runs, and how many bytes of each are in use: see A TABLE, BUILT AND TAKEN APART. */
+struct curlew_table {
+    uint8_t *slots;
+    size_t slots_room;
+    size_t slots_used;
+    uint8_t *area;
+    size_t area_room;
+    size_t area_used;
+    int full;
+};
+
 /* A cast in the form that each of the two languages likes. */
 #ifdef __cplusplus
 #define CURLEW_CAST(type, value) static_cast<type>(value)
@@ -898,6 +947,246 @@ static inline int curlew_get_mean(const uint8_t *reply, double *mean)
     if (curlew_get_number(reply + 12) == 0)
         return 0;
     memcpy(mean, &pattern, sizeof pattern);
+    return 1;
+}
+
+/* Empties a table: no slot is in use, and every slot of its run is not set. */
+static inline void curlew_table_clear(struct curlew_table *table)
+{
+    if (table->slots_room > 0)
+        memset(table->slots, 0, table->slots_room);
+    table->slots_used = 0;
+    table->area_used = 0;
+    table->full = 0;
+}
+
+/* An empty table over two runs. It uses whole slots, and of each run no more than its limit. */
+static inline struct curlew_table curlew_table_over(uint8_t *slots, size_t slots_len, uint8_t *area, size_t area_len)
+{
+    size_t room = slots_len / CURLEW_SLOT_SIZE;
+    struct curlew_table table;
+
+    table.slots = slots;
+    table.slots_room = (room < CURLEW_MAX_SLOTS ? room : CURLEW_MAX_SLOTS) * CURLEW_SLOT_SIZE;
+    table.area = area;
+    table.area_room = area_len < CURLEW_MAX_AREA ? area_len : CURLEW_MAX_AREA;
+    curlew_table_clear(&table);
+    return table;
+}
+
+/* How many slots of a table are in use. */
+static inline size_t curlew_table_count(const struct curlew_table *table)
+{
+    return table->slots_used / CURLEW_SLOT_SIZE;
+}
+
+/* Says that something did not fit into a table: it is full, and its last slot is cut. Returns 0. */
+static inline int curlew_table_overflow(struct curlew_table *table)
+{
+    if (!table->full && table->slots_used < table->slots_room)
+        table->slots_used++;
+    else if (!table->full && table->slots_used > 0)
+        table->slots_used--;
+    table->full = 1;
+    return 0;
+}
+
+/*
+ * Adds a slot of this kind, and room in the area for `length` items of `size` bytes, from byte area_used on as it was
+ * before. The helpers below put the value there. Returns 1, or 0 where there is no room.
+ */
+static inline int curlew_table_add(struct curlew_table *table, uint32_t kind, size_t length, size_t size)
+{
+    size_t start = kind == CURLEW_UNSET ? 0 : table->area_used;
+
+    if (table->full || table->slots_used >= table->slots_room
+        || length > (table->area_room - table->area_used) / size)
+        return curlew_table_overflow(table);
+    curlew_put_slot(table->slots, curlew_table_count(table), kind, CURLEW_CAST(uint32_t, start),
+                    CURLEW_CAST(uint32_t, length));
+    table->slots_used += CURLEW_SLOT_SIZE;
+    table->area_used += length * size;
+    return 1;
+}
+
+/* Adds a string of len bytes. Returns 1, or 0 where there is no room. */
+static inline int curlew_table_add_text(struct curlew_table *table, const void *text, size_t len)
+{
+    size_t start = table->area_used;
+
+    if (!curlew_table_add(table, CURLEW_STRING, len, 1))
+        return 0;
+    if (len > 0)
+        memmove(table->area + start, text, len);
+    return 1;
+}
+
+/* Adds a list of signed integers, perhaps an empty one. Returns 1, or 0 where there is no room. */
+static inline int curlew_table_add_ints(struct curlew_table *table, const int64_t *values, size_t count)
+{
+    size_t start = table->area_used;
+    size_t i;
+
+    if (!curlew_table_add(table, CURLEW_SIGNED, count, CURLEW_ITEM_SIZE))
+        return 0;
+    for (i = 0; i < count; i++)
+        curlew_put_int(table->area + start + i * CURLEW_ITEM_SIZE, values[i]);
+    return 1;
+}
+
+/* Adds one signed integer. Returns 1, or 0 where there is no room. */
+static inline int curlew_table_add_int(struct curlew_table *table, int64_t value)
+{
+    return curlew_table_add_ints(table, &value, 1);
+}
+
+/* Adds a list of unsigned integers, perhaps an empty one. Returns 1, or 0 where there is no room. */
+static inline int curlew_table_add_uints(struct curlew_table *table, const uint64_t *values, size_t count)
+{
+    size_t start = table->area_used;
+    size_t i;
+
+    if (!curlew_table_add(table, CURLEW_UNSIGNED, count, CURLEW_ITEM_SIZE))
+        return 0;
+    for (i = 0; i < count; i++)
+        curlew_put_uint(table->area + start + i * CURLEW_ITEM_SIZE, values[i]);
+    return 1;
+}
+
+/* Adds one unsigned integer. Returns 1, or 0 where there is no room. */
+static inline int curlew_table_add_uint(struct curlew_table *table, uint64_t value)
+{
+    return curlew_table_add_uints(table, &value, 1);
+}
+
+/* Adds a list of reals, perhaps an empty one. Returns 1, or 0 where there is no room. */
+static inline int curlew_table_add_reals(struct curlew_table *table, const double *values, size_t count)
+{
+    size_t start = table->area_used;
+    size_t i;
+
+    if (!curlew_table_add(table, CURLEW_REAL, count, CURLEW_ITEM_SIZE))
+        return 0;
+    for (i = 0; i < count; i++)
+        curlew_put_double(table->area + start + i * CURLEW_ITEM_SIZE, values[i]);
+    return 1;
+}
+
+/* Adds one real. Returns 1, or 0 where there is no room. */
+static inline int curlew_table_add_real(struct curlew_table *table, double value)
+{
+    return curlew_table_add_reals(table, &value, 1);
+}
+
+/* Adds a slot that is not set. Returns 1, or 0 where there is no room. */
+static inline int curlew_table_add_unset(struct curlew_table *table)
+{
+    return curlew_table_add(table, CURLEW_UNSET, 0, 1);
+}
+
+/*
+ * Slot `index` of a table. Where it is not in use, or has an unknown kind, or its value does not lie inside the area,
+ * it comes back as one that is not set.
+ */
+static inline struct curlew_slot curlew_table_slot(const struct curlew_table *table, size_t index)
+{
+    struct curlew_slot none = {CURLEW_UNSET, 0, 0, CURLEW_NO_POSITION};
+    struct curlew_slot slot;
+
+    if (index >= curlew_table_count(table))
+        return none;
+    slot = curlew_get_slot(table->slots, index);
+    if (slot.kind == CURLEW_UNSET || slot.kind > CURLEW_REAL || slot.start > table->area_room
+        || slot.length > (table->area_room - slot.start) / (slot.kind == CURLEW_STRING ? 1 : CURLEW_ITEM_SIZE))
+        return none;
+    return slot;
+}
+
+/*
+ * After a reading that set the first `set` slots: the table has `count` slots in use, and those behind the first
+ * `set` are not set. The area is in use up to the last value. Returns 1; or 0 and a full table where there is no room
+ * for so many slots, or more were set.
+ */
+static inline int curlew_table_use(struct curlew_table *table, size_t set, size_t count)
+{
+    size_t i;
+
+    if (set > count || count > table->slots_room / CURLEW_SLOT_SIZE)
+        return curlew_table_overflow(table);
+    table->slots_used = count * CURLEW_SLOT_SIZE;
+    for (i = set; i < count; i++)
+        curlew_put_slot(table->slots, i, CURLEW_UNSET, 0, 0);
+    for (i = 0; i < set; i++) {
+        struct curlew_slot slot = curlew_table_slot(table, i);
+        size_t end = slot.start
+            + CURLEW_CAST(size_t, slot.length) * (slot.kind == CURLEW_STRING ? 1 : CURLEW_ITEM_SIZE);
+
+        if (end > table->area_used)
+            table->area_used = end;
+    }
+    return 1;
+}
+
+/* Takes out where the string of slot `index` lies and its length. Returns 1, or 0 where there is no string. */
+static inline int curlew_table_text(const struct curlew_table *table, size_t index, const char **text, size_t *len)
+{
+    struct curlew_slot slot = curlew_table_slot(table, index);
+    const void *at = "";
+
+    if (slot.kind != CURLEW_STRING)
+        return 0;
+    if (slot.length > 0)
+        at = table->area + slot.start;
+    *text = CURLEW_CAST(const char *, at);
+    *len = slot.length;
+    return 1;
+}
+
+/* Where item `item` of a list in slot `index` lies, and its kind; NULL where there is none. */
+static inline const uint8_t *curlew_table_item(const struct curlew_table *table, size_t index, size_t item,
+                                               uint32_t *kind)
+{
+    struct curlew_slot slot = curlew_table_slot(table, index);
+
+    if (slot.kind == CURLEW_UNSET || slot.kind == CURLEW_STRING || item >= slot.length)
+        return NULL;
+    *kind = slot.kind;
+    return table->area + slot.start + item * CURLEW_ITEM_SIZE;
+}
+
+/* Takes an integer of either kind out of a list. Returns 1, or 0 where there is none, or none that an int64_t holds. */
+static inline int curlew_table_int(const struct curlew_table *table, size_t index, size_t item, int64_t *value)
+{
+    uint32_t kind = CURLEW_UNSET;
+    const uint8_t *at = curlew_table_item(table, index, item, &kind);
+
+    if (at == NULL || kind == CURLEW_REAL || (kind == CURLEW_UNSIGNED && at[0] > 127))
+        return 0;
+    *value = curlew_get_int(at);
+    return 1;
+}
+
+/* Takes an integer of either kind out of a list. Returns 1, or 0 where there is none, or a negative one. */
+static inline int curlew_table_uint(const struct curlew_table *table, size_t index, size_t item, uint64_t *value)
+{
+    uint32_t kind = CURLEW_UNSET;
+    const uint8_t *at = curlew_table_item(table, index, item, &kind);
+
+    if (at == NULL || kind == CURLEW_REAL || (kind == CURLEW_SIGNED && at[0] > 127))
+        return 0;
+    *value = curlew_get_uint(at);
+    return 1;
+}
+
+/* Takes a real out of a list. Returns 1, or 0 where there is none. */
+static inline int curlew_table_real(const struct curlew_table *table, size_t index, size_t item, double *value)
+{
+    uint32_t kind = CURLEW_UNSET;
+    const uint8_t *at = curlew_table_item(table, index, item, &kind);
+
+    if (at == NULL || kind != CURLEW_REAL)
+        return 0;
+    *value = curlew_get_double(at);
     return 1;
 }
 
