@@ -2,14 +2,14 @@
 
 Every peer does its timing loops itself and counts processor time. In each round every peer takes every workload once,
 so that what disturbs the machine disturbs all alike; what is compared are the ratios within a round, and of those the
-median is given.
+median is given, and beside a goal the spread: the ratios' first and third quartile.
 """
 import json
 import os
 import shutil
 import subprocess
 import sys
-from statistics import median
+from statistics import median, quantiles
 
 import count
 from workloads import (BYTE_COUNTS, CALLS, DIGIT_COUNTS, FIELD_COUNTS, PAIR_CALLS, SHEET_CALLS, crowd_sum,
@@ -18,11 +18,12 @@ from workloads import (BYTE_COUNTS, CALLS, DIGIT_COUNTS, FIELD_COUNTS, PAIR_CALL
 ROUNDS = int(os.environ.get("BENCH_ROUNDS", "15"))
 SLICE = int(float(os.environ.get("BENCH_MILLISECONDS", "3")) * 1e6)
 CROWD = int(os.environ.get("BENCH_RECORDS", "1000000"))
-CROWD_ROUNDS = 3
+CROWD_ROUNDS = int(os.environ.get("BENCH_CROWD_ROUNDS", "9"))
 NAMES = {"ours": "ours", "plain": "plain C", "twin": "Rust twin", "tcl": "Tcl", "perl": "Perl", "python": "Python"}
 TITLES = {"w1": "w1 small mark record", "w2": "w2 b4096; b*, 4096 bytes", "w3": "w3 s2000", "w4": "w4 a4096",
-          "w5": "w5 64 fields of c", "i1000": "i1000", "I1000": "I1000", "c1000": "c1000", "q500": "500 doubles", "r1000": "1,000 singles", "a32768": "a32768",
-          "b262144": "b32768; b*, 32,768 bytes", "s16000": "s16000", "b4096": "b4096, 512 bytes",
+          "w5": "w5 64 fields of c", "i1000": "i1000", "I1000": "I1000", "c1000": "c1000", "q500": "500 doubles",
+          "r1000": "1,000 singles", "a32768": "a32768", "b262144": "b32768; b*, 32,768 bytes", "s16000": "s16000",
+          "b4096": "b4096, 512 bytes",
           "t8": "table of 8 slots", "t60000": "value of 60,000 bytes", "t500000": "value of 500,000 bytes",
           "same-w1": "w1 twice", "other-a4096": "a4096, one byte differs", "same-a4096": "a4096 twice"}
 LIBRARIES = ("ours", "twin")
@@ -32,6 +33,7 @@ HAND_GOAL = 5.0
 TWIN_GOAL = 1.5
 COPY_GOAL = 2.0
 MEMCMP_GOAL = 4.0
+CROWD_GOAL = 0.9
 
 
 STRIPS = ("w2", "b4096", "b262144")
@@ -187,39 +189,59 @@ def run_crowd(serving):
                 sys.exit(f"{NAMES[peer]} read wrong marks")
             rates[peer, threads][0].append(records / packing * 1e9)
             rates[peer, threads][1].append(records / reading * 1e9)
-    return {case: tuple(map(median, both)) for case, both in rates.items()}
+    return rates
+
+
+def ratios(times, peer, name, call):
+    """The peer's time over ours, one entry a round; empty where the peer is missing."""
+    return [theirs / own for theirs, own in zip(times.get((peer, name, call), []), times["ours", name, call])]
 
 
 def ratio(times, peer, name, call):
     """Median over the rounds of the peer's time over ours; None where the peer is missing."""
-    if (peer, name, call) not in times:
-        return None
-    return median(theirs / own for theirs, own in zip(times[peer, name, call], times["ours", name, call]))
+    found = ratios(times, peer, name, call)
+    return median(found) if found else None
 
 
-def text(value, form="{:.2f}x"):
-    return "-" if value is None else form.format(value)
+def three(value):
+    """Three digits of a number."""
+    return f"{value:#.3g}".rstrip(".")
 
 
-def goal_text(value, goal):
-    """A goal for a peer's time over ours, and whether it is met."""
-    return "-" if value is None else f">={goal:.2f} {'met' if value >= goal else 'MISSED'}"
+def text(value):
+    return "-" if value is None else three(value) + "x"
+
+
+def spread(values):
+    """The first and the third quartile."""
+    if len(values) < 2:
+        return ""
+    low, _, high = quantiles(values, n=4, method="inclusive")
+    return f" ({three(low)} to {three(high)})"
+
+
+def goal_text(values, goal):
+    """A goal for a peer's time over ours, whether the median meets it, and the spread."""
+    if not values:
+        return "-"
+    return f">={goal:.2f} {'met' if median(values) >= goal else 'MISSED'}{spread(values)}"
 
 
 def print_main(times):
-    print("\nOne call. Each peer's time over ours: above 1, ours is quicker. Medians of the ratios of", ROUNDS, "rounds.")
-    print(f"{'workload':26} {'call':5} {'ours ns':>9} {'Tcl':>9} {'goal':>13} {'plain C':>8} {'goal':>13} {'Rust twin':>10}"
-          f" {'Perl':>9} {'Python':>9}")
+    print(f"\nOne call. Each peer's time over ours: above 1, ours is quicker. Medians of the ratios of {ROUNDS}")
+    print("rounds; beside a goal, in brackets, the ratios' first and third quartile.")
+    print(f"{'workload':26} {'call':5} {'ours ns':>9} {'Tcl':>7} {'goal':>30} {'plain C':>8} {'goal':>30}"
+          f" {'Rust twin':>10} {'Perl':>7} {'Python':>7}")
     for name, call in main_rows():
         tcl, plain, twin, perl, python = (ratio(times, peer, name, call)
                                           for peer in ("tcl", "plain", "twin", "perl", "python"))
         print(f"{TITLES[name]:26} {call:5} {median(times['ours', name, call]):9.0f}"
-              f" {text(tcl):>9} {goal_text(tcl, tcl_goal(name, call)):>13}"
-              f" {text(plain):>8} {goal_text(plain, 1 / plain_goal(name)):>13}"
-              f" {text(twin):>10} {text(perl):>9} {text(python):>9}")
+              f" {text(tcl):>7} {goal_text(ratios(times, 'tcl', name, call), tcl_goal(name, call)):>30}"
+              f" {text(plain):>8} {goal_text(ratios(times, 'plain', name, call), 1 / plain_goal(name)):>30}"
+              f" {text(twin):>10} {text(perl):>7} {text(python):>7}")
     for call in CALLS:
-        hand = ratio(times, "hand", "w1", call)
-        print(f"w1 written out by hand beside {call}: {text(hand)} of our time, goal {goal_text(hand, 1 / HAND_GOAL)}")
+        print(f"w1 written out by hand beside {call}: {text(ratio(times, 'hand', 'w1', call))} of our time, goal"
+              f" {goal_text(ratios(times, 'hand', 'w1', call), 1 / HAND_GOAL)}")
     for call in CALLS:
         print(f"memcpy of the 4,096 bytes of w4 beside {call}: {text(ratio(times, 'memcpy', 'w4', call))} of our time")
     print("Goals: Tcl's time at least 2 times ours, in reading and for strips of digits 8 times, but for one long string;")
@@ -244,13 +266,14 @@ def print_counts(counts):
 def print_beside(times, peer, name, call, goal=None):
     """A call's time, the twin's and another peer's over ours."""
     twin, other = (ratio(times, beside, name, call) for beside in ("twin", peer))
+    beside = goal_text(ratios(times, peer, name, call), goal) if goal else "-"
     print(f"{TITLES[name]:28} {call:11} {median(times['ours', name, call]):9.0f} {text(twin):>10}"
-          f" {goal_text(twin, 1 / TWIN_GOAL):>14} {text(other):>10} {goal_text(other, goal) if goal else '-':>14}")
+          f" {goal_text(ratios(times, 'twin', name, call), 1 / TWIN_GOAL):>30} {text(other):>10} {beside:>30}")
 
 
 def print_sheets(times):
     print("\nSheets, beside the twin and beside memcpy of the sheet's bytes. Each one's time over ours.")
-    print(f"{'table':28} {'call':11} {'ours ns':>9} {'Rust twin':>10} {'goal':>14} {'memcpy':>10} {'goal':>14}")
+    print(f"{'table':28} {'call':11} {'ours ns':>9} {'Rust twin':>10} {'goal':>30} {'memcpy':>10} {'goal':>30}")
     for table in tables():
         for call in SHEET_CALLS:
             print_beside(times, "memcpy", table.name, call, 1 / COPY_GOAL if table.name != "t8" else None)
@@ -260,7 +283,7 @@ def print_sheets(times):
 
 def print_pairs(times):
     print("\nTwo copies of a record compared, beside the twin and beside two of our readings and memcmp. Time over ours.")
-    print(f"{'copies':28} {'call':11} {'ours ns':>9} {'Rust twin':>10} {'goal':>14} {'memcmp':>10} {'goal':>14}")
+    print(f"{'copies':28} {'call':11} {'ours ns':>9} {'Rust twin':>10} {'goal':>30} {'memcmp':>10} {'goal':>30}")
     for pair in pairs():
         for call in PAIR_CALLS:
             print_beside(times, "memcmp", pair.name, call, 1 / MEMCMP_GOAL)
@@ -281,9 +304,15 @@ def print_growth(times, peers, letter, sizes, what, bound=None):
 def print_crowd(rates):
     print(f"\n{CROWD:,} candidates' records of 46 bytes (layout of w1), values put in and marks taken out, records a second")
     print("(Tcl, Perl and Python on fewer records; Tcl with an interpreter for each thread)")
-    print(f"{'':12} {'threads':>7} {'packed':>14} {'read':>14}")
-    for (peer, threads), (packing, reading) in rates.items():
-        print(f"{NAMES[peer]:12} {threads:7} {packing:14,.0f} {reading:14,.0f}")
+    print(f"medians of {CROWD_ROUNDS} rounds, in brackets the first and third quartile in millions")
+    print(f"{'':12} {'threads':>7} {'packed':>32} {'read':>32}")
+    for (peer, threads), both in rates.items():
+        packing, reading = (f"{median(rate):,.0f}{spread([one / 1e6 for one in rate])}" for rate in both)
+        print(f"{NAMES[peer]:12} {threads:7} {packing:>32} {reading:>32}")
+    for call, which in zip(CALLS, range(2)):
+        beside = [own / theirs for own, theirs in zip(rates["ours", 1][which], rates["plain", 1][which])]
+        print(f"{call}, one thread, our records over plain C's: {text(median(beside))},"
+              f" goal {goal_text(beside, CROWD_GOAL)}")
 
 
 def run_counts(program):
@@ -304,7 +333,7 @@ def results(times, rates, peers):
                             for peer in peers for call in CALLS}
                    for letter, sizes in (("f", FIELD_COUNTS), ("s", BYTE_COUNTS), ("b", DIGIT_COUNTS))},
         "bound": [[count, step_bound(count)] for count in DIGIT_COUNTS],
-        "crowd": [[peer, threads, crowd_records(peer), *both] for (peer, threads), both in rates.items()],
+        "crowd": [[peer, threads, crowd_records(peer), *map(median, both)] for (peer, threads), both in rates.items()],
     }
 
 
