@@ -1,4 +1,4 @@
-# make                 proves the library and writes target/staticlib/libcurlew.a, the manual page target/curlew.3 and the command target/curlew
+# make                 proves the library and writes target/staticlib/libcurlew.a, the manual pages target/man3 and the command target/curlew
 # make demo            the same, and runs the exam-server example and the command
 # make test            proves everything from nothing and runs all tests; the last line is 'N passed, 0 failed'
 # make shared          writes target/shared/libcurlew.so, for Python and others that load a library
@@ -31,14 +31,14 @@ ARCHIVE := target/staticlib/libcurlew.a
 SONAME := libcurlew.so.$(firstword $(subst ., ,$(VERSION)))
 OBJECT := libcurlew.so.$(VERSION)
 SHARED := target/shared/$(OBJECT)
-PAGE := target/curlew.3
+PAGES := target/man3/curlew.3 $(CALLS:%=target/man3/%.3)
 COMPARE := target/compare
 CRATES := $(shell find crates crates.txt -type f)
 TWIN := $(wildcard tests/second/*.rs) tests/second/build.sh
 
 .PHONY: all demo test check shared install install-shared uninstall bench bench-publish clean
 
-all: $(ARCHIVE) $(PAGE)
+all: $(ARCHIVE) $(PAGES)
 
 $(ARCHIVE): $(CRATES)
 	@command -v rt >/dev/null || { echo "rt not found: install the Rattle kit, or put its bin folder on PATH"; exit 2; }
@@ -46,9 +46,10 @@ $(ARCHIVE): $(CRATES)
 	@tools/progress target/staticlib.out rt check curlew
 	@rt staticlib curlew >> target/staticlib.out 2>&1 || { tail -n 40 target/staticlib.out; exit 1; }
 
-$(PAGE): include/curlew.h docs/CHANGES.md tools/man.awk
-	@mkdir -p target
-	@awk -f tools/man.awk -v version="$(VERSION)" -v date="$(DAY)" include/curlew.h > $@.new && mv $@.new $@
+target/man3/%.3: include/curlew.h docs/CHANGES.md tools/man.awk
+	@mkdir -p target/man3
+	@awk -f tools/man.awk -v version="$(VERSION)" -v date="$(DAY)" -v call="$(filter-out curlew,$*)" include/curlew.h \
+		> $@.new && mv $@.new $@
 
 target/demo/exam_server: examples/exam_server.c include/curlew.h $(ARCHIVE)
 	@command -v $(CC) >/dev/null || { echo "$(CC) not found: install gcc (Debian's package gcc), or say CC=.."; exit 2; }
@@ -96,8 +97,7 @@ install: all
 		-e 's|@includedir@|$(patsubst $(prefix)/%,$${prefix}/%,$(includedir))|' \
 		-e 's|@libdir@|$(patsubst $(prefix)/%,$${prefix}/%,$(libdir))|' \
 		curlew.pc.in > "$(DESTDIR)$(pkgconfigdir)/curlew.pc"
-	$(INSTALL_DATA) $(PAGE) "$(DESTDIR)$(man3dir)/curlew.3"
-	@for call in $(CALLS); do echo '.so man3/curlew.3' > "$(DESTDIR)$(man3dir)/$$call.3" || exit 1; done
+	$(INSTALL_DATA) $(PAGES) "$(DESTDIR)$(man3dir)"
 
 install-shared: $(SHARED)
 	$(INSTALL) -d "$(DESTDIR)$(libdir)"

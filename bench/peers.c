@@ -84,43 +84,76 @@ static void set_layout(struct layout *layout, const char *text)
     layout->length = strlen(layout->text);
 }
 
+/* The values that a workload has so far, as a table to add to. */
+static struct curlew_table table_of(struct work *w)
+{
+    struct curlew_table table;
+
+    table.slots = w->slots;
+    table.slots_room = sizeof w->slots;
+    table.slots_used = w->count * CURLEW_SLOT_SIZE;
+    table.area = w->area;
+    table.area_room = sizeof w->area;
+    table.area_used = w->used;
+    table.full = 0;
+    return table;
+}
+
+static void take_table(struct work *w, const struct curlew_table *table)
+{
+    if (table->full)
+        stop("no room for the values of a workload");
+    w->count = curlew_table_count(table);
+    w->used = table->area_used;
+}
+
 static void add_text(struct work *w, const char *text)
 {
-    size_t length = strlen(text);
+    struct curlew_table table = table_of(w);
 
-    memcpy(w->area + w->used, text, length);
-    curlew_put_slot(w->slots, w->count++, CURLEW_STRING, (uint32_t)w->used, (uint32_t)length);
-    w->used += length;
+    curlew_table_add_text(&table, text, strlen(text));
+    take_table(w, &table);
 }
+
+/* The most numbers that an area holds. */
+#define NUMBERS (CURLEW_MAX_AREA / CURLEW_ITEM_SIZE)
 
 static void add_list(struct work *w, char *numbers)
 {
-    size_t start = w->used;
+    static int64_t list[NUMBERS];
+    struct curlew_table table = table_of(w);
+    size_t count = 0;
     char *number;
 
-    for (number = strtok(numbers, " "); number != NULL; number = strtok(NULL, " ")) {
-        curlew_put_int(w->area + w->used, strtoll(number, NULL, 10));
-        w->used += CURLEW_ITEM_SIZE;
-    }
-    curlew_put_slot(w->slots, w->count++, CURLEW_SIGNED, (uint32_t)start,
-                    (uint32_t)((w->used - start) / CURLEW_ITEM_SIZE));
+    for (number = strtok(numbers, " "); number != NULL && count < NUMBERS; number = strtok(NULL, " "))
+        list[count++] = strtoll(number, NULL, 10);
+    if (number != NULL)
+        stop("no room for the numbers of a workload");
+    curlew_table_add_ints(&table, list, count);
+    take_table(w, &table);
 }
 
 static void add_reals(struct work *w, char *numbers)
 {
-    size_t start = w->used;
+    static double list[NUMBERS];
+    struct curlew_table table = table_of(w);
+    size_t count = 0;
     char *number;
 
-    for (number = strtok(numbers, " "); number != NULL; number = strtok(NULL, " ")) {
-        curlew_put_double(w->area + w->used, strtod(number, NULL));
-        w->used += CURLEW_ITEM_SIZE;
-    }
-    curlew_put_slot(w->slots, w->count++, CURLEW_REAL, (uint32_t)start, (uint32_t)((w->used - start) / CURLEW_ITEM_SIZE));
+    for (number = strtok(numbers, " "); number != NULL && count < NUMBERS; number = strtok(NULL, " "))
+        list[count++] = strtod(number, NULL);
+    if (number != NULL)
+        stop("no room for the numbers of a workload");
+    curlew_table_add_reals(&table, list, count);
+    take_table(w, &table);
 }
 
 static void add_unset(struct work *w)
 {
-    curlew_put_slot(w->slots, w->count++, CURLEW_UNSET, 0, 0);
+    struct curlew_table table = table_of(w);
+
+    curlew_table_add_unset(&table);
+    take_table(w, &table);
 }
 
 static unsigned hex_digit(char digit)

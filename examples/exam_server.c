@@ -22,14 +22,15 @@
 static const char old_layout[] = "a6 A12 Su Su";
 static const char new_layout[] = "a6 A12 Su Su Su b10";
 static const char speed_layout[] = "a6 R Q";
+static const char points_layout[] = "a6 c*";
 static const char *const heads[FIELDS] = {"number", "name", "written", "oral", "steno", "strip"};
 
-/* The values of one record, in the form in which the library takes and gives them. */
+/* The values of one record, in the form in which the library takes and gives them, with their room. */
 struct table {
     uint8_t slots[FIELDS * CURLEW_SLOT_SIZE];
-    size_t count;
     uint8_t area[AREA];
-    size_t used;
+    struct curlew_table values;
+    size_t set;   /* slots that the reading set */
     size_t steps; /* fields that the reading carried out */
 };
 
@@ -57,35 +58,30 @@ struct candidate {
 
 static void clear(struct table *table)
 {
-    memset(table, 0, sizeof *table);
+    table->values = curlew_table_over(table->slots, sizeof table->slots, table->area, sizeof table->area);
+    table->set = 0;
+    table->steps = 0;
 }
 
+/* What does not fit makes the table full, and every call refuses it then. */
 static void add_text(struct table *table, const char *text)
 {
-    size_t length = strlen(text);
-
-    memcpy(table->area + table->used, text, length);
-    curlew_put_slot(table->slots, table->count++, CURLEW_STRING, (uint32_t)table->used, (uint32_t)length);
-    table->used += length;
+    curlew_table_add_text(&table->values, text, strlen(text));
 }
 
 static void add_mark(struct table *table, unsigned mark)
 {
-    curlew_put_uint(table->area + table->used, mark);
-    curlew_put_slot(table->slots, table->count++, CURLEW_UNSIGNED, (uint32_t)table->used, 1);
-    table->used += CURLEW_ITEM_SIZE;
+    curlew_table_add_uint(&table->values, mark);
 }
 
 static void add_real(struct table *table, double value)
 {
-    curlew_put_double(table->area + table->used, value);
-    curlew_put_slot(table->slots, table->count++, CURLEW_REAL, (uint32_t)table->used, 1);
-    table->used += CURLEW_ITEM_SIZE;
+    curlew_table_add_real(&table->values, value);
 }
 
 static void add_nothing(struct table *table)
 {
-    curlew_put_slot(table->slots, table->count++, CURLEW_UNSET, 0, 0);
+    curlew_table_add_unset(&table->values);
 }
 
 static void fill_old(struct table *table, const struct candidate *who)
@@ -158,14 +154,14 @@ static void drop(struct record *record)
     record->bytes = NULL;
 }
 
-/* Packs the table into a record of its own. Returns 1, or 0 after saying why not. */
-static int pack(const char *layout, const struct table *table, struct record *record)
+/* Packs the values into a record of its own. Returns 1, or 0 after saying why not. */
+static int pack(const char *layout, const struct curlew_table *values, struct record *record)
 {
     uint8_t reply[CURLEW_PACK_REPLY];
 
     if (!make_room(layout, record))
         return 0;
-    if (curlew_pack(layout, strlen(layout), table->slots, table->count * CURLEW_SLOT_SIZE, table->area, table->used,
+    if (curlew_pack(layout, strlen(layout), values->slots, values->slots_used, values->area, values->area_used,
                     record->bytes, record->length, reply, sizeof reply) != CURLEW_OK) {
         print_refusal(curlew_get_answer(reply));
         drop(record);
@@ -175,7 +171,7 @@ static int pack(const char *layout, const struct table *table, struct record *re
     return 1;
 }
 
-/* Reads the record into a cleared table: what the record does not hold stays unset. */
+/* Reads the record into a table of all fields: what the record does not hold is not set. */
 static int read_record(const char *layout, const struct record *record, struct table *table)
 {
     uint8_t reply[CURLEW_READ_REPLY];
@@ -183,16 +179,15 @@ static int read_record(const char *layout, const struct record *record, struct t
 
     clear(table);
     number = curlew_read(layout, strlen(layout), record->bytes, record->length,
-                         table->slots, sizeof table->slots, table->area, sizeof table->area, 0,
+                         table->values.slots, table->values.slots_room, table->values.area, table->values.area_room, 0,
                          reply, sizeof reply);
     if (number != CURLEW_OK) {
         print_refusal(curlew_get_answer(reply));
         return 0;
     }
-    table->count = curlew_get_answer(reply).first;
-    table->used = curlew_get_answer(reply).second;
+    table->set = curlew_get_answer(reply).first;
     table->steps = curlew_get_steps(reply);
-    return 1;
+    return curlew_table_use(&table->values, table->set, FIELDS);
 }
 
 /* ---- tables kept as sheets ---- */
@@ -201,7 +196,8 @@ static int read_record(const char *layout, const struct record *record, struct t
 static int keep(const struct table *table, struct sheet *sheet)
 {
     uint8_t reply[CURLEW_SHEET_REPLY];
-    uint32_t number = curlew_sheet_write(table->slots, table->count * CURLEW_SLOT_SIZE, table->area, table->used,
+    uint32_t number = curlew_sheet_write(table->values.slots, table->values.slots_used,
+                                         table->values.area, table->values.area_used,
                                          sheet->bytes, sizeof sheet->bytes, reply, sizeof reply);
     struct curlew_answer answer = curlew_get_answer(reply);
 
@@ -219,50 +215,70 @@ static int fetch(const struct sheet *sheet, struct table *table)
     uint32_t number;
 
     clear(table);
-    number = curlew_sheet_read(sheet->bytes, sheet->length, table->slots, sizeof table->slots,
-                               table->area, sizeof table->area, 0, reply, sizeof reply);
+    number = curlew_sheet_read(sheet->bytes, sheet->length, table->values.slots, table->values.slots_room,
+                               table->values.area, table->values.area_room, 0, reply, sizeof reply);
     if (number != CURLEW_OK) {
         print_refusal(curlew_get_answer(reply));
         return 0;
     }
-    table->count = curlew_get_answer(reply).first;
-    table->used = curlew_get_answer(reply).second;
-    return 1;
+    table->set = curlew_get_answer(reply).first;
+    return curlew_table_use(&table->values, table->set, table->set);
 }
 
 /* ---- getting values out ---- */
 
-#define CELL 16
+#define WIDTH 14
 
-/* The value of a slot as text. A slot that is not set has no number to show. */
-static void show(const struct table *table, size_t field, char *cell)
+/* Prints one item of a list. Returns how many characters it took. */
+static int print_item(const struct curlew_table *values, size_t field, size_t item)
 {
-    struct curlew_slot slot = curlew_get_slot(table->slots, field);
+    int64_t integer;
+    uint64_t large;
+    double real;
 
-    if (slot.kind == CURLEW_UNSET)
-        snprintf(cell, CELL, "not marked");
-    else if (slot.kind == CURLEW_STRING)
-        snprintf(cell, CELL, "%.*s", (int)slot.length, (const char *)table->area + slot.start);
-    else if (slot.kind == CURLEW_REAL)
-        snprintf(cell, CELL, "%.9g", curlew_get_double(table->area + slot.start));
-    else
-        snprintf(cell, CELL, "%" PRIu64, curlew_get_uint(table->area + slot.start));
+    if (curlew_table_int(values, field, item, &integer))
+        return printf("%" PRId64, integer);
+    if (curlew_table_uint(values, field, item, &large))
+        return printf("%" PRIu64, large);
+    if (curlew_table_real(values, field, item, &real))
+        return printf("%.9g", real);
+    return 0;
 }
 
-static void print_cell(const char *cell, int last)
+/* Prints the value of a slot. One that is not set has no number to show, and an empty list is none. */
+static int print_value(const struct curlew_table *values, size_t field)
 {
-    printf(last ? "%s\n" : "%-14s", cell);
+    struct curlew_slot slot = curlew_table_slot(values, field);
+    const char *text;
+    size_t length, item;
+    int width = 0;
+
+    if (slot.kind == CURLEW_UNSET)
+        return printf("not marked");
+    if (curlew_table_text(values, field, &text, &length))
+        return printf("%.*s", (int)length, text);
+    if (slot.length == 0)
+        return printf("none");
+    for (item = 0; item < slot.length; item++)
+        width += printf("%s", item > 0 ? " " : "") + print_item(values, field, item);
+    return width;
+}
+
+/* Goes on to the next column, or to the next line. */
+static void end_cell(int width, int last)
+{
+    if (last)
+        printf("\n");
+    else
+        printf("%*s", width < WIDTH ? WIDTH - width : 1, "");
 }
 
 static void print_row(const struct table *table, size_t fields)
 {
-    char cell[CELL];
     size_t field;
 
-    for (field = 0; field < fields; field++) {
-        show(table, field, cell);
-        print_cell(cell, field + 1 == fields);
-    }
+    for (field = 0; field < fields; field++)
+        end_cell(print_value(&table->values, field), field + 1 == fields);
 }
 
 static void print_heads(size_t fields)
@@ -270,7 +286,7 @@ static void print_heads(size_t fields)
     size_t field;
 
     for (field = 0; field < fields; field++)
-        print_cell(heads[field], field + 1 == fields);
+        end_cell(printf("%s", heads[field]), field + 1 == fields);
 }
 
 static void print_table(const char *layout, size_t fields, const struct record *records, size_t count)
@@ -290,16 +306,14 @@ static void print_table(const char *layout, size_t fields, const struct record *
 static void print_steps(const char *layout, const struct record *records, size_t count)
 {
     struct table table;
-    char number[CELL];
     size_t i;
 
     printf("\nfields carried out in reading by %s\n", layout);
     for (i = 0; i < count; i++) {
         if (!read_record(layout, &records[i], &table))
             continue;
-        show(&table, 0, number);
-        print_cell(number, 0);
-        printf("%u, %u of them set\n", (unsigned)table.steps, (unsigned)table.count);
+        end_cell(print_value(&table.values, 0), 0);
+        printf("%u, %u of them set\n", (unsigned)table.steps, (unsigned)table.set);
     }
 }
 
@@ -333,7 +347,7 @@ static int pack_all(struct record *records)
             fill_new(&table, &candidates[i]);
         else
             fill_old(&table, &candidates[i]);
-        if (!pack(layout, &table, &records[i]))
+        if (!pack(layout, &table.values, &records[i]))
             return 0;
         printf("%s packed by %-19s  %2u bytes\n", candidates[i].number, layout, (unsigned)records[i].length);
     }
@@ -399,8 +413,9 @@ static void show_rescue(void)
     printf("read as it is:\n");
     fetch(&sheet, &table);
     clear(&table);
-    if (curlew_sheet_rescue(sheet.bytes, sheet.length, FIELDS, table.slots, sizeof table.slots,
-                            table.area, sizeof table.area, 0, reply, sizeof reply) != CURLEW_OK) {
+    if (curlew_sheet_rescue(sheet.bytes, sheet.length, FIELDS, table.values.slots, table.values.slots_room,
+                            table.values.area, table.values.area_room, 0, reply, sizeof reply) != CURLEW_OK
+        || !curlew_table_use(&table.values, FIELDS, FIELDS)) {
         print_refusal(curlew_get_answer(reply));
         return;
     }
@@ -416,8 +431,8 @@ static void print_mean(const struct table *table)
     uint8_t reply[CURLEW_MEAN_REPLY];
     double mean;
 
-    if (curlew_mean(table->slots + 2 * CURLEW_SLOT_SIZE, 3 * CURLEW_SLOT_SIZE, table->area, table->used,
-                    reply, sizeof reply) != CURLEW_OK)
+    if (curlew_mean(table->values.slots + 2 * CURLEW_SLOT_SIZE, 3 * CURLEW_SLOT_SIZE,
+                    table->values.area, table->values.area_used, reply, sizeof reply) != CURLEW_OK)
         print_refusal(curlew_get_answer(reply));
     else if (curlew_get_mean(reply, &mean))
         printf("mean %.2f, legs not marked: %" PRIu32 "\n", mean, curlew_get_answer(reply).first);
@@ -445,8 +460,8 @@ static void show_means(void)
     print_mean(&table);
 }
 
-/* What differs between two copies of a record. Where they differ, the slot has the byte of the record at which the mark
- * stands. */
+/* What differs between two copies of a record. Where they differ, the slot has the byte of the record at which the
+ * mark stands. */
 static void print_differences(const struct record *first, const struct record *second)
 {
     static const char *const verdicts[] = {"same", "first copy only", "second copy only", "in neither", "different"};
@@ -482,9 +497,9 @@ static void show_differences(void)
     printf("\nwhat differs between two markers' copies of %s\n", other.number);
     other.oral = 52;
     fill_new(&table, &candidates[0]);
-    if (pack(new_layout, &table, &first)) {
+    if (pack(new_layout, &table.values, &first)) {
         fill_new(&table, &other);
-        if (pack(new_layout, &table, &second)) {
+        if (pack(new_layout, &table.values, &second)) {
             second.length = 24;
             print_differences(&first, &second);
         }
@@ -520,52 +535,54 @@ static int joined(const struct record *whole, const struct record *first, const 
 static void show_glued(void)
 {
     static const char cover[] = "a6 A12", legs[] = "Su Su Su b10", both[] = "a6 A12" "Su Su Su b10";
-    struct table table, part;
+    struct table table;
+    struct curlew_table front, back;
     struct record first = {NULL, 0}, second = {NULL, 0}, glued = {NULL, 0};
 
     fill_new(&table, &candidates[0]);
-    part = table;
-    part.count = table.count - 2;
-    memcpy(part.slots, table.slots + 2 * CURLEW_SLOT_SIZE, part.count * CURLEW_SLOT_SIZE);
-    if (pack(both, &table, &glued) && pack(legs, &part, &second)) {
-        table.count = 2;
-        if (pack(cover, &table, &first)) {
-            printf("\na cover %s, %u bytes, and legs %s, %u bytes\n",
-                   cover, (unsigned)first.length, legs, (unsigned)second.length);
-            printf("glued together, %s: %u bytes, %s\n", both, (unsigned)glued.length,
-                   joined(&glued, &first, &second) ? "those of the cover and those of the legs" : "and they differ");
-        }
+    front = back = table.values;
+    front.slots_used = 2 * CURLEW_SLOT_SIZE;
+    back.slots += front.slots_used;
+    back.slots_used -= front.slots_used;
+    if (pack(both, &table.values, &glued) && pack(cover, &front, &first) && pack(legs, &back, &second)) {
+        printf("\na cover %s, %u bytes, and legs %s, %u bytes\n",
+               cover, (unsigned)first.length, legs, (unsigned)second.length);
+        printf("glued together, %s: %u bytes, %s\n", both, (unsigned)glued.length,
+               joined(&glued, &first, &second) ? "those of the cover and those of the legs" : "and they differ");
     }
     drop(&first);
     drop(&second);
     drop(&glued);
 }
 
-/* Transcripts are long: records of up to CURLEW_MAX_RECORD bytes, and sheets of version 2 where version 1 cannot hold them. */
+/* Transcripts are long: records of up to CURLEW_MAX_RECORD bytes, and sheets of version 2 where version 1 cannot hold
+ * them. */
 #define TRANSCRIPT 30000
 
 static void show_transcripts(void)
 {
-    static uint8_t area[3 * TRANSCRIPT], record[CURLEW_MAX_RECORD], sheet[4 * TRANSCRIPT];
+    static uint8_t transcript[TRANSCRIPT], area[3 * TRANSCRIPT], record[CURLEW_MAX_RECORD], sheet[4 * TRANSCRIPT];
     uint8_t slots[3 * CURLEW_SLOT_SIZE], packed[CURLEW_PACK_REPLY], kept[CURLEW_SHEET_REPLY];
-    size_t i;
+    struct curlew_table table = curlew_table_over(slots, sizeof slots, area, sizeof area);
+    unsigned i;
 
-    memset(area, 'v', sizeof area);
-    for (i = 0; i < 3; i++)
-        curlew_put_slot(slots, i, CURLEW_STRING, (uint32_t)(i * TRANSCRIPT), TRANSCRIPT);
+    memset(transcript, 'v', sizeof transcript);
+    curlew_table_add_text(&table, transcript, sizeof transcript);
     printf("\ntranscripts of %d characters\n", TRANSCRIPT);
-    if (curlew_pack("a*", 2, slots, CURLEW_SLOT_SIZE, area, sizeof area, record, sizeof record,
+    if (curlew_pack("a*", 2, table.slots, table.slots_used, table.area, table.area_used, record, sizeof record,
                     packed, sizeof packed) != CURLEW_OK)
         print_refusal(curlew_get_answer(packed));
     else
         printf("packed by a*: a record of %" PRIu32 " bytes\n", curlew_get_answer(packed).first);
     for (i = 1; i <= 3; i++) {
-        if (curlew_sheet_write(slots, i * CURLEW_SLOT_SIZE, area, sizeof area, sheet, sizeof sheet,
+        if (i > 1)
+            curlew_table_add_text(&table, transcript, sizeof transcript);
+        if (curlew_sheet_write(table.slots, table.slots_used, table.area, table.area_used, sheet, sizeof sheet,
                                kept, sizeof kept) != CURLEW_OK)
             print_refusal(curlew_get_answer(kept));
         else
             printf("%u in a sheet: version %u, %" PRIu32 " bytes\n",
-                   (unsigned)i, (unsigned)sheet[0], curlew_get_answer(kept).first);
+                   i, (unsigned)sheet[0], curlew_get_answer(kept).first);
     }
 }
 
@@ -577,7 +594,7 @@ static int pack_speed(const char *number, double speed, struct record *record)
     add_text(&table, number);
     add_real(&table, speed);
     add_real(&table, speed);
-    return pack(speed_layout, &table, record);
+    return pack(speed_layout, &table.values, record);
 }
 
 /* Steno speeds are reals. R keeps the nearest single in four bytes, Q the double as it is in eight. */
@@ -602,6 +619,32 @@ static void show_speeds(void)
     pack_speed("C00421", NAN, &record);
 }
 
+/* Points that were taken off are below zero. A candidate may have none, which is not the same as not marked. */
+static void show_points(void)
+{
+    static const int64_t points[] = {-2, -1};
+    uint8_t bytes[6 + 2], reply[CURLEW_PACK_REPLY];
+    struct record record = {bytes, 0};
+    struct table table;
+    size_t count;
+
+    printf("\npoints taken off, packed by %s\n", points_layout);
+    for (count = 0; count <= 2; count++) {
+        clear(&table);
+        add_text(&table, candidates[count].number);
+        curlew_table_add_ints(&table.values, points, count);
+        if (curlew_pack(points_layout, strlen(points_layout), table.values.slots, table.values.slots_used,
+                        table.values.area, table.values.area_used, bytes, sizeof bytes, reply, sizeof reply)
+            != CURLEW_OK) {
+            print_refusal(curlew_get_answer(reply));
+            continue;
+        }
+        record.length = curlew_get_answer(reply).first;
+        if (read_record(points_layout, &record, &table))
+            print_row(&table, 2);
+    }
+}
+
 static void show_refusals(void)
 {
     static const char *const wrong_layouts[] = {"a6 A12 Su Su Yu b10", "a6 A12 Su3 b100000"};
@@ -613,12 +656,12 @@ static void show_refusals(void)
     fill_old(&table, &candidates[1]);
     add_nothing(&table);
     add_text(&table, "0000000000");
-    pack(new_layout, &table, &record);
+    pack(new_layout, &table.values, &record);
 
     printf("\nlayouts with a slip in them\n");
     fill_new(&table, &candidates[0]);
     for (i = 0; i < sizeof wrong_layouts / sizeof wrong_layouts[0]; i++)
-        pack(wrong_layouts[i], &table, &record);
+        pack(wrong_layouts[i], &table.values, &record);
 }
 
 int main(void)
@@ -642,6 +685,7 @@ int main(void)
     show_glued();
     show_transcripts();
     show_speeds();
+    show_points();
     show_refusals();
     for (i = 0; i < CANDIDATES; i++)
         drop(&records[i]);

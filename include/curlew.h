@@ -1,16 +1,26 @@
 /*
  * curlew.h - packed mark records
  *
- * curlew_pack turns values into the bytes of a record, curlew_read turns the bytes of a record back into
- * values. A short text, the layout, says what the record holds and in which order. The layout language is that
- * of Tcl's `binary format` and `binary scan`, within the types listed below.
+ * A record is a row of values packed into bytes: a candidate's number, name and marks. A short text, the layout, says
+ * what the record holds and in which order. The layout language is that of Tcl's `binary format` and `binary scan`,
+ * within the types listed below. A sheet keeps a whole table of values in a file, with those that are not set.
  *
- * curlew_sheet_write and curlew_sheet_read keep a whole table of values in a file, as a sheet, with the values
- * that are not set; curlew_sheet_rescue keeps what is whole of a damaged one. curlew_compare reads two copies of
- * one record and says what differs. curlew_mean gives the mean of a candidate's marks. curlew_from_perl turns a
- * pack template of Perl into a layout. curlew_layout says how many slots a layout takes and how long its records are,
- * curlew_fields what each of its fields is and where it begins, curlew_promises whether it may grow, loses nothing and
- * may be joined, curlew_extends whether it is another layout with fields added.
+ *   curlew_pack           turns values into the bytes of a record
+ *   curlew_read           turns the bytes of a record back into values
+ *   curlew_compare        reads two copies of one record and says what differs
+ *   curlew_sheet_write    writes a table of values as a sheet
+ *   curlew_sheet_read     reads a sheet back into a table
+ *   curlew_sheet_rescue   keeps what is whole of a damaged sheet
+ *   curlew_mean           gives the mean of a candidate's marks
+ *   curlew_layout         says how many slots a layout takes and how long its records are
+ *   curlew_fields         says what each field of a layout is and where it begins
+ *   curlew_promises       says whether a layout may grow, loses nothing and may be joined
+ *   curlew_extends        says whether a layout is another one with fields added
+ *   curlew_from_perl      turns a pack template of Perl into a layout
+ *   curlew_version        gives the version of the library
+ *
+ * What a call does, which runs it reads and writes, what it replies and what it refuses stands at its declaration,
+ * below. In front of them is what all of them share.
  *
  * Link with libcurlew.a or libcurlew.so. The header serves C99 and C++, the library x86-64. Of other libraries it
  * needs memcpy, memmove and memset alone, which every C library has. It allocates nothing, keeps no state and does no
@@ -18,6 +28,8 @@
  * is said here; the helpers at the end of this header are plain C.
  *
  * No text ends in a zero byte here: a layout, a template, a string and a record have just the length that is given.
+ *
+ * A mark is what a candidate got. The place in the area from which a reading puts its values is called its start mark.
  *
  *
  * SIX MISTAKES THAT ARE EASILY MADE
@@ -49,8 +61,8 @@
  *   out, room < CURLEW_MAX_RECORD ? room : CURLEW_MAX_RECORD,        and not out, room
  *
  * An integer that its field has no room for is not refused: packing stores its low-order bits, so a mark of 256 packed
- * by `cu` is read as 0, and one of 200 packed by `c` as -56. Choose a field that holds the largest mark, or look at the
- * value before you pack it.
+ * by `cu` is read as 0, and one of 200 packed by `c` as -56. Choose a field that holds the largest mark, or look at
+ * the value before you pack it.
  *
  *   if (mark < 0 || mark > 255) ..                                   before a `cu` is packed
  *
@@ -112,8 +124,8 @@
  *       && curlew_table_int(&table, 1, 0, &mark))
  *       printf("%lld\n", (long long)mark);
  *
- * curlew_table_text, curlew_table_int, curlew_table_uint and curlew_table_real take values out. They answer 1 where the
- * slot is in use and has such a value, and the value lies inside the area; else 0, and what you gave for the value
+ * curlew_table_text, curlew_table_int, curlew_table_uint and curlew_table_real take values out. They answer 1 where
+ * the slot is in use and has such a value, and the value lies inside the area; else 0, and what you gave for the value
  * stays as it was. A slot that is not set is never taken for a number.
  *
  *
@@ -166,275 +178,20 @@
  *            `X*` goes to 0. `@*` goes to the highest position so far in packing, to the end in reading.
  *            `x*` goes to the end in reading and is refused in packing.
  *
- * The result of packing is as long as the highest position reached; bytes in it that nothing stored are zero.
- *
- *
- * A LAYOUT LOOKED AT BEFORE IT IS USED
- *
- * curlew_layout takes a layout alone and answers how many slots packing by it takes, and how long the record is
- * that it packs where every starred value is empty. No record that is packed by the layout is shorter, and without
- * stars every one has just this length: it sizes your buffers. A starred value may add to it what it fills. X, x
- * and @ are counted as packing makes them: `a5X2a1` packs 5 bytes, `@10` packs 10. The length is the true one, up
- * to 8 times CURLEW_MAX_COUNT for a field; above CURLEW_MAX_RECORD no packing by the layout is accepted, and
- * neither is one with more slots than CURLEW_MAX_SLOTS. A layout that packing would refuse is refused just so: 1
- * for its size, 2, 3 or 4 with the place.
- *
- *
- * A LAYOUT'S FIELDS
- *
- * curlew_fields takes a layout and writes a row for each of its fields, in their order: CURLEW_FIELD_SIZE (32) bytes,
- * eight big-endian 32-bit numbers, which curlew_get_field takes out.
- *
- *   place      the byte of the layout at which its type character stands
- *   length     how many bytes of the layout it takes, its flag and its count with it
- *   type       its type character
- *   flag       1 where it has the flag `u`, else 0
- *   count      its count; CURLEW_NO_COUNT where it has none, CURLEW_STAR for `*`
- *   slot       the slot that it takes; CURLEW_NO_SLOT for x X @
- *   position   the byte of the record at which packing begins it; CURLEW_OPEN where starred values decide that
- *   bytes      how many bytes of the record it fills, none for X and @; CURLEW_OPEN where it is starred
- *
- * The layout `A8 Su2 c*X @16 c` has six rows:
- *
- *   place  length  type  flag  count            slot            position     bytes
- *       0       2  'A'      0  8                0               0            8
- *       3       3  'S'      1  2                1               8            4
- *       7       2  'c'      0  CURLEW_STAR      2               12           CURLEW_OPEN
- *       9       1  'X'      0  CURLEW_NO_COUNT  CURLEW_NO_SLOT  CURLEW_OPEN  0
- *      11       3  '@'      0  16               CURLEW_NO_SLOT  CURLEW_OPEN  0
- *      15       1  'c'      0  CURLEW_NO_COUNT  3               16           1
- *
- * A position that is given is so in every record that is packed by the layout. Behind a starred value it is open,
- * until an `@` with a count or `X*` goes to a place that is known again; `@*` goes to the highest position so far,
- * which stays open behind a starred value. Without starred values a record is as long as the largest of all position
- * + bytes and of all counts of `@`, which is the length that curlew_layout answers. In a layout without X, @, `*` and
- * counts of 0 the positions are those that curlew_read gives to the slots.
- *
- * A layout is judged as curlew_read judges it: `x*` is taken here, and counts as starred. The run may have any length
- * that holds the rows; CURLEW_MAX_LAYOUT rows are always enough. Its other bytes stay as they were.
- *
- *
- * COMPOSING RECORDS
- *
- * A record may be made of parts: a cover with the candidate's name, a leg with the marks. Put the layout of the leg
- * right behind that of the cover, with or without a space, and its slots behind the cover's slots. Packing by the
- * whole, over one area, then gives the bytes of the cover and behind them the bytes of the leg, just as each layout
- * gives them alone: the cover `A8 Iu` and the leg `S2 c` make `A8 IuS2 c`. This is so for every two layouts without
- * X and @, with `*` too, where each part alone is accepted, the whole keeps to the sizes and the output run has
- * room for it. The empty layout, with no slots, adds nothing, in front or behind, and of three parts it does not
- * matter which two are put together first. A part that has an X or an @ may reach into the part in front of it.
- *
- *
- * READING: THE MARK, AND RECORDS THAT ARE TOO SHORT
- *
- * The mark is the place in the area where the first value goes. The values follow one another from there
- * without gaps, in the order of the fields, and the slot of each gets its kind, start, length and position. No other
- * byte of the area is touched. To read several records into one area, give the place that one reading answers
- * as the mark of the next.
- *
- * Where the record has too few bytes left for a field, the reading ends there: that field's slot, and the slots
- * of the fields behind it, stay as they were. It is no error. Clear the slots before you read, and a slot that is
- * still CURLEW_UNSET afterwards was not in the record. It never becomes a 0. Slots beyond those of the layout stay
- * as well. A record can only lose its tail, so "not set" comes back for the fields behind its end: every field before
- * one that is set is set, too.
- *
- * A layout without X, @, `*` and counts of 0 may therefore grow: put new fields of the same sort after the old ones,
- * again without X, @, `*` and counts of 0, and old records can be read by the new layout and new records by the old
- * one. A record may also lose its end: what is left of it gives the values of the fields that are still whole.
- *
- * Reading loses nothing where every byte of the record belongs to a value and every bit of it is shown: a layout of
- * `a`, integers and `q Q`, without a count or with one, `b B` with counts that 8 divides and `h H` with even counts, no
- * count of 0 and no `*`, and a record of just the length that its fields fill. Read such a record and pack the slots by
- * the same layout, and you have it back; two of them that show the same values are the same bytes. With a `*` it may be
- * otherwise: `a*c` reads all of `xyz` into its first slot, and the second is not set.
- *
- * curlew_promises and curlew_extends say whether all this holds of your layouts: see WHAT A LAYOUT PROMISES.
- *
- * The reply of a reading is CURLEW_READ_REPLY (16) bytes: behind the answer's three numbers it has the steps, how many
- * fields the reading went through. Fields of x, X and @ count, and so does the one for which the record was too short;
- * fields behind that one do not. The steps are never more than the layout has bytes, and 0 where the reading is
- * refused. curlew_get_steps gets them.
- *
- *
- * WHAT A LAYOUT PROMISES
- *
- * curlew_promises takes a layout and answers where it breaks each of three promises, with the reply of
- * CURLEW_PROMISES_REPLY (16) bytes:
- *
- *   CURLEW_OK, grows, keeps, joins
- *
- *   grows   it may grow at its end: no X, no @, no `*`, no count of 0, and within the limits
- *   keeps   reading loses nothing: only a, integers and q Q, b B with counts that 8 divides and h H with even counts;
- *           no `*`, no count of 0, and within the limits
- *   joins   it may be joined with other such layouts: no X, no @
- *
- * The limits are at most CURLEW_MAX_SLOTS fields that take a slot, and a record of at most CURLEW_MAX_RECORD bytes,
- * those that x fills counted. Past them every packing is refused, so there would be no record of which grows or keeps
- * could speak; within them there always is one. The first field past a limit breaks both.
- *
- * Each of the three is CURLEW_NOWHERE where the promise is kept, and else the byte of the layout at which the first
- * field stands that breaks it. The layout `a6 A12 Su` answers CURLEW_NOWHERE, 3, CURLEW_NOWHERE: it may grow and be
- * joined, and byte 3, the A, drops blanks. `a32768 c` answers 7, 7, CURLEW_NOWHERE: with the c its record would be too
- * long. curlew_get_answer gets grows and keeps, as first and second, and curlew_get_joins the third. A layout that
- * packing would refuse is refused just so.
- *
- * curlew_extends takes last year's layout and this year's. It accepts the two where the new one is the old one with
- * fields added at its end, or with none, and is one that may grow. Then all is well between the years: either layout
- * reads the records of both, whole or cut, and gives every field that is whole with its value. The reply is
- * CURLEW_EXTENDS_REPLY (16) bytes:
- *
- *   CURLEW_OK, fields of the old layout, fields added, 0
- *
- * Fields count and not the text: two are the same where they agree in type, flag and count. `c3 su` and `c03su` have
- * the same fields; `c` is not `c1`, since without a count a slot holds exactly one integer. Refused are the layouts
- * packing would refuse, the old one first; then, with CURLEW_OTHER_FIELDS, a new layout that does not begin with the
- * old one's fields, at its first field that differs, or at its length where it has too few; then one that may not
- * grow: with CURLEW_NOT_PLAIN at its first X, @, `*` or count of 0; with CURLEW_BAD_SLOTS at the first field that
- * takes a slot more than CURLEW_MAX_SLOTS; with CURLEW_NO_ROOM at the first field that ends past CURLEW_MAX_RECORD
- * bytes. The fourth number of a refusal says in which layout the place lies: 0 in the old one, 1 in the new one
- * (curlew_get_which).
- *
- *   curlew_extends("A8 S2", 5, "A8 S2 S", 7, reply, sizeof reply)     CURLEW_OK, 2, 1, 0
- *   curlew_extends("A8 S2", 5, "A8 S3", 5, reply, sizeof reply)       CURLEW_OTHER_FIELDS, 3, 0, 1
- *   curlew_extends("A8 S2", 5, "A8 S2 c*", 8, reply, sizeof reply)    CURLEW_NOT_PLAIN, 6, 0, 1
- *   curlew_extends("S2", 2, "S2 a32768", 9, reply, sizeof reply)      CURLEW_NO_ROOM, 3, 0, 1
- *
- * What was added year after year may be asked for each year alone: where this year's layout extends last year's, and
- * next year's this year's, next year's extends last year's, too.
- *
- *
- * SHEETS: A TABLE KEPT IN A FILE
- *
- * A record holds one value after the other, so a leg that is not set can only be missing at its end. A sheet
- * keeps every slot of a table, set or not:
- *
- *   byte 0      the version: 1
- *   bytes 1-2   the length of all that is behind them, big-endian
- *   then, for each slot in turn, an entry:
- *     2 bytes   the length of the rest of the entry, big-endian
- *     1 byte    the slot's kind
- *     the value: no byte for CURLEW_UNSET, the bytes of a string, 8 bytes for each integer or real
- *
- * A table of three slots, not set, the string OK and the integer -2, is the sheet
- *
- *   01  00 13   00 01  00   00 03  01  4f 4b   00 09  02  ff ff ff ff ff ff ff fe
- *
- * and the three bytes 01 00 00 are a table of no slots. Starts and positions are not kept: where a value lay in the
- * area, or in a record, is of no matter. curlew_sheet_write writes the slots given to it; the bytes of the run
- * behind the sheet stay as they were. curlew_sheet_read puts the values into the area from the mark on, as
- * curlew_read does, and sets a slot for each entry; an entry that is not set clears its slot to CURLEW_UNSET, start
- * 0, length 0. All slots that it sets have CURLEW_NO_POSITION. Slots beyond the entries stay as they were. Where there
- * is room for it, writing a table and reading it back shows the same values, and the slots of a sheet that was read are
- * written as the same sheet, byte for byte.
- *
- * A value that several slots share is stored once for each of them. So a table may have a sheet with more bytes of
- * values than an area holds: two slots over one value of 300,000 bytes are written, and no area can take the sheet
- * whole (number 11). Rescue by the legs that an area holds takes the entries from the front.
- *
- * Version 2 is for larger tables: its lengths have four bytes in both places, so its header has five bytes. A table
- * is written as version 1 wherever all lengths of that version are at most 65,535, whatever room the run has, and as
- * version 2 otherwise; a version 2 sheet whose table version 1 could hold is refused, so that a table has one sheet
- * only. Readers from before version 2 refuse it: with 1 where it is whole, since it is longer than they take, with 13
- * where it was cut to what they take.
- *
- * A sheet that was cut, or damaged in its lengths or kinds, is refused whole: 13 where its first byte is neither
- * version, 12 at 0 where it is shorter than its header or the length in the header is not that of the rest, 12 at the
- * first byte of the first entry that is wrong: too few bytes left for its length, a length of 0 or beyond the end, a
- * kind above 4, a value behind CURLEW_UNSET, or integers or reals that are no multiple of 8 bytes.
- *
- *
- * A SHEET THAT WAS DAMAGED
- *
- * curlew_sheet_rescue takes what is left of a sheet, and the number of legs that it should have had. From the front
- * it keeps each entry that is whole and right, as curlew_sheet_read would take it, until it has one for every leg
- * or meets one that is wrong: nothing behind a wrong entry can be trusted. The kept entries go into slots and area
- * as that call puts them, and the slots of the other legs are cleared to CURLEW_UNSET, start 0, length 0, without a
- * position, so that a lost leg reads "not set" and never as a mark. Slots past the legs, and bytes of the area that
- * no kept value covers, stay as they were. The length in the header is not looked at, and both versions are taken,
- * whichever the kept entries would be written as. The reply is CURLEW_RESCUE_REPLY (16) bytes, four numbers:
- *
- *   CURLEW_OK, entries kept, slots cleared, bytes dropped
- *
- * Kept and cleared add up to the legs. Dropped are the bytes that belong neither to the header nor to a kept entry;
- * of a sheet shorter than its header that is every byte. A sheet that curlew_sheet_read accepts, with an entry for
- * every leg, is rescued as it is read. A sheet that was cut keeps exactly the entries that end at or before the cut,
- * and needs room for their values alone. Write the rescued slots again: where curlew_sheet_write accepts them, and
- * there are slots and room, a rescue of that sheet keeps every leg, clears none and drops nothing.
- *
- *
- * COMPARING TWO COPIES OF A RECORD
- *
- * curlew_compare reads two records by one layout, each from mark 0 into a table and an area of its own, just as
- * two calls of curlew_read would leave them, and writes a finding for each field that takes a slot into the
- * report. A finding is CURLEW_FINDING_SIZE (12) bytes, three big-endian 32-bit numbers: the verdict, a place and
- * a number of bits.
- *
- *   CURLEW_SAME          0    both copies have the field, with the same value
- *   CURLEW_ONLY_FIRST    1    the second copy is too short for it
- *   CURLEW_ONLY_SECOND   2    the first copy is too short for it
- *   CURLEW_NEITHER       3    both copies are too short for it
- *   CURLEW_DIFFERENT     4    both have it, with different values
- *
- * Place and bits are 0 unless the values differ. The place is then the first byte of the value, as it lies in
- * the area, at which the two part (the shorter length where one is the beginning of the other), and the bits
- * are those that differ over the length that both have. An integer is eight bytes there. The report may have any
- * length that holds the findings; its other bytes stay as they were.
- *
- *
- * THE MEAN OF THE MARKED LEGS
- *
- * curlew_mean takes a table in which each slot is a leg: not set, or one integer from 0 to CURLEW_MAX_MARK, signed
- * or unsigned. It gives the mean of the legs that are set, as a double. A leg of 0 counts; a leg that is not set
- * does not, so it never pulls the mean down. Where no leg is set, or there are no slots, there is no mean. The
- * reply is CURLEW_MEAN_REPLY (24) bytes:
- *
- *   bytes 0-11    the answer: CURLEW_OK, how many slots are not set, 0; or the refusal
- *   bytes 12-15   1 where a mean follows, else 0
- *   bytes 16-23   the mean, a big-endian double (zero bytes where there is none)
- *
- * curlew_get_mean takes it out. The sum and the number of marks are whole numbers, and the mean is the double
- * nearest to their quotient, at a tie the even one.
- *
- *
- * LAYOUTS FROM PERL
- *
- * curlew_from_perl writes the layout that a pack template of Perl stands for into the run `layout`. It takes
- * these letters, each with a count from 1 to 4,096 or none:
- *
- *   Perl     a   b   B   h   H   x   C    n    N    v    V
- *   layout   a   b   B   h   H   x   cu   Su   Iu   su   iu
- *
- * and groups: items in brackets, one at least, with a number of times from 1 to 64 or none behind the bracket, at
- * most 8 inside one another. `(n2a3)2 C` becomes `Su2a3Su2a3cu`. An item may have spaces on both sides, but none
- * before its count; numbers have no leading zeros. A count makes one list: `n2` takes one slot of two
- * integers. The other letters of Perl are refused, also `A`, which strips other characters there. An empty
- * template is the empty layout. Bytes of the run behind the layout stay as they were.
- *
  *
  * ANSWERS
  *
- * Every call returns a number and writes three big-endian 32-bit numbers into the reply, the same one first. Some calls
- * write more behind them:
- *
- *   packed          CURLEW_OK, length of the result, 0
- *   read            CURLEW_OK, how many slots were set, place in the area after the last value; the steps
- *   sheet written   CURLEW_OK, length of the sheet, 0
- *   sheet read      CURLEW_OK, how many entries there were, place in the area after the last value
- *   sheet rescued   CURLEW_OK, entries kept, slots cleared; the bytes dropped
- *   compared        CURLEW_OK, how many findings there are, 0
- *   mean            CURLEW_OK, how many slots are not set, 0; the mean
- *   from Perl       CURLEW_OK, length of the layout, 0
- *   layout          CURLEW_OK, slots that it takes, length of its shortest record
- *   fields          CURLEW_OK, how many fields there are, 0
- *   promises        CURLEW_OK, where it may not grow, where it loses something; where it may not be joined
- *   extends         CURLEW_OK, fields of the old layout, fields added; 0 (refused: which layout)
- *   refused         the number of the refusal, the place of the fault, 0
+ * Every call but curlew_version returns a number and writes three big-endian 32-bit numbers into the reply, the same
+ * one first. Some calls write more behind them. Where the call is accepted the number is CURLEW_OK, and the two behind
+ * it are said at the call; where it is refused they are the place of the fault, and 0. curlew_get_answer gets the
+ * three.
  *
  *   no.  constant            refused because                                        place
  *    1   CURLEW_BAD_SIZE     a run is larger than its limit (see SIZES; also a run  0
  *                            that is only written), the slots are no multiple of
- *                            CURLEW_SLOT_SIZE, or the mark lies above the area's
- *                            length; rescue: more than CURLEW_MAX_SLOTS legs
+ *                            CURLEW_SLOT_SIZE, or the start mark lies above the
+ *                            area's length; rescue: more than CURLEW_MAX_SLOTS
+ *                            legs
  *    2   CURLEW_BAD_TYPE     the layout has an unknown type                         its byte in the layout
  *    3   CURLEW_BAD_COUNT    a count is larger than CURLEW_MAX_COUNT                byte of its first digit
  *    4   CURLEW_BAD_MOVE     `@` has no count, or packing met `x*`                  byte of the type character
@@ -453,10 +210,11 @@
  *                            mean: not exactly one integer
  *   10   CURLEW_BAD_DIGIT    packing: a digit that counts is not a digit            the slot
  *   11   CURLEW_NO_ROOM      the result does not fit the output run, or the         0
- *                            values do not fit the area from the mark on; the
- *                            report does not hold the findings; a layout from
- *                            Perl is longer than its run or CURLEW_MAX_LAYOUT;
- *                            the run does not hold the rows of the fields;
+ *                            values do not fit the area from the start mark on;
+ *                            the report does not hold the findings; a layout
+ *                            from Perl is longer than its run or
+ *                            CURLEW_MAX_LAYOUT; the run does not hold the rows
+ *                            of the fields;
  *                            extends: the record of the new layout is longer        extends: byte of the first
  *                            than CURLEW_MAX_RECORD                                 field that ends past it
  *   12   CURLEW_BAD_SHEET    the sheet is too short or its header's length is       0
@@ -472,17 +230,8 @@
  *   18   CURLEW_NOT_PLAIN    extends: the new layout has a field that keeps it      byte of that field
  *                            from growing
  *
- * The checks are made in this order. Packing and reading a record: 1; then 2, 3 and 4 for each field in turn; then
- * 5; then 6 to 10 and 16 for each slot in turn, the lower number first; then 11. Writing a sheet: 1; 7 for each
- * slot in turn; 11. Reading a sheet: 1; 13; 12; 5; 11. Rescuing one: 1; 13; 5; 11. Comparing: all of reading the
- * first copy, then all of reading the second, then 11 for the report. Mean: 1; then 7, 8, 9 and 14 for each slot in
- * turn. From Perl: 1; 15; 11. Layout, promises: 1; then 2, 3 and 4 for each field in turn. Fields: the same, then 11.
- * Extends: these for the old layout, then for the new one; 17; 18; 5; 11.
- *
- * No byte is written before the last of them: a refusal writes the reply and nothing else. A reply of a wrong size
- * makes the call return 1 and write nothing at all.
- *
- * After a packing that was accepted, the bytes of the output run behind the result stay as they were.
+ * The checks are made in the order that each call says. No byte is written before the last of them: a refusal writes
+ * the reply and nothing else. A reply of a wrong size makes the call return 1 and write nothing at all.
  *
  *
  * SIZES
@@ -535,34 +284,32 @@
  *
  *   static const char old_layout[] = "A8 S2";
  *   static const char new_layout[] = "A8 S2 S";
+ *   static const int64_t marks[] = {17, 0};
  *
  *   int main(void)
  *   {
- *       uint8_t slots[3 * CURLEW_SLOT_SIZE], area[64], record[64];
- *       uint8_t packed[CURLEW_PACK_REPLY], reply[CURLEW_READ_REPLY];
- *       struct curlew_slot name, marks, third;
+ *       uint8_t slots[3 * CURLEW_SLOT_SIZE], area[64], record[64], reply[CURLEW_READ_REPLY];
+ *       struct curlew_table table = curlew_table_over(slots, sizeof slots, area, sizeof area);
+ *       const char *name;
+ *       size_t length;
+ *       int64_t first, second, third;
  *
- *       memcpy(area, "Ada", 3);
- *       curlew_put_int(area + 3, 17);
- *       curlew_put_int(area + 11, 0);
- *       curlew_put_slot(slots, 0, CURLEW_STRING, 0, 3);
- *       curlew_put_slot(slots, 1, CURLEW_SIGNED, 3, 2);
- *       if (curlew_pack(old_layout, strlen(old_layout), slots, 2 * CURLEW_SLOT_SIZE,
- *                       area, sizeof area, record, sizeof record, packed, sizeof packed) != CURLEW_OK)
+ *       curlew_table_add_text(&table, "Ada", 3);
+ *       curlew_table_add_ints(&table, marks, 2);
+ *       if (curlew_pack(old_layout, strlen(old_layout), table.slots, table.slots_used, table.area, table.area_used,
+ *                       record, sizeof record, reply, CURLEW_PACK_REPLY) != CURLEW_OK)
  *           return 1;
+ *       length = curlew_get_answer(reply).first;
  *
- *       memset(slots, 0, sizeof slots);
- *       if (curlew_read(new_layout, strlen(new_layout),
- *                       record, curlew_get_answer(packed).first, slots, sizeof slots,
- *                       area, sizeof area, 0, reply, sizeof reply) != CURLEW_OK)
+ *       curlew_table_clear(&table);
+ *       if (curlew_read(new_layout, strlen(new_layout), record, length, table.slots, table.slots_room,
+ *                       table.area, table.area_room, 0, reply, CURLEW_READ_REPLY) != CURLEW_OK
+ *           || !curlew_table_use(&table, curlew_get_answer(reply).first, 3)
+ *           || !curlew_table_text(&table, 0, &name, &length)
+ *           || !curlew_table_int(&table, 1, 0, &first) || !curlew_table_int(&table, 1, 1, &second))
  *           return 1;
- *       name = curlew_get_slot(slots, 0);
- *       marks = curlew_get_slot(slots, 1);
- *       third = curlew_get_slot(slots, 2);
- *       printf("%.*s, %u marks: %d %d, third %s\n", (int)name.length, (const char *)area + name.start,
- *              (unsigned)marks.length, (int)curlew_get_int(area + marks.start),
- *              (int)curlew_get_int(area + marks.start + CURLEW_ITEM_SIZE),
- *              third.kind == CURLEW_UNSET ? "not marked" : "marked");
+ *       printf("%.*s, %u marks: %d %d, third %s\n", (int)length, name, (unsigned)curlew_table_slot(&table, 1).length,
+ *              (int)first, (int)second, curlew_table_int(&table, 2, 0, &third) ? "marked" : "not marked");
  *       return 0;
  *   }
  */
@@ -658,43 +405,146 @@
 extern "C" {
 #endif
 
-/* Packs the values in slots and area by the layout into out. Writes out and reply. */
+/*
+ * curlew_pack - packs values into a record
+ *
+ * Takes a layout and a table of values, one slot for each field that takes one, and puts the record at the front of
+ * the run `out`. The record is as long as the highest position reached; bytes in it that nothing stored are zero. The
+ * bytes of `out` behind it stay as they were. curlew_layout says before how much room a record needs.
+ *
+ * A record may be made of parts: a cover with the candidate's name, a leg with the marks. Put the layout of the leg
+ * right behind that of the cover, with or without a space, and its slots behind the cover's slots. Packing by the
+ * whole, over one area, then gives the bytes of the cover and behind them the bytes of the leg, just as each layout
+ * gives them alone: the cover `A8 Iu` and the leg `S2 c` make `A8 IuS2 c`. This is so for every two layouts without
+ * X and @, with `*` too, where each part alone is accepted, the whole keeps to the sizes and the output run has
+ * room for it. The empty layout, with no slots, adds nothing, in front or behind, and of three parts it does not
+ * matter which two are put together first. A part that has an X or an @ may reach into the part in front of it.
+ *
+ * RUNS
+ *
+ * Reads layout, slots and area. Writes out and reply.
+ *
+ * REPLY
+ *
+ * CURLEW_PACK_REPLY (12) bytes: CURLEW_OK, the length of the record, 0.
+ *
+ * REFUSALS
+ *
+ * In this order: CURLEW_BAD_SIZE; CURLEW_BAD_TYPE, CURLEW_BAD_COUNT and CURLEW_BAD_MOVE for each field in turn, the
+ * last for an `x*` too; CURLEW_BAD_SLOTS where there is not just one slot for each field that takes one; for each slot
+ * in turn, the lower number first, CURLEW_NOT_SET, CURLEW_BAD_SLOT, CURLEW_WRONG_KIND, CURLEW_BAD_LIST,
+ * CURLEW_BAD_DIGIT and CURLEW_BAD_REAL; CURLEW_NO_ROOM where the record is longer than `out`.
+ *
+ * EXAMPLES
+ *
+ *   number = curlew_pack(layout, strlen(layout), table.slots, table.slots_used, table.area, table.area_used,
+ *                        record, sizeof record, reply, CURLEW_PACK_REPLY);
+ *   length = number == CURLEW_OK ? curlew_get_answer(reply).first : 0;
+ */
 uint32_t curlew_pack(const void *layout, size_t layout_len,
                      const uint8_t *slots, size_t slots_len,
                      const uint8_t *area, size_t area_len,
                      uint8_t *out, size_t out_len,
                      uint8_t *reply, size_t reply_len);
 
-/* Reads the record by the layout into slots and, from the mark on, into area. Writes slots, area and reply. */
+/*
+ * curlew_read - reads the values out of a record
+ *
+ * Puts the values of the record into the area, from the start mark on, and sets a slot for each field that takes one.
+ * The start mark is the place in the area where the first value goes. The values follow one another from there without
+ * gaps, in the order of the fields, and the slot of each gets its kind, start, length and position. No other byte of
+ * the area is touched. To read several records into one area, give the place that one reading answers as the start
+ * mark of the next.
+ *
+ * Where the record has too few bytes left for a field, the reading ends there: that field's slot, and the slots
+ * of the fields behind it, stay as they were. It is no error. Clear the slots before you read, and a slot that is
+ * still CURLEW_UNSET afterwards was not in the record. It never becomes a 0. Slots beyond those of the layout stay
+ * as well. A record can only lose its tail, so "not set" comes back for the fields behind its end: every field before
+ * one that is set is set, too.
+ *
+ * A layout without X, @, `*` and counts of 0 may therefore grow: put new fields of the same sort after the old ones,
+ * again without X, @, `*` and counts of 0, and old records can be read by the new layout and new records by the old
+ * one. A record may also lose its end: what is left of it gives the values of the fields that are still whole.
+ *
+ * Reading loses nothing where every byte of the record belongs to a value and every bit of it is shown: a layout of
+ * `a`, integers and `q Q`, without a count or with one, `b B` with counts that 8 divides and `h H` with even counts,
+ * no count of 0 and no `*`, and a record of just the length that its fields fill. Read such a record and pack the
+ * slots by the same layout, and you have it back; two of them that show the same values are the same bytes. With a `*`
+ * it may be otherwise: `a*c` reads all of `xyz` into its first slot, and the second is not set.
+ *
+ * curlew_promises and curlew_extends say whether all this holds of your layouts.
+ *
+ * RUNS
+ *
+ * Reads layout and record. Writes slots, area and reply.
+ *
+ * REPLY
+ *
+ * CURLEW_READ_REPLY (16) bytes: CURLEW_OK, how many slots were set, the place in the area after the last value, and
+ * behind these three the steps: how many fields the reading went through. Fields of x, X and @ count, and so does the
+ * one for which the record was too short; fields behind that one do not. The steps are never more than the layout has
+ * bytes, and 0 where the reading is refused. curlew_get_steps gets them.
+ *
+ * REFUSALS
+ *
+ * In this order: CURLEW_BAD_SIZE, also where the start mark lies above the area; CURLEW_BAD_TYPE, CURLEW_BAD_COUNT and
+ * CURLEW_BAD_MOVE for each field in turn; CURLEW_BAD_SLOTS where there are fewer slots than fields that take one;
+ * CURLEW_NO_ROOM where the values do not fit the area from the start mark on.
+ *
+ * EXAMPLES
+ *
+ *   curlew_table_clear(&table);
+ *   number = curlew_read(layout, strlen(layout), record, length, table.slots, table.slots_room,
+ *                        table.area, table.area_room, 0, reply, CURLEW_READ_REPLY);
+ *   marked = number == CURLEW_OK && curlew_table_use(&table, curlew_get_answer(reply).first, 3)
+ *       && curlew_table_int(&table, 2, 0, &mark);
+ */
 uint32_t curlew_read(const void *layout, size_t layout_len,
                      const uint8_t *record, size_t record_len,
                      uint8_t *slots, size_t slots_len,
                      uint8_t *area, size_t area_len,
-                     size_t mark,
+                     size_t start_mark,
                      uint8_t *reply, size_t reply_len);
 
-/* Writes the table of slots and area as a sheet. Writes sheet and reply. */
-uint32_t curlew_sheet_write(const uint8_t *slots, size_t slots_len,
-                            const uint8_t *area, size_t area_len,
-                            uint8_t *sheet, size_t sheet_len,
-                            uint8_t *reply, size_t reply_len);
-
-/* Reads a sheet into slots and, from the mark on, into area. Writes slots, area and reply. */
-uint32_t curlew_sheet_read(const uint8_t *sheet, size_t sheet_len,
-                           uint8_t *slots, size_t slots_len,
-                           uint8_t *area, size_t area_len,
-                           size_t mark,
-                           uint8_t *reply, size_t reply_len);
-
-/* Keeps what is whole at the front of a damaged sheet of so many legs. Writes slots, area and reply. */
-uint32_t curlew_sheet_rescue(const uint8_t *sheet, size_t sheet_len,
-                             size_t legs,
-                             uint8_t *slots, size_t slots_len,
-                             uint8_t *area, size_t area_len,
-                             size_t mark,
-                             uint8_t *reply, size_t reply_len);
-
-/* Compares two copies of a record by the layout. Writes both tables, both areas, report and reply. */
+/*
+ * curlew_compare - says what differs between two copies of a record
+ *
+ * Reads two records by one layout, each from start mark 0 into a table and an area of its own, just as two calls of
+ * curlew_read would leave them, and writes a finding for each field that takes a slot into the report. A finding is
+ * CURLEW_FINDING_SIZE (12) bytes, three big-endian 32-bit numbers: the verdict, a place and a number of bits.
+ *
+ *   CURLEW_SAME          0    both copies have the field, with the same value
+ *   CURLEW_ONLY_FIRST    1    the second copy is too short for it
+ *   CURLEW_ONLY_SECOND   2    the first copy is too short for it
+ *   CURLEW_NEITHER       3    both copies are too short for it
+ *   CURLEW_DIFFERENT     4    both have it, with different values
+ *
+ * Place and bits are 0 unless the values differ. The place is then the first byte of the value, as it lies in
+ * the area, at which the two part (the shorter length where one is the beginning of the other), and the bits
+ * are those that differ over the length that both have. An integer is eight bytes there. The report may have any
+ * length that holds the findings; its other bytes stay as they were. curlew_get_finding gets a finding.
+ *
+ * RUNS
+ *
+ * Reads layout, first and second. Writes both tables, both areas, report and reply.
+ *
+ * REPLY
+ *
+ * CURLEW_COMPARE_REPLY (12) bytes: CURLEW_OK, how many findings there are, 0.
+ *
+ * REFUSALS
+ *
+ * All those of reading the first copy, then all those of reading the second; then CURLEW_NO_ROOM where the report does
+ * not hold the findings.
+ *
+ * EXAMPLES
+ *
+ *   number = curlew_compare(layout, strlen(layout), record, length, copy, copy_length,
+ *                           first_slots, sizeof first_slots, first_area, sizeof first_area,
+ *                           second_slots, sizeof second_slots, second_area, sizeof second_area,
+ *                           report, sizeof report, reply, CURLEW_COMPARE_REPLY);
+ *   same = number == CURLEW_OK && curlew_get_finding(report, 0).verdict == CURLEW_SAME;
+ */
 uint32_t curlew_compare(const void *layout, size_t layout_len,
                         const uint8_t *first, size_t first_len,
                         const uint8_t *second, size_t second_len,
@@ -705,33 +555,409 @@ uint32_t curlew_compare(const void *layout, size_t layout_len,
                         uint8_t *report, size_t report_len,
                         uint8_t *reply, size_t reply_len);
 
-/* The mean of the legs that are set. Writes reply. */
+/*
+ * curlew_sheet_write - writes a table as a sheet
+ *
+ * A record holds one value after the other, so a leg that is not set can only be missing at its end. A sheet
+ * keeps every slot of a table, set or not:
+ *
+ *   byte 0      the version: 1
+ *   bytes 1-2   the length of all that is behind them, big-endian
+ *   then, for each slot in turn, an entry:
+ *     2 bytes   the length of the rest of the entry, big-endian
+ *     1 byte    the slot's kind
+ *     the value: no byte for CURLEW_UNSET, the bytes of a string, 8 bytes for each integer or real
+ *
+ * A table of three slots, not set, the string OK and the integer -2, is the sheet
+ *
+ *   01  00 13   00 01  00   00 03  01  4f 4b   00 09  02  ff ff ff ff ff ff ff fe
+ *
+ * and the three bytes 01 00 00 are a table of no slots. Starts and positions are not kept: where a value lay in the
+ * area, or in a record, is of no matter. The call writes the slots given to it; the bytes of the run behind the sheet
+ * stay as they were. Where there is room for it, writing a table and reading it back shows the same values, and the
+ * slots of a sheet that was read are written as the same sheet, byte for byte.
+ *
+ * A value that several slots share is stored once for each of them. So a table may have a sheet with more bytes of
+ * values than an area holds: two slots over one value of 300,000 bytes are written, and no area can take the sheet
+ * whole (number 11). Rescue by the legs that an area holds takes the entries from the front.
+ *
+ * Version 2 is for larger tables: its lengths have four bytes in both places, so its header has five bytes. A table
+ * is written as version 1 wherever all lengths of that version are at most 65,535, whatever room the run has, and as
+ * version 2 otherwise; a version 2 sheet whose table version 1 could hold is refused, so that a table has one sheet
+ * only. Readers from before version 2 refuse it: with 1 where it is whole, since it is longer than they take, with 13
+ * where it was cut to what they take.
+ *
+ * RUNS
+ *
+ * Reads slots and area. Writes sheet and reply.
+ *
+ * REPLY
+ *
+ * CURLEW_SHEET_REPLY (12) bytes: CURLEW_OK, the length of the sheet, 0.
+ *
+ * REFUSALS
+ *
+ * In this order: CURLEW_BAD_SIZE; CURLEW_BAD_SLOT for each slot in turn; CURLEW_NO_ROOM where the sheet is longer than
+ * its run.
+ *
+ * EXAMPLES
+ *
+ *   number = curlew_sheet_write(table.slots, table.slots_used, table.area, table.area_used,
+ *                               sheet, sizeof sheet, reply, CURLEW_SHEET_REPLY);
+ *   length = number == CURLEW_OK ? curlew_get_answer(reply).first : 0;
+ */
+uint32_t curlew_sheet_write(const uint8_t *slots, size_t slots_len,
+                            const uint8_t *area, size_t area_len,
+                            uint8_t *sheet, size_t sheet_len,
+                            uint8_t *reply, size_t reply_len);
+
+/*
+ * curlew_sheet_read - reads a sheet into a table
+ *
+ * Puts the values into the area from the start mark on, as curlew_read does, and sets a slot for each entry; an entry
+ * that is not set clears its slot to CURLEW_UNSET, start 0, length 0. All slots that it sets have CURLEW_NO_POSITION.
+ * Slots beyond the entries stay as they were.
+ *
+ * A sheet that was cut, or damaged in its lengths or kinds, is refused whole: 13 where its first byte is neither
+ * version, 12 at 0 where it is shorter than its header or the length in the header is not that of the rest, 12 at the
+ * first byte of the first entry that is wrong: too few bytes left for its length, a length of 0 or beyond the end, a
+ * kind above 4, a value behind CURLEW_UNSET, or integers or reals that are no multiple of 8 bytes.
+ * curlew_sheet_rescue keeps what is whole of it. What a sheet looks like is said at curlew_sheet_write.
+ *
+ * RUNS
+ *
+ * Reads sheet. Writes slots, area and reply.
+ *
+ * REPLY
+ *
+ * CURLEW_SHEET_REPLY (12) bytes: CURLEW_OK, how many entries there were, the place in the area after the last value.
+ *
+ * REFUSALS
+ *
+ * In this order: CURLEW_BAD_SIZE, also where the start mark lies above the area; CURLEW_BAD_VERSION; CURLEW_BAD_SHEET;
+ * CURLEW_BAD_SLOTS where there are fewer slots than entries; CURLEW_NO_ROOM where the values do not fit the area from
+ * the start mark on.
+ *
+ * EXAMPLES
+ *
+ *   number = curlew_sheet_read(sheet, length, table.slots, table.slots_room, table.area, table.area_room, 0,
+ *                              reply, CURLEW_SHEET_REPLY);
+ *   if (number == CURLEW_OK)
+ *       curlew_table_use(&table, curlew_get_answer(reply).first, curlew_get_answer(reply).first);
+ */
+uint32_t curlew_sheet_read(const uint8_t *sheet, size_t sheet_len,
+                           uint8_t *slots, size_t slots_len,
+                           uint8_t *area, size_t area_len,
+                           size_t start_mark,
+                           uint8_t *reply, size_t reply_len);
+
+/*
+ * curlew_sheet_rescue - keeps what is whole of a damaged sheet
+ *
+ * Takes what is left of a sheet, and the number of legs that it should have had. From the front it keeps each entry
+ * that is whole and right, as curlew_sheet_read would take it, until it has one for every leg or meets one that is
+ * wrong: nothing behind a wrong entry can be trusted. The kept entries go into slots and area as that call puts them,
+ * and the slots of the other legs are cleared to CURLEW_UNSET, start 0, length 0, without a position, so that a lost
+ * leg reads "not set" and never as a mark. Slots past the legs, and bytes of the area that no kept value covers, stay
+ * as they were. The length in the header is not looked at, and both versions are taken, whichever the kept entries
+ * would be written as.
+ *
+ * A sheet that curlew_sheet_read accepts, with an entry for every leg, is rescued as it is read. A sheet that was cut
+ * keeps exactly the entries that end at or before the cut, and needs room for their values alone. Write the rescued
+ * slots again: where curlew_sheet_write accepts them, and there are slots and room, a rescue of that sheet keeps every
+ * leg, clears none and drops nothing.
+ *
+ * RUNS
+ *
+ * Reads sheet. Writes slots, area and reply.
+ *
+ * REPLY
+ *
+ * CURLEW_RESCUE_REPLY (16) bytes, four numbers: CURLEW_OK, entries kept, slots cleared, bytes dropped. Kept and
+ * cleared add up to the legs. Dropped are the bytes that belong neither to the header nor to a kept entry; of a sheet
+ * shorter than its header that is every byte. curlew_get_dropped gets them.
+ *
+ * REFUSALS
+ *
+ * In this order: CURLEW_BAD_SIZE, also where there are more than CURLEW_MAX_SLOTS legs or the start mark lies above
+ * the area; CURLEW_BAD_VERSION; CURLEW_BAD_SLOTS where there are fewer slots than legs; CURLEW_NO_ROOM where the kept
+ * values do not fit the area from the start mark on.
+ *
+ * EXAMPLES
+ *
+ *   number = curlew_sheet_rescue(sheet, length, 3, table.slots, table.slots_room, table.area, table.area_room, 0,
+ *                                reply, CURLEW_RESCUE_REPLY);
+ *   if (number == CURLEW_OK)
+ *       curlew_table_use(&table, 3, 3);
+ */
+uint32_t curlew_sheet_rescue(const uint8_t *sheet, size_t sheet_len,
+                             size_t legs,
+                             uint8_t *slots, size_t slots_len,
+                             uint8_t *area, size_t area_len,
+                             size_t start_mark,
+                             uint8_t *reply, size_t reply_len);
+
+/*
+ * curlew_mean - gives the mean of the marked legs
+ *
+ * Takes a table in which each slot is a leg: not set, or one integer from 0 to CURLEW_MAX_MARK, signed or unsigned. It
+ * gives the mean of the legs that are set, as a double. A leg of 0 counts; a leg that is not set does not, so it never
+ * pulls the mean down. Where no leg is set, or there are no slots, there is no mean. The sum and the number of marks
+ * are whole numbers, and the mean is the double nearest to their quotient, at a tie the even one.
+ *
+ * RUNS
+ *
+ * Reads slots and area. Writes reply.
+ *
+ * REPLY
+ *
+ * CURLEW_MEAN_REPLY (24) bytes:
+ *
+ *   bytes 0-11    the answer: CURLEW_OK, how many slots are not set, 0; or the refusal
+ *   bytes 12-15   1 where a mean follows, else 0
+ *   bytes 16-23   the mean, a big-endian double (zero bytes where there is none)
+ *
+ * curlew_get_mean takes it out.
+ *
+ * REFUSALS
+ *
+ * In this order: CURLEW_BAD_SIZE; then for each slot in turn CURLEW_BAD_SLOT, CURLEW_WRONG_KIND for a string or a
+ * real, CURLEW_BAD_LIST where it is not exactly one integer, and CURLEW_BAD_MARK.
+ *
+ * EXAMPLES
+ *
+ *   number = curlew_mean(table.slots + 2 * CURLEW_SLOT_SIZE, table.slots_used - 2 * CURLEW_SLOT_SIZE,
+ *                        table.area, table.area_used, reply, CURLEW_MEAN_REPLY);
+ *   marked = number == CURLEW_OK && curlew_get_mean(reply, &mean);
+ */
 uint32_t curlew_mean(const uint8_t *slots, size_t slots_len,
                      const uint8_t *area, size_t area_len,
                      uint8_t *reply, size_t reply_len);
 
-/* Writes the layout that a pack template of Perl stands for. Writes layout and reply. */
-uint32_t curlew_from_perl(const void *perl_template, size_t perl_template_len,
-                          void *layout, size_t layout_len,
-                          uint8_t *reply, size_t reply_len);
-
-/* Describes a layout: the slots that it takes and the length of its shortest record. Writes reply. */
+/*
+ * curlew_layout - says how many slots a layout takes and how long its records are
+ *
+ * Answers how many slots packing by the layout takes, and how long the record is that it packs where every starred
+ * value is empty. No record that is packed by the layout is shorter, and without stars every one has just this length:
+ * it sizes your buffers. A starred value may add to it what it fills. X, x and @ are counted as packing makes them:
+ * `a5X2a1` packs 5 bytes, `@10` packs 10. The length is the true one, up to 8 times CURLEW_MAX_COUNT for a field;
+ * above CURLEW_MAX_RECORD no packing by the layout is accepted, and neither is one with more slots than
+ * CURLEW_MAX_SLOTS.
+ *
+ * RUNS
+ *
+ * Reads layout. Writes reply.
+ *
+ * REPLY
+ *
+ * CURLEW_LAYOUT_REPLY (12) bytes: CURLEW_OK, the slots that it takes, the length of its shortest record.
+ *
+ * REFUSALS
+ *
+ * A layout that packing would refuse is refused just so: CURLEW_BAD_SIZE; then CURLEW_BAD_TYPE, CURLEW_BAD_COUNT and
+ * CURLEW_BAD_MOVE for each field in turn, with the place.
+ *
+ * EXAMPLES
+ *
+ *   number = curlew_layout(layout, strlen(layout), reply, CURLEW_LAYOUT_REPLY);
+ *   length = number == CURLEW_OK ? curlew_get_answer(reply).second : 0;
+ */
 uint32_t curlew_layout(const void *layout, size_t layout_len,
                        uint8_t *reply, size_t reply_len);
 
-/* Writes a row of CURLEW_FIELD_SIZE bytes for each field of a layout. Writes fields and reply. */
+/*
+ * curlew_fields - says what each field of a layout is and where it begins
+ *
+ * Writes a row for each field of the layout, in their order: CURLEW_FIELD_SIZE (32) bytes, eight big-endian 32-bit
+ * numbers, which curlew_get_field takes out.
+ *
+ *   place      the byte of the layout at which its type character stands
+ *   length     how many bytes of the layout it takes, its flag and its count with it
+ *   type       its type character
+ *   flag       1 where it has the flag `u`, else 0
+ *   count      its count; CURLEW_NO_COUNT where it has none, CURLEW_STAR for `*`
+ *   slot       the slot that it takes; CURLEW_NO_SLOT for x X @
+ *   position   the byte of the record at which packing begins it; CURLEW_OPEN where starred values decide that
+ *   bytes      how many bytes of the record it fills, none for X and @; CURLEW_OPEN where it is starred
+ *
+ * The layout `A8 Su2 c*X @16 c` has six rows:
+ *
+ *   place  length  type  flag  count            slot            position     bytes
+ *       0       2  'A'      0  8                0               0            8
+ *       3       3  'S'      1  2                1               8            4
+ *       7       2  'c'      0  CURLEW_STAR      2               12           CURLEW_OPEN
+ *       9       1  'X'      0  CURLEW_NO_COUNT  CURLEW_NO_SLOT  CURLEW_OPEN  0
+ *      11       3  '@'      0  16               CURLEW_NO_SLOT  CURLEW_OPEN  0
+ *      15       1  'c'      0  CURLEW_NO_COUNT  3               16           1
+ *
+ * A position that is given is so in every record that is packed by the layout. Behind a starred value it is open,
+ * until an `@` with a count or `X*` goes to a place that is known again; `@*` goes to the highest position so far,
+ * which stays open behind a starred value. Without starred values a record is as long as the largest of all position
+ * + bytes and of all counts of `@`, which is the length that curlew_layout answers. In a layout without X, @, `*` and
+ * counts of 0 the positions are those that curlew_read gives to the slots.
+ *
+ * A layout is judged as curlew_read judges it: `x*` is taken here, and counts as starred. The run may have any length
+ * that holds the rows; CURLEW_MAX_LAYOUT rows are always enough. Its other bytes stay as they were.
+ *
+ * RUNS
+ *
+ * Reads layout. Writes fields and reply.
+ *
+ * REPLY
+ *
+ * CURLEW_FIELDS_REPLY (12) bytes: CURLEW_OK, how many fields there are, 0.
+ *
+ * REFUSALS
+ *
+ * In this order: CURLEW_BAD_SIZE; CURLEW_BAD_TYPE, CURLEW_BAD_COUNT and CURLEW_BAD_MOVE for each field in turn;
+ * CURLEW_NO_ROOM where the run does not hold the rows.
+ *
+ * EXAMPLES
+ *
+ *   number = curlew_fields(layout, strlen(layout), fields, sizeof fields, reply, CURLEW_FIELDS_REPLY);
+ *   for (i = 0; number == CURLEW_OK && i < curlew_get_answer(reply).first; i++)
+ *       printf("%c\n", (int)curlew_get_field(fields, i).type);
+ */
 uint32_t curlew_fields(const void *layout, size_t layout_len,
                        uint8_t *fields, size_t fields_len,
                        uint8_t *reply, size_t reply_len);
 
-/* Says where a layout breaks each promise: to grow, to lose nothing, to be joined. Writes reply. */
+/*
+ * curlew_promises - says whether a layout may grow, loses nothing and may be joined
+ *
+ * Answers where the layout breaks each of three promises:
+ *
+ *   grows   it may grow at its end: no X, no @, no `*`, no count of 0, and within the limits
+ *   keeps   reading loses nothing: only a, integers and q Q, b B with counts that 8 divides and h H with even counts;
+ *           no `*`, no count of 0, and within the limits
+ *   joins   it may be joined with other such layouts: no X, no @
+ *
+ * The limits are at most CURLEW_MAX_SLOTS fields that take a slot, and a record of at most CURLEW_MAX_RECORD bytes,
+ * those that x fills counted. Past them every packing is refused, so there would be no record of which grows or keeps
+ * could speak; within them there always is one. The first field past a limit breaks both.
+ *
+ * RUNS
+ *
+ * Reads layout. Writes reply.
+ *
+ * REPLY
+ *
+ * CURLEW_PROMISES_REPLY (16) bytes, four numbers: CURLEW_OK, grows, keeps, joins. Each of the three is CURLEW_NOWHERE
+ * where the promise is kept, and else the byte of the layout at which the first field stands that breaks it. The
+ * layout `a6 A12 Su` answers CURLEW_NOWHERE, 3, CURLEW_NOWHERE: it may grow and be joined, and byte 3, the A, drops
+ * blanks. `a32768 c` answers 7, 7, CURLEW_NOWHERE: with the c its record would be too long. curlew_get_answer gets
+ * grows and keeps, as first and second, and curlew_get_joins the third.
+ *
+ * REFUSALS
+ *
+ * A layout that packing would refuse is refused just so: CURLEW_BAD_SIZE; then CURLEW_BAD_TYPE, CURLEW_BAD_COUNT and
+ * CURLEW_BAD_MOVE for each field in turn.
+ *
+ * EXAMPLES
+ *
+ *   number = curlew_promises(layout, strlen(layout), reply, CURLEW_PROMISES_REPLY);
+ *   grows = number == CURLEW_OK && curlew_get_answer(reply).first == CURLEW_NOWHERE;
+ */
 uint32_t curlew_promises(const void *layout, size_t layout_len,
                          uint8_t *reply, size_t reply_len);
 
-/* Says whether the new layout is the old one with fields added at its end. Writes reply. */
+/*
+ * curlew_extends - says whether a layout is another one with fields added
+ *
+ * Takes last year's layout and this year's. It accepts the two where the new one is the old one with fields added at
+ * its end, or with none, and is one that may grow (see curlew_promises). Then all is well between the years: either
+ * layout reads the records of both, whole or cut, and gives every field that is whole with its value.
+ *
+ * Fields count and not the text: two are the same where they agree in type, flag and count. `c3 su` and `c03su` have
+ * the same fields; `c` is not `c1`, since without a count a slot holds exactly one integer.
+ *
+ * What was added year after year may be asked for each year alone: where this year's layout extends last year's, and
+ * next year's this year's, next year's extends last year's, too.
+ *
+ * RUNS
+ *
+ * Reads both layouts. Writes reply.
+ *
+ * REPLY
+ *
+ * CURLEW_EXTENDS_REPLY (16) bytes, four numbers: CURLEW_OK, fields of the old layout, fields added, 0. The fourth
+ * number of a refusal says in which layout the place lies: 0 in the old one, 1 in the new one (curlew_get_which).
+ *
+ * REFUSALS
+ *
+ * The layouts that packing would refuse, the old one first. Then CURLEW_OTHER_FIELDS for a new layout that does not
+ * begin with the old one's fields, at its first field that differs, or at its length where it has too few. Then one
+ * that may not grow: CURLEW_NOT_PLAIN at its first X, @, `*` or count of 0; CURLEW_BAD_SLOTS at the first field that
+ * takes a slot more than CURLEW_MAX_SLOTS; CURLEW_NO_ROOM at the first field that ends past CURLEW_MAX_RECORD bytes.
+ *
+ *   curlew_extends("A8 S2", 5, "A8 S2 S", 7, reply, sizeof reply)     CURLEW_OK, 2, 1, 0
+ *   curlew_extends("A8 S2", 5, "A8 S3", 5, reply, sizeof reply)       CURLEW_OTHER_FIELDS, 3, 0, 1
+ *   curlew_extends("A8 S2", 5, "A8 S2 c*", 8, reply, sizeof reply)    CURLEW_NOT_PLAIN, 6, 0, 1
+ *   curlew_extends("S2", 2, "S2 a32768", 9, reply, sizeof reply)      CURLEW_NO_ROOM, 3, 0, 1
+ *
+ * EXAMPLES
+ *
+ *   number = curlew_extends(layout, strlen(layout), new_layout, strlen(new_layout), reply, CURLEW_EXTENDS_REPLY);
+ *   added = number == CURLEW_OK ? curlew_get_answer(reply).second : 0;
+ */
 uint32_t curlew_extends(const void *old_layout, size_t old_layout_len,
                         const void *new_layout, size_t new_layout_len,
                         uint8_t *reply, size_t reply_len);
+
+/*
+ * curlew_from_perl - turns a pack template of Perl into a layout
+ *
+ * Writes the layout that the template stands for into the run `layout`. It takes these letters, each with a count from
+ * 1 to 4,096 or none:
+ *
+ *   Perl     a   b   B   h   H   x   C    n    N    v    V
+ *   layout   a   b   B   h   H   x   cu   Su   Iu   su   iu
+ *
+ * and groups: items in brackets, one at least, with a number of times from 1 to 64 or none behind the bracket, at
+ * most 8 inside one another. `(n2a3)2 C` becomes `Su2a3Su2a3cu`. An item may have spaces on both sides, but none
+ * before its count; numbers have no leading zeros. A count makes one list: `n2` takes one slot of two
+ * integers. The other letters of Perl are refused, also `A`, which strips other characters there. An empty
+ * template is the empty layout. Bytes of the run behind the layout stay as they were.
+ *
+ * RUNS
+ *
+ * Reads perl_template. Writes layout and reply.
+ *
+ * REPLY
+ *
+ * CURLEW_PERL_REPLY (12) bytes: CURLEW_OK, the length of the layout, 0.
+ *
+ * REFUSALS
+ *
+ * In this order: CURLEW_BAD_SIZE; CURLEW_BAD_TEMPLATE at the first byte with which no template goes on, or at the
+ * template's length where it ends inside a group; CURLEW_NO_ROOM where the layout is longer than its run or than
+ * CURLEW_MAX_LAYOUT.
+ *
+ * EXAMPLES
+ *
+ *   number = curlew_from_perl("a6 (n)3", 7, made, sizeof made, reply, CURLEW_PERL_REPLY);
+ *   length = number == CURLEW_OK ? curlew_get_answer(reply).first : 0;
+ */
+uint32_t curlew_from_perl(const void *perl_template, size_t perl_template_len,
+                          void *layout, size_t layout_len,
+                          uint8_t *reply, size_t reply_len);
+
+/*
+ * curlew_version - gives the version of the library
+ *
+ * Returns the CURLEW_VERSION_NUMBER of the header that the library was made with: 1,000 times the first part of the
+ * version plus the second. A program that loads the shared object may look whether it is the one that it was compiled
+ * for. A library with the same first part, and a second that is not smaller, serves it.
+ *
+ * RUNS
+ *
+ * None. There is no reply.
+ *
+ * EXAMPLES
+ *
+ *   served = curlew_version() / 1000 == CURLEW_VERSION_NUMBER / 1000 && curlew_version() >= CURLEW_VERSION_NUMBER;
+ */
+uint32_t curlew_version(void);
 
 #ifdef __cplusplus
 }
@@ -752,7 +978,7 @@ struct curlew_finding {
     uint32_t bits;
 };
 
-/* A field's eight numbers: see A LAYOUT'S FIELDS. */
+/* A field's eight numbers: see curlew_fields. */
 struct curlew_field {
     uint32_t place;
     uint32_t length;

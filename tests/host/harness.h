@@ -57,11 +57,34 @@ static MAYBE void add_slot(struct values *v, uint32_t kind, size_t start, size_t
     curlew_put_number(slot + 12, CURLEW_NO_POSITION);
 }
 
+/* The values so far as a table to add to, with the room that is really there: some are to be past the limits. */
+static MAYBE struct curlew_table table_of(struct values *v)
+{
+    struct curlew_table table;
+
+    table.slots = v->slots;
+    table.slots_room = sizeof v->slots;
+    table.slots_used = v->count * CURLEW_SLOT_SIZE;
+    table.area = v->area;
+    table.area_room = sizeof v->area;
+    table.area_used = v->used;
+    table.full = 0;
+    return table;
+}
+
+static MAYBE void take_table(struct values *v, const struct curlew_table *table)
+{
+    check(!table->full, "values of a test", "room");
+    v->count = curlew_table_count(table);
+    v->used = table->area_used;
+}
+
 static MAYBE void add_bytes(struct values *v, const void *bytes, size_t len)
 {
-    memcpy(v->area + v->used, bytes, len);
-    add_slot(v, CURLEW_STRING, v->used, len);
-    v->used += len;
+    struct curlew_table table = table_of(v);
+
+    curlew_table_add_text(&table, bytes, len);
+    take_table(v, &table);
 }
 
 static MAYBE void add_text(struct values *v, const char *text)
@@ -69,44 +92,49 @@ static MAYBE void add_text(struct values *v, const char *text)
     add_bytes(v, text, strlen(text));
 }
 
+/* Adds room for `count` items. Returns where they go, or NULL where the test has no room for them. */
+static MAYBE uint8_t *add_items(struct values *v, uint32_t kind, size_t count)
+{
+    struct curlew_table table = table_of(v);
+    uint8_t *at = v->area + v->used;
+    int added = curlew_table_add(&table, kind, count, CURLEW_ITEM_SIZE);
+
+    take_table(v, &table);
+    return added ? at : NULL;
+}
+
 /* Adds a list of `count` integers, given as long long. */
 static MAYBE void add_list(struct values *v, uint32_t kind, int count, ...)
 {
+    uint8_t *at = add_items(v, kind, (size_t)count);
     va_list list;
     int i;
 
-    add_slot(v, kind, v->used, (size_t)count);
     va_start(list, count);
-    for (i = 0; i < count; i++) {
-        curlew_put_int(v->area + v->used, va_arg(list, long long));
-        v->used += CURLEW_ITEM_SIZE;
-    }
+    for (i = 0; at != NULL && i < count; i++)
+        curlew_put_int(at + i * CURLEW_ITEM_SIZE, va_arg(list, long long));
     va_end(list);
 }
 
 static MAYBE void add_same(struct values *v, uint32_t kind, size_t count, int64_t value)
 {
+    uint8_t *at = add_items(v, kind, count);
     size_t i;
 
-    add_slot(v, kind, v->used, count);
-    for (i = 0; i < count; i++) {
-        curlew_put_int(v->area + v->used, value);
-        v->used += CURLEW_ITEM_SIZE;
-    }
+    for (i = 0; at != NULL && i < count; i++)
+        curlew_put_int(at + i * CURLEW_ITEM_SIZE, value);
 }
 
 /* Adds a list of `count` doubles. */
 static MAYBE void add_reals(struct values *v, int count, ...)
 {
+    uint8_t *at = add_items(v, CURLEW_REAL, (size_t)count);
     va_list list;
     int i;
 
-    add_slot(v, CURLEW_REAL, v->used, (size_t)count);
     va_start(list, count);
-    for (i = 0; i < count; i++) {
-        curlew_put_double(v->area + v->used, va_arg(list, double));
-        v->used += CURLEW_ITEM_SIZE;
-    }
+    for (i = 0; at != NULL && i < count; i++)
+        curlew_put_double(at + i * CURLEW_ITEM_SIZE, va_arg(list, double));
     va_end(list);
 }
 

@@ -24,9 +24,10 @@ static uint64_t bits_of(double value)
 /* Adds a list of one double, by its bits: a NaN that signals may not pass through a parameter. */
 static void add_bits(struct values *v, uint64_t bits)
 {
-    add_slot(v, CURLEW_REAL, v->used, 1);
-    curlew_put_uint(v->area + v->used, bits);
-    v->used += CURLEW_ITEM_SIZE;
+    uint8_t *at = add_items(v, CURLEW_REAL, 1);
+
+    if (at != NULL)
+        curlew_put_uint(at, bits);
 }
 
 static const uint64_t infinite = 0x7ff0000000000000u;

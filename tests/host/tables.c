@@ -1,7 +1,7 @@
 /*
  * Host tests of the helpers that build a table and take it apart. Slots and area lie between closed pages, at their low
- * end and at their high end; every byte of both, and of what surrounds them, is compared with what it should be, written
- * out by hand.
+ * end and at their high end; every byte of both, and of what surrounds them, is compared with what it should be. That
+ * is written out by hand.
  */
 #include "harness.h"
 

@@ -27,15 +27,17 @@ static const char digits[] = "11110000101010101100";
 
 static void fill(struct worker *w, uint32_t round)
 {
-    memset(w->area, 'A' + (int)w->number, 8);
-    curlew_put_uint(w->area + 8, round);
-    curlew_put_int(w->area + 16, -(int64_t)round);
-    curlew_put_int(w->area + 24, w->number);
-    memcpy(w->area + 32, digits, 20);
-    curlew_put_slot(w->slots, 0, CURLEW_STRING, 0, 8);
-    curlew_put_slot(w->slots, 1, CURLEW_UNSIGNED, 8, 1);
-    curlew_put_slot(w->slots, 2, CURLEW_SIGNED, 16, 2);
-    curlew_put_slot(w->slots, 3, CURLEW_STRING, 32, 20);
+    struct curlew_table table = curlew_table_over(w->slots, sizeof w->slots, w->area, sizeof w->area);
+    int64_t list[2];
+    char name[8];
+
+    memset(name, 'A' + (int)w->number, sizeof name);
+    list[0] = -(int64_t)round;
+    list[1] = w->number;
+    curlew_table_add_text(&table, name, sizeof name);
+    curlew_table_add_uint(&table, round);
+    curlew_table_add_ints(&table, list, 2);
+    curlew_table_add_text(&table, digits, 20);
 }
 
 static int pack(struct worker *w)

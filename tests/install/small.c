@@ -4,17 +4,19 @@
 
 int main(void)
 {
-    static const uint8_t layout[] = {'S'};
-    uint8_t slot[CURLEW_SLOT_SIZE], area[CURLEW_ITEM_SIZE], record[2];
-    uint8_t packed[CURLEW_PACK_REPLY], reply[CURLEW_READ_REPLY];
+    uint8_t slot[CURLEW_SLOT_SIZE], area[CURLEW_ITEM_SIZE], record[2], reply[CURLEW_READ_REPLY];
+    struct curlew_table table = curlew_table_over(slot, sizeof slot, area, sizeof area);
+    int64_t mark;
 
-    curlew_put_slot(slot, 0, CURLEW_SIGNED, 0, 1);
-    curlew_put_int(area, -417);
-    if (curlew_pack(layout, 1, slot, sizeof slot, area, sizeof area, record, 2, packed, sizeof packed) != CURLEW_OK)
+    curlew_table_add_int(&table, -417);
+    if (curlew_pack("S", 1, table.slots, table.slots_used, table.area, table.area_used, record, sizeof record,
+                    reply, CURLEW_PACK_REPLY) != CURLEW_OK)
         return 1;
-    curlew_put_int(area, 0);
-    if (curlew_read(layout, 1, record, 2, slot, sizeof slot, area, sizeof area, 0, reply, sizeof reply) != CURLEW_OK)
+    curlew_table_clear(&table);
+    if (curlew_read("S", 1, record, sizeof record, table.slots, table.slots_room, table.area, table.area_room, 0,
+                    reply, CURLEW_READ_REPLY) != CURLEW_OK
+        || !curlew_table_use(&table, curlew_get_answer(reply).first, 1) || !curlew_table_int(&table, 0, 0, &mark))
         return 1;
-    printf("%02x%02x %d\n", (unsigned)record[0], (unsigned)record[1], (int)curlew_get_int(area));
+    printf("%02x%02x %d\n", (unsigned)record[0], (unsigned)record[1], (int)mark);
     return 0;
 }

@@ -10,6 +10,8 @@ ghost use Rattle.host_perl.specs.Calls.{HostConverts};
 ghost use Rattle.host_describe.specs.Calls.{HostDescribes};
 ghost use Rattle.host_fields.specs.Calls.{HostLists};
 ghost use Rattle.host_promises.specs.Calls.{HostPromises, HostExtends};
+ghost use Rattle.curlew.specs.Version.{version};
+ghost use mathlib.Core.Path.{_≡_};
 
 // Packs the arguments into `out` by the layout (Tcl's `binary format`).
 #[no_mangle]
@@ -156,4 +158,12 @@ pub extern "C" fn curlew_extends(old: &[u8], new: &[u8], reply: &mut [u8]) -> u3
     ensures { λ r. ⌜ HostExtends old new reply r ⌝ }
 {
     host_promises::extends(old, new, reply)
+}
+
+// The version of the library, for a program that was compiled with one header and runs with another archive.
+#[no_mangle]
+pub extern "C" fn curlew_version() -> u32
+    ensures { λ r. ⌜ r ≡ version ⌝ }
+{
+    2001
 }

@@ -1,0 +1,2 @@
+-- What the calls say of the library itself.
+pub mod Version
