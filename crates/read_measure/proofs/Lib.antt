@@ -2,3 +2,4 @@
 pub mod Run
 mod Measured
 pub mod Room
+pub mod Bounds

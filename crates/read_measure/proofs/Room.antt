@@ -25,7 +25,7 @@ use Rattle.values.proofs.Loads.{text-bytes, digits-bytes, items-few, integers-e
 
 -- ---- one value
 
-part-short : (n at : ℕ) (bs : List ℕ) → length (part bs at n) ≤ n
+pub part-short : (n at : ℕ) (bs : List ℕ) → length (part bs at n) ≤ n
 part-short n at bs = simp (length-take, length-drop) (omega arith)
 
 trimmed-by : (c : ℕ) (cs ds : List ℕ) → trimmed cs ≡ ds → length ds ≤ length cs → length (trimmed (c ∷ cs)) ≤ suc (length cs)
@@ -42,7 +42,7 @@ unfolding trimmed
 trimmed-short [] = omega arith
 trimmed-short (c ∷ cs) = trimmed-by c cs (trimmed cs) refl (trimmed-short cs)
 
-text-short : (pad n : ℕ) (bs : List ℕ) → length bs ≤ n → length (loaded (Text pad) false n bs .items) ≤ n
+pub text-short : (pad n : ℕ) (bs : List ℕ) → length bs ≤ n → length (loaded (Text pad) false n bs .items) ≤ n
 unfolding loaded
 text-short pad n bs h = kept (eqb pad 32)
   where
@@ -50,7 +50,7 @@ text-short pad n bs h = kept (eqb pad 32)
     kept true = omega (arith, trimmed-short bs)
     kept false = h
 
-digits-short : (hex high : Bool) (n : ℕ) (bs : List ℕ) → length (loaded (Digits hex high) false n bs .items) ≤ n
+pub digits-short : (hex high : Bool) (n : ℕ) (bs : List ℕ) → length (loaded (Digits hex high) false n bs .items) ≤ n
 unfolding loaded
 digits-short hex high n bs = simp length-take (omega arith)
 
@@ -68,11 +68,11 @@ value-room bs at (Reals single big) u n h =
 
 -- ---- the values of the run
 
-word-fits : (w : ℕ) → FitCode (fieldOf w .code)
+pub word-fits : (w : ℕ) → FitCode (fieldOf w .code)
 unfolding fieldOf
 word-fits w = known-fits (typeNumbered (w % flagUnit)) (type-fits (w % flagUnit))
 
-found-room : (t : Bool) (v : Value) (vs : List Value) (k m : ℕ) → (t ≡ true → length (areaBytes v) ≤ k) → length (valueBytes vs) ≤ m → length (valueBytes (if t then v ∷ vs else [])) ≤ k + m
+pub found-room : (t : Bool) (v : Value) (vs : List Value) (k m : ℕ) → (t ≡ true → length (areaBytes v) ≤ k) → length (valueBytes vs) ≤ m → length (valueBytes (if t then v ∷ vs else [])) ≤ k + m
 unfolding valueBytes join
 found-room true v vs k m h l = rw length-append (omega (arith, h refl))
 found-room false v vs k m h l = omega arith

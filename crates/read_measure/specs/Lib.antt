@@ -1,2 +1,3 @@
 -- What contracts of this crate cite.
 pub mod Run
+pub mod Bounds

@@ -1,10 +1,11 @@
 -- What each way out of a reading by the fields of the words leaves.
-use Prim.Native.Nat.{ℕ, _-_, _*_, _/_, _≤_}
+use Prim.Native.Nat.{ℕ, _-_, _*_, _/_, _≤_, _<_}
+use native.Mathlib.Nat.{le-trans}
 use native.Mathlib.Omega.{arith}
-use mathlib.Core.Path.{_≡_, sym, ap, _∙_}
-use mathlib.Core.Bool.{true}
+use mathlib.Core.Path.{_≡_, refl, sym, ap, _∙_}
+use mathlib.Core.Bool.{Bool, true, false, _||_}
 use mathlib.Core.List.{List}
-use borrow.Author.Tests.{leb-true, eq-eqb, ne-eqb, le-ltb}
+use borrow.Author.Tests.{leb-true, le-leb, lt-leb, eq-eqb, ne-eqb, le-ltb}
 use lib.Dec.{leb}
 use lib.ListN.{length}
 use Rattle.layout.specs.Words.{decoded}
@@ -15,11 +16,13 @@ use Rattle.record.specs.Reading.{ReadAll}
 use Rattle.record.proofs.Readings.{values-few}
 use Rattle.read_measure.specs.Run.{valuesOf}
 use Rattle.reading.specs.Tables.{putAll, TableRoom}
+use Rattle.read_measure.specs.Bounds.{valueBound}
 use Rattle.read_measure.proofs.Room.{values-room}
+use Rattle.read_measure.proofs.Bounds.{values-bound}
 use Rattle.checking.specs.Sizes.{surelyFits}
 use Rattle.checking.specs.Checks.{fitting}
 use Rattle.checking.proofs.Calls.{fitting-cases}
-use Rattle.read_words.specs.Words.{Ready, readFitting, readWords}
+use Rattle.read_words.specs.Words.{Ready, surelyRead, readFitting, readWords}
 
 module _ (a : Answer) (all : ReadAll) (slots area : List ℕ) where
   pub by-refusal : (a .number ≡ 0 → ⊥) → readFitting a all slots area ≡ record { answer = record { answer = a; steps = 0 }; slots = slots; area = area }
@@ -27,6 +30,25 @@ module _ (a : Answer) (all : ReadAll) (slots area : List ℕ) where
 
   pub by-accepted : a .number ≡ 0 → readFitting a all slots area ≡ all
   by-accepted h = rw (eq-eqb (a .number) 0 h)
+
+either {ℓ} : {X : Type ℓ} (a b : Bool) → (a || b) ≡ true → (a ≡ true → X) → (b ≡ true → X) → X
+either true b h f g = f refl
+either false b h f g = g h
+
+-- the test of `surely_read`, as it goes
+module _ (n taken : ℕ) (ws : List ℕ) (bytes slots room : ℕ) {t : Bool} (e : t ≡ surelyFits n taken bytes slots room) where
+  pub by-lengths : t ≡ true → true ≡ surelyRead n taken ws bytes slots room
+  unfolding surelyRead
+  by-lengths h = rw (sym e ∙ h)
+
+  module _ (h : t ≡ false) where
+    pub by-slots : slots / slotWidth < taken → false ≡ surelyRead n taken ws bytes slots room
+    unfolding surelyRead
+    by-slots l = rw (sym e ∙ h, lt-leb _ _ l)
+
+    pub by-fields : {m : ℕ} → taken ≤ slots / slotWidth → m ≡ valueBound bytes (decoded n ws) → leb m room ≡ surelyRead n taken ws bytes slots room
+    unfolding surelyRead
+    by-fields l q = rw (sym e ∙ h, le-leb _ _ l, q)
 
 module _ {n taken : ℕ} {ws bs slots area : List ℕ} {mark : ℕ} (k : Ready n taken ws bs slots area mark) where
   module _ (rows : taken ≤ length slots / slotWidth) (size : length (valueBytes (valuesOf n ws bs)) ≤ length area - mark) where
@@ -53,6 +75,23 @@ module _ {n taken : ℕ} {ws bs slots area : List ℕ} {mark : ℕ} (k : Ready n
 
     pub sure-put : {e : ReadAll} → e ≡ putAll n ws bs slots area mark → e ≡ readWords n taken ws bs slots area mark
     sure-put q = words-put sure-rows sure-size q
+
+  -- by the lengths alone or by the fields
+  surely {ℓ} : {X : Type ℓ} → surelyRead n taken ws (length bs) (length slots) (length area - mark) ≡ true → (taken ≤ length slots / slotWidth → length (valueBytes (valuesOf n ws bs)) ≤ length area - mark → X) → X
+  unfolding surelyRead
+  surely t f =
+      either (surelyFits n taken (length bs) (length slots) (length area - mark)) _ t
+      (λ h. f (sure-rows h) (sure-size h))
+      (λ h.
+      let (rows, size) = and-true (leb taken (length slots / slotWidth)) (leb (valueBound (length bs) (decoded n ws)) (length area - mark)) h in
+      f (leb-true taken (length slots / slotWidth) rows) (le-trans (values-bound n ws bs) (leb-true _ _ size)))
+
+  module _ (t : surelyRead n taken ws (length bs) (length slots) (length area - mark) ≡ true) where
+    pub surely-room : TableRoom (valuesOf n ws bs) slots area mark
+    surely-room = surely t (λ h l. table-room h l)
+
+    pub surely-put : {e : ReadAll} → e ≡ putAll n ws bs slots area mark → e ≡ readWords n taken ws bs slots area mark
+    surely-put q = surely t (λ h l. words-put h l q)
 
   -- and by the answer of `fits`
   module _ {r : Answer} (e : r ≡ fitting (length slots) taken (length area - mark) (length (valueBytes (valuesOf n ws bs)))) where

@@ -1,8 +1,9 @@
 -- A reading by the fields of the words: once the fields are known.
-use Prim.Native.Nat.{ℕ, _-_, _*_, _≤_}
+use Prim.Native.Nat.{ℕ, _-_, _*_, _/_, _≤_}
 use mathlib.Core.Path.{_≡_}
+use mathlib.Core.Bool.{Bool, _&&_, _||_}
 use mathlib.Core.List.{List}
-use lib.Dec.{eqb}
+use lib.Dec.{eqb, leb}
 use lib.ListN.{length}
 use Rattle.layout.specs.Refusals.{if_then_else_}
 use Rattle.layout.specs.Layout.{maxLayout, slotCount}
@@ -13,7 +14,9 @@ use Rattle.record.specs.declared.ReadAnswer.{ReadAnswer}
 use Rattle.record.specs.Table.{slotWidth, maxSlots, maxRecord, maxArea, valueBytes}
 use Rattle.record.specs.Reading.{ReadAll}
 use Rattle.read_measure.specs.Run.{valuesOf}
+use Rattle.read_measure.specs.Bounds.{valueBound}
 use Rattle.reading.specs.Tables.{putAll}
+use Rattle.checking.specs.Sizes.{surelyFits}
 use Rattle.checking.specs.Checks.{fitting}
 
 -- the first n words hold the fields, of which so many take a slot, and what is lent keeps to its size
@@ -25,6 +28,10 @@ pub record Ready (n taken : ℕ) (words bs slots area : List ℕ) (mark : ℕ) :
   pub table : length slots ≤ slotWidth * maxSlots
   pub limit : length area ≤ maxArea
   pub start : mark ≤ length area
+
+-- their values fit whatever a record of so many bytes holds: by the lengths alone, or by the fields
+unfoldable pub surelyRead : ℕ → ℕ → List ℕ → ℕ → ℕ → ℕ → Bool
+surelyRead n taken words bytes slots room = surelyFits n taken bytes slots room || (leb taken (slots / slotWidth) && leb (valueBound bytes (decoded n words)) room)
 
 -- what it leaves: their values put in, if they fit
 abbrev pub readFitting : Answer → ReadAll → List ℕ → List ℕ → ReadAll

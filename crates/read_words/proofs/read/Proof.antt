@@ -1,20 +1,20 @@
 -- The values fit surely, or as `fits` tells: what is left is the law of that way out.
 use mathlib.Core.Path.{sym, _∙_}
 use borrow.Author.Needs.{needs}
-use Rattle.read_words.proofs.Calls.{sure-room, sure-put, unfit-left, fit-room, fit-put}
+use Rattle.read_words.proofs.Calls.{surely-room, surely-put, unfit-left, fit-room, fit-put}
 use Rattle.read_words.proofs.read.Statement.{statement}
 use Rattle.read_words.proofs.read.Tie as tie
 
-sub-surely-fits : tie.Need-sub-surely-fits
-sub-surely-fits c = search needs
+sub-surely-read : tie.Need-sub-surely-read
+sub-surely-read c = search needs
 
-surely-fits-requires : tie.Need-surely-fits-requires
-surely-fits-requires c κs = search needs
+surely-read-requires : tie.Need-surely-read-requires
+surely-read-requires c κs = search needs
 
 fill-requires : tie.Need-fill-requires
 fill-requires c κs =
     let k = c .before .before .before .before .before .before .before .before .pre in
-    ((k .few, k .room, k .whole), sure-room k (sym (c .before .before .before .surely-fits .ensures) ∙ c .before .before .if1 .taken))
+    ((k .few, k .room, k .whole), surely-room k (sym (c .before .before .before .surely-read .ensures) ∙ c .before .before .if1 .taken))
 
 same-length : tie.Need-same-length
 same-length c = search needs
@@ -23,7 +23,7 @@ same-length-2 : tie.Need-same-length-2
 same-length-2 c = search needs
 
 returns : tie.Need-returns
-returns c = sure-put (c .before .before .before .before .before .before .before .before .before .before .before .before .before .pre) (sym (c .before .before .before .before .before .before .before .before .surely-fits .ensures) ∙ c .before .before .before .before .before .before .before .if1 .taken) (c .before .before .before .before .fill .ensures)
+returns c = surely-put (c .before .before .before .before .before .before .before .before .before .before .before .before .before .pre) (sym (c .before .before .before .before .before .before .before .before .surely-read .ensures) ∙ c .before .before .before .before .before .before .before .if1 .taken) (c .before .before .before .before .fill .ensures)
 
 sub-fits : tie.Need-sub-fits
 sub-fits c = search needs
@@ -52,8 +52,8 @@ pub read-spec : {M : Type 1} → statement M
 read-spec =
     tie.close
     (tie.spec
-    sub-surely-fits
-    surely-fits-requires
+    sub-surely-read
+    surely-read-requires
     fill-requires
     same-length
     same-length-2
