@@ -104,12 +104,17 @@ pub fn next_byte(area: &[u8], start: usize, have: usize, i: usize, hex: bool, hi
     0
 }
 
-// The number that four binary digits make, from their characters: one product moves each to its place.
-fn gathered(x: usize) -> usize
+// The number that four binary digits make, from their characters: one product moves each to its place, in either order.
+fn gathered(x: usize, high: bool) -> usize
     requires { ⌜ (x < 4294967296) × DigitsAt false (digits 256 4 x) 0 4 ⌝ }
-    ensures { λ r. ⌜ (r < 16) × (r ≡ number 2 (map digitValue (digits 256 4 x))) ⌝ }
+    ensures { λ r. ⌜ (r < 16) × (r ≡ number 2 (ordered high (map digitValue (digits 256 4 x)))) ⌝ }
 {
-    ((x - 0x30303030) * 0x01020408 / 16777216) % 16
+    let four = x - 0x30303030;
+    if high {
+        four * 0x08040201 / 16777216 % 16
+    } else {
+        four * 0x01020408 / 16777216 % 16
+    }
 }
 
 // The byte that eight binary digits make.
@@ -117,8 +122,8 @@ pub fn eight_at(area: &[u8], at: usize, high: bool) -> u8
     requires { ⌜ (at + 8 ≤ length (now area)) × DigitsAt false (now area) at 8 ⌝ }
     ensures { λ r. ⌜ r ≡ byteOf false high (valuesAt (before area) at 8) ⌝ }
 {
-    let a = gathered(byte_runs::four_at(area, at, high));
-    let b = gathered(byte_runs::four_at(area, at + 4, high));
+    let a = gathered(byte_runs::four_at(area, at, false), high);
+    let b = gathered(byte_runs::four_at(area, at + 4, false), high);
     if high {
         (a * 16 + b) as u8
     } else {

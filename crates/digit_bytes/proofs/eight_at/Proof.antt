@@ -1,10 +1,6 @@
 -- Two numbers of four digits each make the byte.
 use Prim.Native.Nat.{_+_}
-use mathlib.Core.Path.{ap, _∙_}
-use mathlib.Core.List.{map}
 use native.Mathlib.Omega.{arith}
-use Rattle.record.specs.Bytes.{number}
-use Rattle.record.specs.Packing.{digitValue}
 use Rattle.digit_bytes.proofs.DigitEights.{four-of, eight-low, eight-high}
 use borrow.Author.Needs.{needs}
 use Rattle.digit_bytes.proofs.eight_at.Statement.{statement}
@@ -17,7 +13,7 @@ gathered-requires : tie.Need-gathered-requires
 gathered-requires c κs =
     let start = c .before .before in
     let a = start .args in
-    (c .four-at .ensures .0, four-of (a .high) (a .area .now) (a .at) (a .at) 0 (start .pre .0) (omega arith) (omega arith) (start .pre .1) (c .four-at .ensures .1))
+    (c .four-at .ensures .0, four-of (a .area .now) (a .at) (a .at) 0 (omega arith) (omega arith) (start .pre .1) (c .four-at .ensures .1))
 
 add-four-at : tie.Need-add-four-at
 add-four-at c = search needs
@@ -29,7 +25,7 @@ gathered-requires-2 : tie.Need-gathered-requires-2
 gathered-requires-2 c κs =
     let start = c .before .before .before .before in
     let a = start .args in
-    (c .four-at2 .ensures .0, four-of (a .high) (a .area .now) (a .at) (a .at + 4) 4 (start .pre .0) (omega arith) (omega arith) (start .pre .1) (c .four-at2 .ensures .1))
+    (c .four-at2 .ensures .0, four-of (a .area .now) (a .at) (a .at + 4) 4 (omega arith) (omega arith) (start .pre .1) (c .four-at2 .ensures .1))
 
 mul-result : tie.Need-mul-result
 mul-result c = search needs
@@ -53,17 +49,19 @@ returns : tie.Need-returns
 returns c =
     let start = c .before .before .before .before .before .before in
     let a = start .args in
-    rw (c .if1 .taken)
-    (eight-high (a .area .now) (a .at) (start .pre .0) (c .before .before .before .gathered .ensures .1 ∙ ap (λ l. number 2 (map digitValue l)) (rw (c .if1 .taken) at (c .before .before .before .before .four-at .ensures .1)))
-    (c .before .gathered2 .ensures .1 ∙ ap (λ l. number 2 (map digitValue l)) (rw (c .if1 .taken) at (c .before .before .four-at2 .ensures .1))))
+    let high = c .if1 .taken in
+    let one = rw (high, c .before .before .before .before .four-at .ensures .1) at (c .before .before .before .gathered .ensures .1) in
+    let two = rw (high, c .before .before .four-at2 .ensures .1) at (c .before .gathered2 .ensures .1) in
+    rw high (eight-high (a .area .now) (a .at) (start .pre .0) one two)
 
 returns-2 : tie.Need-returns-2
 returns-2 c =
     let start = c .before .before .before .before .before .before in
     let a = start .args in
-    rw (c .if1 .left)
-    (eight-low (a .area .now) (a .at) (start .pre .0) (c .before .before .before .gathered .ensures .1 ∙ ap (λ l. number 2 (map digitValue l)) (rw (c .if1 .left) at (c .before .before .before .before .four-at .ensures .1)))
-    (c .before .gathered2 .ensures .1 ∙ ap (λ l. number 2 (map digitValue l)) (rw (c .if1 .left) at (c .before .before .four-at2 .ensures .1))))
+    let low = c .if1 .left in
+    let one = rw (low, c .before .before .before .before .four-at .ensures .1) at (c .before .before .before .gathered .ensures .1) in
+    let two = rw (low, c .before .before .four-at2 .ensures .1) at (c .before .gathered2 .ensures .1) in
+    rw low (eight-low (a .area .now) (a .at) (start .pre .0) one two)
 
 pub eight-at-spec : {M : Type 1} → statement M
 eight-at-spec =
