@@ -7,7 +7,7 @@ use mathlib.Core.Path.{_≡_, sym, ap, _∙_}
 use mathlib.Core.Bool.{Bool, true, false}
 use mathlib.Core.List.{List, _++_, map, map-append, reverse, reverse-append}
 use lib.ListN.{length, take, getD, length-map}
-use lib.Seq.{getD-take, length-take-le}
+use lib.Seq.{length-take-le}
 use Rattle.record.specs.Bytes.{storeAt, digits, number, ordered}
 use Rattle.record.specs.Geometry.{base, perByte}
 use Rattle.record.specs.Reading.{digitChar}
@@ -79,12 +79,11 @@ length-chars hex high b = simp (length-map, length-ordered, length-digits)
 pub length-first : (hex high : Bool) (b count : ℕ) → count ≤ perByte hex → length (take count (charsOf hex high b)) ≡ count
 length-first hex high b count h = length-take-le count (charsOf hex high b) (omega (arith, length-chars hex high b))
 
--- the character that a turn writes
-pub char-turn : (hex high : Bool) (b count j p q x d v : ℕ) → j < count → count ≤ perByte hex → p ≡ perByte hex → q ≡ placeOf high p j → x ≡ b
-    → d ≡ getD (digits (base hex) (perByte hex) x) q 0 → v ≡ digitChar d → v ≡ getD (take count (charsOf hex high b)) j 0
+-- the character of a digit that was found at its place
+pub char-found : (hex high : Bool) (b j p q x d v : ℕ) → j < perByte hex → p ≡ perByte hex → q ≡ placeOf high p j → x ≡ b → d ≡ getD (digits (base hex) (perByte hex) x) q 0 → v ≡ digitChar d → v ≡ getD (charsOf hex high b) j 0
 unfolding charsOf
-char-turn hex high b count j p q x d v h k ep eq ex ed ev =
+char-found hex high b j p q x d v h ep eq ex ed ev =
     let ds : List ℕ = digits (base hex) (perByte hex) b in
     let long : length ds ≡ perByte hex = length-digits (base hex) (perByte hex) b in
-    let at : getD (ordered high ds) j 0 ≡ d = ordered-at high (perByte hex) ds j long (omega arith) ∙ rw (ed, eq, ep, ex) in
-    rw (getD-take count (map digitChar (ordered high ds)) j 0 h, map-at digitChar (ordered high ds) j (omega (arith, length-ordered high ds)), at) ev
+    let at : getD (ordered high ds) j 0 ≡ d = ordered-at high (perByte hex) ds j long h ∙ rw (ed, eq, ep, ex) in
+    rw (map-at digitChar (ordered high ds) j (omega (arith, length-ordered high ds)), at) ev

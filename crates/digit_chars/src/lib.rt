@@ -32,17 +32,23 @@ fn char_of(d: usize) -> u8
     }
 }
 
+// The character of the digit number j of a byte.
+pub fn char_at(b: u8, j: usize, hex: bool, high: bool) -> u8
+    requires { ⌜ j < perByte hex ⌝ }
+    ensures { λ r. ⌜ r ≡ getD (charsOf hex high b) j 0 ⌝ }
+{
+    let q = digits::place(high, sizes::per_byte(hex), j);
+    char_of(digit_of(byte_runs::wide(b), q, hex))
+}
+
 // Writes the first `count` digits of a byte, one in each turn.
 pub fn write(area: &mut [u8], to: usize, b: u8, count: usize, hex: bool, high: bool)
     requires { ⌜ (count ≤ perByte hex) × (to + count ≤ length (now area)) ⌝ }
     ensures { λ _. ⌜ after area ≡ storeAt (before area) to (take count (charsOf hex high b)) ⌝ }
 {
-    let x = byte_runs::wide(b);
-    let per = sizes::per_byte(hex);
     let mut j = 0;
     while j < count {
-        let q = digits::place(high, per, j);
-        area[to + j] = char_of(digit_of(x, q, hex));
+        area[to + j] = char_at(b, j, hex, high);
         j += 1;
     }
 }

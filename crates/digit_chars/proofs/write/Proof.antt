@@ -1,38 +1,27 @@
 -- The loop keeps that the first j characters are in their place; those that are left are the measure.
 use Prim.Native.Nat.{_-_, _≤_}
-use mathlib.Core.Path.{_∙_}
+use mathlib.Core.Path.{sym, _∙_}
 use native.Mathlib.Omega.{arith}
 use lib.ListN.{take}
+use lib.Seq.{getD-take}
 use Rattle.record.proofs.Stores.{Put, put-none, put-more, put-done}
 use Rattle.digit_chars.specs.Shown.{charsOf}
-use Rattle.digit_chars.proofs.CharLaws.{length-first, char-turn}
+use Rattle.digit_chars.proofs.CharLaws.{length-first}
 use borrow.Author.Needs.{needs}
 use Rattle.digit_chars.proofs.write.Statement.{statement}
 use Rattle.digit_chars.proofs.write.Tie as tie
 
 abbrev Inv-loop : tie.InvT-loop
-Inv-loop area₀ to b count hex high x per j₀ area j = (j ≤ count) × Put area₀ to (take count (charsOf hex high b)) area j
+Inv-loop area₀ to b count hex high j₀ area j = (j ≤ count) × Put area₀ to (take count (charsOf hex high b)) area j
 
 abbrev μ-loop : tie.MeasureT-loop
-μ-loop area₀ to b count hex high x per j₀ area j = count - j
-
-wide-requires : tie.Need-wide-requires Inv-loop μ-loop
-wide-requires c κs = search needs
-
-per-byte-requires : tie.Need-per-byte-requires Inv-loop μ-loop
-per-byte-requires c κs = search needs
+μ-loop area₀ to b count hex high j₀ area j = count - j
 
 loop-holds : tie.Need-loop-holds Inv-loop μ-loop
 loop-holds c = (omega arith, put-none)
 
-place-requires : tie.Need-place-requires Inv-loop μ-loop
-place-requires c κs = search needs
-
-digit-of-requires : tie.Need-digit-of-requires Inv-loop μ-loop
-digit-of-requires c κs = search needs
-
-char-of-requires : tie.Need-char-of-requires Inv-loop μ-loop
-char-of-requires c κs = search needs
+char-at-requires : tie.Need-char-at-requires Inv-loop μ-loop
+char-at-requires c κs = search needs
 
 add-area : tie.Need-add-area Inv-loop μ-loop
 add-area c = search needs
@@ -48,13 +37,11 @@ loop-less c = omega arith
 
 loop-again : tie.Need-loop-again Inv-loop μ-loop
 loop-again c =
-    let start = c .before .before .before .before .before .before .before .before in
+    let start = c .before .before .before .before in
     let a = start .args in
-    let l = c .before .before .before .before .loop in
+    let l = c .before .before .loop in
     let long = length-first (a .hex) (a .high) (a .b) (a .count) (start .pre .0) in
-    let char =
-    char-turn (a .hex) (a .high) (a .b) (a .count) (l .j) _ _ _ _ _ (c .before .before .before .loop-test .taken) (start .pre .0) (c .before .before .before .before .before .per-byte .ensures)
-    (c .before .before .place .ensures .0) (c .before .before .before .before .before .before .wide .ensures .0) (c .before .digit-of .ensures .0) (c .char-of .ensures) in
+    let char = c .char-at .ensures ∙ sym (getD-take (a .count) (charsOf (a .hex) (a .high) (a .b)) (l .j) 0 (c .before .loop-test .taken)) in
     (omega arith, put-more (l .inv .1) (omega arith) (omega arith) char)
 
 same-length : tie.Need-same-length Inv-loop μ-loop
@@ -62,9 +49,9 @@ same-length c = c .before .loop .inv .1 .long
 
 returns : tie.Need-returns Inv-loop μ-loop
 returns c =
-    let start = c .before .before .before .before .before in
+    let start = c .before .before .before in
     let a = start .args in
     put-done (c .before .loop .inv .1) (length-first (a .hex) (a .high) (a .b) (a .count) (start .pre .0) ∙ (omega arith))
 
 pub write-spec : {M : Type 1} → statement M
-write-spec = tie.close (tie.spec Inv-loop μ-loop wide-requires per-byte-requires loop-holds place-requires digit-of-requires char-of-requires add-area slice-write-area add-j loop-less loop-again same-length returns)
+write-spec = tie.close (tie.spec Inv-loop μ-loop loop-holds char-at-requires add-area slice-write-area add-j loop-less loop-again same-length returns)
