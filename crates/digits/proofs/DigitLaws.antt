@@ -7,9 +7,8 @@ use mathlib.Core.Path.{_≡_, refl, sym, _∙_}
 use mathlib.Core.Bool.{Bool, true, false, _&&_, _||_, and-true, and-assoc}
 use mathlib.Core.List.{List, [], _∷_, map, map-append, reverse, reverse-cons}
 use lib.ListN.{length, take, drop, getD, length-drop, length-take}
-use lib.Seq.{getD-drop, getD-take, take-take, take-all, drop-drop}
+use lib.Seq.{getD-drop, getD-take, take-take, take-all}
 use Rattle.record.specs.Bytes.{part, ceilDiv, ordered}
-use Rattle.record.proofs.Bytes.{drop-take}
 use Rattle.record.proofs.Stores.{getD-reverse, length-part}
 use Rattle.digits.specs.Numerals.{placeOf, DigitsAt}
 use lib.Dec.{leb, ltb}
@@ -100,37 +99,12 @@ digits-at hex area start len n fits e i h =
     let is : getD cs i 0 ≡ getD area (start + i) 0 = getD-take (min n len) (drop start area) i 0 h ∙ getD-drop start area i 0 in
     rw is at (all-at hex cs (rw take-min at e) i (omega (arith, length-part (min n len) start area (omega arith))))
 
-all-past : (hex : Bool) (k : ℕ) (cs : List ℕ) → allDigits hex cs ≡ true → allDigits hex (drop k cs) ≡ true
-unfolding allDigits
-all-past hex zero cs e = e
-all-past hex (suc k) [] e = e
-all-past hex (suc k) (c ∷ cs) e = all-past hex k cs (and-both (ltb (digitValue c) (base hex)) (allDigits hex cs) e .1)
-
-all-first : (hex : Bool) (k : ℕ) (cs : List ℕ) → allDigits hex cs ≡ true → allDigits hex (take k cs) ≡ true
-unfolding allDigits
-all-first hex zero cs e = refl
-all-first hex (suc k) [] e = e
-all-first hex (suc k) (c ∷ cs) e =
-    let parts = and-both (ltb (digitValue c) (base hex)) (allDigits hex cs) e in
-    rw (parts .0, all-first hex k cs (parts .1))
-
--- what the check of n digits says of the first k, and of those from the number k on
-pub all-fewer : (hex : Bool) (cs : List ℕ) (n k : ℕ) → k ≤ n → allDigits hex (take n cs) ≡ true → allDigits hex (take k cs) ≡ true
-all-fewer hex cs n k h e = rw (take-take k n cs h) at (all-first hex k (take n cs) e)
-
-pub all-rest : (hex : Bool) (cs : List ℕ) (n k : ℕ) → allDigits hex (take n cs) ≡ true → allDigits hex (take (n - k) (drop k cs)) ≡ true
-all-rest hex cs n k e = rw (drop-take k n cs) at (all-past hex k (take n cs) e)
-
 -- ---- the digits of a byte
 
 -- the turns of a loop over n digits that takes a byte a turn
 pub more-bytes : (hex : Bool) (n k : ℕ) → k * perByte hex < n → k < ceilDiv n (perByte hex)
 more-bytes true n k h = omega arith
 more-bytes false n k h = omega arith
-
-pub no-more-bytes : (hex : Bool) (n k : ℕ) → n ≤ k * perByte hex → ceilDiv n (perByte hex) ≤ k
-no-more-bytes true n k h = omega arith
-no-more-bytes false n k h = omega arith
 
 pub per-byte : (hex : Bool) → (0 < perByte hex) × (perByte hex ≤ 8)
 per-byte true = omega arith

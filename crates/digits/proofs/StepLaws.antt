@@ -1,16 +1,19 @@
 -- How far a field of binary digits is after k steps: a whole byte is done in each of the first n/8, and one digit in each of the next n%8.
 use Prim.Native.Nat.{ℕ, zero, suc, _+_, _-_, _*_, _/_, _%_, _≤_, _<_, min}
-use native.Mathlib.Nat.{zero-add, suc-add}
+use native.Mathlib.Nat.{zero-add, suc-add, add-zero}
+use native.Mathlib.Numerals.{add-one}
 use native.Mathlib.Omega.{arith}
-use mathlib.Core.Path.{_≡_, refl, ap, _∙_}
-use mathlib.Core.List.{List}
+use mathlib.Core.Path.{_≡_, refl, sym, ap, _∙_}
+use mathlib.Core.List.{List, [], _∷_}
+use lib.ListN.{length, set}
 use lib.Seq.{getD-set-other}
 use borrow.Author.Tests.{lt-ltb, le-ltb, le-leb, lt-leb}
-use Rattle.record.specs.Bytes.{fit, ceilDiv, digits, number}
+use Rattle.record.specs.Bytes.{storeAt, fit, digits, number}
 use Rattle.record.specs.Packing.{digitValue}
 use Rattle.record.specs.Reading.{digitChar}
+use Rattle.record.proofs.Stores.{Put, put-none, put-more, put-done}
 use Rattle.record.proofs.Fields.{split}
-use Rattle.digits.specs.Steps.{Progress, Writing, nextDone, storing, step, steps, binarySteps, binaryBudget, OneByteSet, OneByteSeen, InOneByte, AllDone, NoFewer, SevenNeeded, Settled, Example}
+use Rattle.digits.specs.Steps.{Progress, Writing, nextDone, storing, step, steps, Advanced, binarySteps, binaryBudget, OneByteSet, OneByteSeen, InOneByte, AllDone, NoFewer, SevenNeeded, Settled, Example}
 
 -- ---- one step
 
@@ -63,11 +66,6 @@ done-is write n bytes (suc k) =
     (λ h. ap (λ (q : Progress). q .done) (step-end write n p h) ∙ is ∙ no-more-done n k (omega arith))
     (λ h. ap (λ (q : Progress). q .done) (step-on write n p h) ∙ ap (nextDone n) is ∙ more-done n k (omega arith))
 
--- as the code counts them: m whole bytes, and then single digits
-pub counted : (n budget m last : ℕ) → m ≡ min (n / 8) budget → last ≡ min (n % 8) (budget - m) → (8 * m + last ≡ doneAfter n budget) × (8 * m + last ≤ n) × (m + ceilDiv last 8 ≤ ceilDiv n 8)
-counted n budget m last em el =
-    split (n / 8) budget (λ h. let e : m ≡ n / 8 = omega arith in (omega arith, omega arith, omega arith)) (λ h. let e : m ≡ budget = omega arith in (omega arith, omega arith, omega arith))
-
 -- the digits of a step stand in one byte
 in-byte : (n k : ℕ) → doneAfter n (suc k) ≤ 8 * (doneAfter n k / 8) + 8
 in-byte n k = split (suc k) (n / 8) (λ l. omega arith) (λ l. omega arith)
@@ -112,6 +110,38 @@ pub settled : Settled
 settled write n bytes k h =
     let past : k ≡ (k - binarySteps n) + binarySteps n = omega arith in
     ap (steps write n bytes) past ∙ settled-after write n bytes (k - binarySteps n)
+
+-- ---- the steps by their numbers
+
+-- the step number k, over a whole byte or over one digit behind these
+module _ (write : Writing) (n k : ℕ) (bytes : List ℕ) where
+  next-step : (d e : ℕ) → doneAfter n k ≡ d → nextDone n d ≡ e → d < n → steps write n bytes (k + 1) .bytes ≡ write (steps write n bytes k .bytes) d e
+  unfolding steps
+  next-step d e is next h =
+      let p : Progress = steps write n bytes k in
+      let here : p .done ≡ d = done-is write n bytes k ∙ is in
+      rw add-one (ap (λ (q : Progress). q .bytes) (step-on write n p (omega arith)) ∙ rw (here, next))
+
+  pub whole-step : k < n / 8 → steps write n bytes (k + 1) .bytes ≡ write (steps write n bytes k .bytes) (8 * k) (8 * k + 8)
+  whole-step h = next-step (8 * k) (8 * k + 8) (few n k (omega arith)) (rw (le-leb (8 * k + 8) n (omega arith))) (omega arith)
+
+  pub digit-step : (j : ℕ) → k ≡ n / 8 + j → j < n % 8 → steps write n bytes (k + 1) .bytes ≡ write (steps write n bytes k .bytes) (8 * (n / 8) + j) (8 * (n / 8) + j + 1)
+  digit-step j e h = next-step (8 * (n / 8) + j) (8 * (n / 8) + j + 1) (omega arith) (rw (lt-leb (8 * (n / 8) + j + 8) n (omega arith))) (omega arith)
+
+-- as many as the budget has, and no more than there are
+pub within-budget : (write : Writing) (n budget m : ℕ) {one two : List ℕ} → m ≡ min (binarySteps n) budget → Advanced write n 0 m one two → two ≡ steps write n one budget .bytes
+unfolding steps
+within-budget write n budget m {one} e run =
+    run one refl
+    ∙ split (binarySteps n) budget
+    (λ h. let all : m ≡ binarySteps n = omega arith in ap (λ (p : Progress). p .bytes) (ap (steps write n one) all ∙ sym (settled write n one budget h)))
+    (λ h. let some : m ≡ budget = omega arith in ap (λ (k : ℕ). steps write n one k .bytes) some)
+
+-- one byte is stored by being set
+pub one-set : (d : List ℕ) (at b : ℕ) → at < length d → set d at b ≡ storeAt d at (b ∷ [])
+one-set d at b h =
+    let none : Put d at (b ∷ []) d 0 = put-none in
+    rw add-zero at (put-done (put-more none (omega arith) (omega arith) refl) refl)
 
 pub example : Example
 unfolding steps step fit number digits digitValue digitChar

@@ -54,6 +54,10 @@ unfolding step
 steps write n bytes zero = record { done = 0; bytes = bytes }
 steps write n bytes (suc k) = step write n (steps write n bytes k)
 
+-- bytes `one`, and then bytes `two` after the steps number j to m: where j steps made the former of some bytes, m make the latter of them
+abbrev pub Advanced : Writing → ℕ → ℕ → ℕ → List ℕ → List ℕ → Type 0
+Advanced write n j m one two = (bytes : List ℕ) → one ≡ steps write n bytes j .bytes → two ≡ steps write n bytes m .bytes
+
 -- the steps that n digits take, one for each whole byte and one for each digit that is left; and those that they may take
 abbrev pub binarySteps : ℕ → ℕ
 binarySteps n = n / 8 + n % 8

@@ -1,21 +1,21 @@
 -- Reading out step by step: after any number of steps the characters of the digits that are done stand in the area, since each step writes those of
 -- a part of one byte behind them.
-use Prim.Native.Nat.{ℕ, _+_, _-_, _*_, _/_, _%_, _≤_, _<_, min}
+use Prim.Native.Nat.{ℕ, _+_, _-_, _*_, _/_, _%_, _≤_, _<_}
 use native.Mathlib.Omega.{arith}
 use mathlib.Core.Path.{_≡_, sym, ap, _∙_}
 use mathlib.Core.Bool.{Bool, false}
-use mathlib.Core.List.{List, _++_, map}
-use lib.ListN.{length, take, drop, getD}
-use lib.Seq.{take-add, take-take, take-append-le, drop-drop}
-use Rattle.record.specs.Bytes.{part, storeAt, ceilDiv, join}
-use Rattle.record.proofs.Bytes.{length-join, drop-take, part-at}
+use mathlib.Core.List.{List, [], _∷_}
+use lib.ListN.{length, take, drop, getD, set}
+use lib.Seq.{take-all, drop-cons}
+use Rattle.record.specs.Bytes.{part, storeAt, ceilDiv}
+use Rattle.record.proofs.Bytes.{drop-take, part-at}
 use Rattle.record.proofs.Stores.{length-part}
 use Rattle.digit_chars.specs.Shown.{charsOf}
 use Rattle.digit_chars.proofs.CharLaws.{length-chars}
 use Rattle.byte_runs.proofs.ByteLaws.{part-rest, Grown, grown-none, grown-more, grown-done}
-use Rattle.digits.specs.Steps.{showing, steps, binaryBudget, ShownWithin}
-use Rattle.digits.proofs.StepLaws.{doneAfter, over-steps, counted}
-use Rattle.digits_load.proofs.DigitChars.{shownChars, length-shown, shown-part, shown-is, shown-both, join-append}
+use Rattle.digits.specs.Steps.{showing, steps, Advanced, binaryBudget, ShownWithin}
+use Rattle.digits.proofs.StepLaws.{doneAfter, over-steps, whole-step, digit-step, one-set}
+use Rattle.digits_load.proofs.DigitChars.{shownChars, length-shown, shown-part}
 
 -- a part of a byte's characters, in those of the field
 shown-piece : (high : Bool) (n : ℕ) (bs : List ℕ) (k j count : ℕ) → k < length bs → j + count ≤ 8 → k * 8 + (j + count) ≤ n
@@ -51,44 +51,39 @@ module _ (high : Bool) (bytes : List ℕ) (at to n : ℕ) (area : List ℕ) (fit
       let here : showing high bytes at to r d e ≡ storeAt r (to + d) (part chars d (e - d)) = rw (written d e h k l) in
       rw next at (grown-more (e - d) g (omega (arith, long)) (omega (arith, long)) here))
 
-  pub shown-run : (k : ℕ) → steps (showing high bytes at to) n area k .bytes ≡ storeAt area to (take (doneAfter n k) chars)
-  shown-run k = grown k .is
-
   pub shown-all : steps (showing high bytes at to) n area (binaryBudget n) .bytes ≡ storeAt area to chars
   shown-all = grown-done (grown (binaryBudget n)) (long ∙ (omega arith))
 
-  -- a field of the digits that are done shows the first characters of the whole one
-  pub shown-first : (d : ℕ) → d ≤ n → shownChars false high d (part bytes at (ceilDiv d 8)) ≡ take d chars
-  shown-first d h =
-      let c : ℕ = ceilDiv d 8 in
-      let r : ℕ = ceilDiv n 8 - c in
-      let p : List ℕ = part bytes at c in
-      let q : List ℕ = part bytes (at + c) r in
-      let count : ceilDiv n 8 ≡ c + r = omega arith in
-      let both : part bytes at (c + r) ≡ p ++ q = take-add c r (drop at bytes) ∙ rw (drop-drop c at bytes) in
-      let lp : length p ≡ c = length-part c at bytes (omega arith) in
-      let lx : length (join (map (charsOf false high) p)) ≡ length p * 8 = length-join (charsOf false high) 8 (length-chars false high) p in
-      shown-is high d p
-      ∙ sym
-      (ap (take d) (shown-is high n (part bytes at (ceilDiv n 8)))
-      ∙ rw (take-take d n (join (map (charsOf false high) (part bytes at (ceilDiv n 8)))) h, count, both, join-append (charsOf false high) p q)
-      (take-append-le d (join (map (charsOf false high) p)) (join (map (charsOf false high) q)) (omega arith)))
+-- ---- the step that the code does
 
-  -- m whole bytes and then single digits
-  shown-parts : (m last : ℕ) {d₁ d₂ : List ℕ} → 8 * m + last ≤ n → m + ceilDiv last 8 ≤ ceilDiv n 8 → d₁ ≡ storeAt area to (shownChars false high (8 * m) (part bytes at m))
-      → d₂ ≡ storeAt d₁ (to + 8 * m) (shownChars false high last (part bytes (at + m) (ceilDiv last 8))) → d₂ ≡ storeAt area to (take (8 * m + last) chars)
-  shown-parts m last {d₁} {d₂} within inside one two =
-      let d : ℕ = 8 * m + last in
-      let rest : d - 8 * m ≡ last = omega arith in
-      let back : d₂ ≡ storeAt d₁ (to + 8 * m) (shownChars false high (d - 8 * m) (part bytes (at + m) (ceilDiv (d - 8 * m) 8))) = rw rest two in
-      shown-both high bytes at d m to area (omega arith) (omega arith) (omega arith) one back ∙ ap (storeAt area to) (shown-first d within)
+module _ (high : Bool) (bytes : List ℕ) (at to n k : ℕ) {area area′ : List ℕ} where
+  -- over a whole byte
+  pub eight-shown : k < n / 8 → area′ ≡ storeAt area (to + 8 * k) (charsOf false high (getD bytes (at + k) 0)) → Advanced (showing high bytes at to) n k (k + 1) area area′
+  unfolding charsOf
+  eight-shown h e start same =
+      let byte : 8 * k / 8 ≡ k = omega arith in
+      let first : 8 * k % 8 ≡ 0 = omega arith in
+      let count : 8 * k + 8 - 8 * k ≡ 8 = omega arith in
+      let chars : List ℕ = charsOf false high (getD bytes (at + k) 0) in
+      let all : take 8 chars ≡ chars = take-all 8 chars (omega (arith, length-chars false high (getD bytes (at + k) 0))) in
+      let here : showing high bytes at to area (8 * k) (8 * k + 8) ≡ storeAt area (to + 8 * k) chars = rw (byte, first, count) (ap (storeAt area (to + 8 * k)) all) in
+      e ∙ sym (whole-step (showing high bytes at to) n k start h ∙ ap (λ (r : List ℕ). showing high bytes at to r (8 * k) (8 * k + 8)) (sym same) ∙ here)
 
-  -- as many as the budget allows
-  pub shown-counted : (budget m last : ℕ) {d₁ d₂ : List ℕ} → m ≡ min (n / 8) budget → last ≡ min (n % 8) (budget - m) → d₁ ≡ storeAt area to (shownChars false high (8 * m) (part bytes at m))
-      → d₂ ≡ storeAt d₁ (to + 8 * m) (shownChars false high last (part bytes (at + m) (ceilDiv last 8))) → d₂ ≡ steps (showing high bytes at to) n area budget .bytes
-  shown-counted budget m last em el one two =
-      let (is, within, inside) = counted n budget m last em el in
-      shown-parts m last within inside one two ∙ ap (λ (d : ℕ). storeAt area to (take d chars)) is ∙ sym (shown-run budget)
+  -- over the digit number j of the last
+  pub digit-shown : (j : ℕ) → k ≡ n / 8 + j → j < n % 8 → to + n ≤ length area → area′ ≡ set area (to + 8 * (n / 8) + j) (getD (charsOf false high (getD bytes (at + n / 8) 0)) j 0)
+      → Advanced (showing high bytes at to) n k (k + 1) area area′
+  unfolding charsOf
+  digit-shown j ek h room e start same =
+      let d : ℕ = 8 * (n / 8) + j in
+      let byte : d / 8 ≡ n / 8 = omega arith in
+      let first : d % 8 ≡ j = omega arith in
+      let count : d + 1 - d ≡ 1 = omega arith in
+      let place : to + d ≡ to + 8 * (n / 8) + j = omega arith in
+      let chars : List ℕ = charsOf false high (getD bytes (at + n / 8) 0) in
+      let one : part chars j 1 ≡ getD chars j 0 ∷ [] = rw (drop-cons chars j 0 (omega (arith, length-chars false high (getD bytes (at + n / 8) 0)))) in
+      let here : showing high bytes at to area d (d + 1) ≡ set area (to + 8 * (n / 8) + j) (getD chars j 0) =
+      rw (byte, first, count, place) (ap (storeAt area (to + 8 * (n / 8) + j)) one ∙ sym (one-set area (to + 8 * (n / 8) + j) (getD chars j 0) (omega arith))) in
+      e ∙ sym (digit-step (showing high bytes at to) n k start j ek h ∙ ap (λ (r : List ℕ). showing high bytes at to r d (d + 1)) (sym same) ∙ here)
 
 pub shown-within : ShownWithin
 shown-within high bytes at to n area fits room = shown-all high bytes at to n area fits room

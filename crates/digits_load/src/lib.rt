@@ -1,41 +1,63 @@
 // Binary and hex digits, `b B h H`, read.
 ghost use mathlib.Core.Path.{_≡_};
 ghost use mathlib.Core.Bool.{Bool, true, false};
-ghost use Prim.Native.Nat.{_+_, _*_, _≤_, _<_, min};
+ghost use Prim.Native.Nat.{_+_, _/_, _≤_, _<_, min};
 ghost use lib.ListN.{length, take};
 ghost use Rattle.layout.specs.declared.Shape.the-variants.{Digits};
 ghost use Rattle.layout.specs.Lent.{before, after};
 ghost use Rattle.record.specs.Bytes.{part, storeAt, ceilDiv};
 ghost use Rattle.record.specs.Table.{maxArea};
 ghost use Rattle.record.specs.Reading.{loaded};
-ghost use Rattle.digits.specs.Steps.{showing, steps, binaryBudget};
+ghost use Rattle.digits.specs.Steps.{showing, steps, Advanced, binarySteps, binaryBudget};
 ghost use Rattle.digit_chars.specs.Shown.{charsOf};
 
-// Reads m whole bytes of binary digits, one in each turn.
-fn load_eights(area: &mut [u8], to: usize, bytes: &[u8], at: usize, m: usize, high: bool)
-    requires { ⌜ (to + 8 * m ≤ length (now area)) × (at + m ≤ length (now bytes)) ⌝ }
-    ensures { λ _. ⌜ after area ≡ storeAt (before area) to (loaded (Digits false high) false (8 * m) (part (before bytes) at m) .items) ⌝ }
+// THE STEP number k in reading n binary digits out: the eight of a whole byte where eight remain, and else one. It looks at one byte of the record.
+// `eight` says which it is: the callers know it, and so the compiler does.
+fn show_step(
+    area: &mut [u8],
+    to: usize,
+    bytes: &[u8],
+    at: usize,
+    n: usize,
+    k: usize,
+    eight: bool,
+    high: bool,
+)
+    requires { ⌜ (to + n ≤ length (now area)) × (at + ceilDiv n 8 ≤ length (now bytes)) × (k < binarySteps n) × (eight ≡ true → k < n / 8) × (eight ≡ false → n / 8 ≤ k) ⌝ }
+    ensures { λ _. ⌜ Advanced (showing high (before bytes) at to) n k (k + 1) (before area) (after area) ⌝ }
 {
-    let mut k = 0;
-    while k < m {
+    if eight {
         digit_chars::write_eight(area, to + 8 * k, bytes[at + k], high);
+        return;
+    }
+    let whole = n / 8;
+    let j = k - whole;
+    area[to + 8 * whole + j] = digit_chars::char_at(bytes[at + whole], j, false, high);
+}
+
+// Does the steps from the number `from` on up to `until`, one in each turn.
+fn show_run(
+    area: &mut [u8],
+    to: usize,
+    bytes: &[u8],
+    at: usize,
+    n: usize,
+    from: usize,
+    until: usize,
+    eight: bool,
+    high: bool,
+)
+    requires { ⌜ (to + n ≤ length (now area)) × (at + ceilDiv n 8 ≤ length (now bytes)) × (from ≤ until) × (until ≤ binarySteps n) × (eight ≡ true → until ≤ n / 8) × (eight ≡ false → from < until → n / 8 ≤ from) ⌝ }
+    ensures { λ _. ⌜ Advanced (showing high (before bytes) at to) n from until (before area) (after area) ⌝ }
+{
+    let mut k = from;
+    while k < until {
+        show_step(area, to, bytes, at, n, k, eight, high);
         k += 1;
     }
 }
 
-// Reads n binary digits that do not fill a byte, one in each turn of the loop in `write`.
-fn load_last(area: &mut [u8], to: usize, bytes: &[u8], at: usize, n: usize, high: bool)
-    requires { ⌜ (n < 8) × (to + n ≤ length (now area)) × (at + ceilDiv n 8 ≤ length (now bytes)) ⌝ }
-    ensures { λ _. ⌜ after area ≡ storeAt (before area) to (loaded (Digits false high) false n (part (before bytes) at (ceilDiv n 8)) .items) ⌝ }
-{
-    if n == 0 {
-        return;
-    }
-    digit_chars::write(area, to, bytes[at], n, false, high)
-}
-
-// Reads n binary digits as far as a budget of steps goes, whatever it is. A step is a turn of one of two loops: over whole bytes, and over the digits
-// that are left.
+// Reads n binary digits as far as a budget of steps goes, whatever it is: those over whole bytes, and then those over the digits that are left.
 pub fn load_steps(
     area: &mut [u8],
     to: usize,
@@ -48,10 +70,10 @@ pub fn load_steps(
     requires { ⌜ (n ≤ maxArea) × (to + n ≤ length (now area)) × (at + ceilDiv n 8 ≤ length (now bytes)) ⌝ }
     ensures { λ _. ⌜ after area ≡ steps (showing high (before bytes) at to) n (before area) budget .bytes ⌝ }
 {
-    let m = record::least(n / 8, budget); // whole bytes: a step each
-    load_eights(area, to, bytes, at, m, high);
-    let last = record::least(n % 8, budget - m); // digits: a step each
-    load_last(area, to + 8 * m, bytes, at + m, last, high)
+    let all = record::least(n / 8 + n % 8, budget);
+    let eights = record::least(n / 8, budget);
+    show_run(area, to, bytes, at, n, 0, eights, true, high);
+    show_run(area, to, bytes, at, n, eights, all, false, high)
 }
 
 // Reads n binary digits by a budget that is enough for all of them.

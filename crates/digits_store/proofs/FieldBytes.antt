@@ -3,7 +3,7 @@ use Prim.Native.Nat.{ℕ, zero, suc, _+_, _-_, _*_, _≤_, _<_, min}
 use native.Mathlib.Nat.{not-suc-le-zero, le-of-suc-le-suc, add-comm, zero-mul, suc-mul}
 use native.Mathlib.Omega.{arith}
 use mathlib.Core.Path.{_≡_, refl, sym, ap, _∙_}
-use mathlib.Core.Bool.{Bool, false}
+use mathlib.Core.Bool.{Bool}
 use mathlib.Core.List.{List, [], _∷_, map, map-append}
 use lib.ListN.{length, take, drop, getD, replicate, length-map}
 use lib.Seq.{getD-drop, getD-take, drop-drop, ext-getD}
@@ -16,7 +16,7 @@ use Rattle.record.proofs.Stores.{length-part, next-run}
 use Rattle.digits.specs.Numerals.{valuesAt}
 use Rattle.digit_bytes.specs.Made.{byteOf}
 use Rattle.digits.proofs.DigitLaws.{take-min}
-use Rattle.digit_bytes.proofs.DigitBytes.{fit-zero, byte-part}
+use Rattle.digit_bytes.proofs.DigitBytes.{fit-zero}
 
 -- ---- the bytes of a field
 
@@ -63,9 +63,3 @@ stored-at hex high n cs k h =
 pub byte-turn : (hex high : Bool) (area : List ℕ) (start len n have i k b : ℕ) → k < ceilDiv n (perByte hex) → have ≡ min n len → i ≡ k * perByte hex
     → b ≡ byteOf hex high (drop i (valuesAt area start have)) → b ≡ getD (stored (Digits hex high) n (part area start len)) k 0
 byte-turn hex high area start len n have i k b h eh ei eb = rw (stored-at hex high n (part area start len) k h, take-min n len (drop start area), ← eh, ← ei) eb
-
--- the byte number k is that of the characters from its first one on
-pub stored-byte : (high : Bool) (area : List ℕ) (start len n k : ℕ) {j count : ℕ} → start + len ≤ length area → k < ceilDiv n 8 → j ≡ min (k * 8) (min n len) → count ≡ min 8 (min n len - j)
-    → getD (stored (Digits false high) n (part area start len)) k 0 ≡ byteOf false high (valuesAt area (start + j) count)
-stored-byte high area start len n k {j} {count} fits h ej ec =
-    stored-at false high n (part area start len) k h ∙ rw (take-min n len (drop start area)) (sym (byte-part false high area start (min n len) (k * 8) j count (omega arith) ej (omega arith) (omega arith)))

@@ -1,40 +1,41 @@
 -- Laws of binary digits stored in steps: a field may be cut after whole bytes, for no byte has digits of two parts; and each digit of a last
 -- byte that is not full adds a bit to it.
-use Prim.Native.Nat.{ℕ, zero, suc, _+_, _-_, _*_, _%_, _^_, _≤_, _<_, min}
+use Prim.Native.Nat.{ℕ, zero, suc, _+_, _-_, _*_, _%_, _^_, _≤_, _<_}
 use native.Mathlib.Omega.{arith}
-use native.Mathlib.Nat.{add-zero, mod-eq-of-lt}
+use native.Mathlib.Nat.{mod-eq-of-lt}
 use lib.Pow.{pow-mono}
 use native.Mathlib.Numerals.{add-one}
 use mathlib.Core.Path.{_≡_, refl, sym, ap, _∙_}
 use mathlib.Core.Bool.{Bool, true, false}
 use mathlib.Core.List.{List, [], _∷_, _++_, map, reverse, reverse-cons, reverse-append, append-assoc}
-use lib.ListN.{length, take, drop, getD, set, replicate, length-append, length-take, length-replicate, length-reverse, length-set, List·getD-append, List·getD-eq-default, getD-replicate}
+use lib.ListN.{length, take, drop, getD, set, replicate, length-append, length-take, length-replicate, length-reverse, List·getD-append, List·getD-eq-default, getD-replicate}
 use lib.Seq.{drop-drop, take-suc, take-take, length-take-le, ext-getD, getD-take, getD-append-add, set-set}
 use Rattle.layout.specs.declared.Shape.the-variants.{Digits}
 use Rattle.record.specs.Bytes.{part, storeAt, fit, ceilDiv, number, ordered}
-use Rattle.record.specs.Packing.{digitValue, digitBytes, stored}
+use Rattle.record.specs.Packing.{digitValue, stored}
 use Rattle.record.proofs.Bytes.{length-fit, length-ordered, drop-take, all-below}
-use Rattle.record.proofs.Stores.{Put, put-none, put-more, put-done, store-none}
+use Rattle.record.proofs.Stores.{store-none}
 use Rattle.record.proofs.Widening.{number-append, number-below}
 use Rattle.record.proofs.Fields.{split}
-use Rattle.digits.specs.Numerals.{placeOf, DigitsAt, valuesAt}
+use Rattle.digits.specs.Numerals.{placeOf}
 use Rattle.digit_bytes.specs.Made.{byteOf}
-use Rattle.byte_runs.proofs.ByteLaws.{store-both, part-take, part-rest}
-use Rattle.digits.proofs.DigitLaws.{ordered-at, place-lt, take-min}
+use Rattle.byte_runs.proofs.ByteLaws.{part-take}
+use Rattle.digits.proofs.DigitLaws.{ordered-at, place-lt}
+use Rattle.digits.proofs.StepLaws.{one-set}
 use Rattle.digit_bytes.proofs.DigitEights.{bit}
-use Rattle.digit_bytes.proofs.DigitBytes.{fit-zero, zero-byte, value-low, value-high}
+use Rattle.digit_bytes.proofs.DigitBytes.{fit-zero}
 use Rattle.digits_store.proofs.FieldBytes.{map-take, stored-at, length-stored}
 
 -- ---- a field cut after whole bytes
 
 -- a byte is made of the first eight
-byte-eight : (high : Bool) (ds : List ℕ) → byteOf false high (take 8 ds) ≡ byteOf false high ds
+pub byte-eight : (high : Bool) (ds : List ℕ) → byteOf false high (take 8 ds) ≡ byteOf false high ds
 unfolding byteOf fit
 byte-eight high ds =
     let some : 8 - length (take 8 ds) ≡ 8 - length ds = simp length-take (omega arith) in
     rw (some, take-take 8 8 ds (omega arith))
 
-map-drop : (f : ℕ → ℕ) (k : ℕ) (l : List ℕ) → map f (drop k l) ≡ drop k (map f l)
+pub map-drop : (f : ℕ → ℕ) (k : ℕ) (l : List ℕ) → map f (drop k l) ≡ drop k (map f l)
 map-drop f zero l = refl
 map-drop f (suc k) [] = refl
 map-drop f (suc k) (x ∷ xs) = map-drop f k xs
@@ -75,26 +76,6 @@ module _ (high : Bool) (cs : List ℕ) (n m : ℕ) (h : 8 * m ≤ n) where
       let lab : length (front ++ back) ≡ length front + length back = length-append front back in
       let same : length (front ++ back) ≡ length whole = omega (arith, front-long) in
       ext-getD 0 (front ++ back) whole same (λ k h. split (suc k) m (λ l. in-front k l) (λ l. in-back k (omega arith) (omega arith)))
-
-  -- what is stored up to the cut and from there on is the field
-  pub stored-both : (at : ℕ) (d : List ℕ) {d₁ d₂ : List ℕ} → at + ceilDiv n 8 ≤ length d → d₁ ≡ storeAt d at front → d₂ ≡ storeAt d₁ (at + m) back → d₂ ≡ storeAt d at whole
-  stored-both at d room one two =
-      let lb : length back ≡ ceilDiv (n - 8 * m) 8 = length-stored false high (n - 8 * m) (drop (8 * m) cs) in
-      store-both d at m front back front-long (omega arith) one two ∙ ap (storeAt d at) stored-cut
-
--- only the first n characters count
-pub stored-first : (high : Bool) (n len : ℕ) (l : List ℕ) → n ≤ len → stored (Digits false high) n (take n l) ≡ stored (Digits false high) n (take len l)
-unfolding stored digitBytes
-stored-first high n len l h = rw (take-take n n l (omega arith), take-take n len l h)
-
--- what is left of a part from the number k on, whether it is there or not
-pub part-past : (l : List ℕ) (start len k : ℕ) → drop k (part l start len) ≡ part l (start + min k len) (len - min k len)
-part-past l start len k =
-    split k len (λ h. let e : min k len ≡ k = omega arith in rw e (part-rest l start len k))
-    (λ h. let e : min k len ≡ len = omega arith in
-    let none : len - k ≡ 0 = omega arith in
-    let nothing : len - len ≡ 0 = omega arith in
-    rw (part-rest l start len k, e, none, nothing))
 
 -- ---- a byte that is not full, digit by digit
 
@@ -145,7 +126,7 @@ byte-more high ds j h =
     rw (add-one, now, then) (ordered-mid high (take j all) (replicate (7 - j) 0) (getD ds j 0) j (length-take-le j all (omega arith)) (omega arith))
 
 -- digits that are 0 or 1 make a byte
-byte-small : (high : Bool) (ds : List ℕ) → ((i : ℕ) → getD ds i 0 < 2) → byteOf false high ds < 256
+pub byte-small : (high : Bool) (ds : List ℕ) → ((i : ℕ) → getD ds i 0 < 2) → byteOf false high ds < 256
 unfolding byteOf
 byte-small high ds small =
     let eight : List ℕ = fit 8 0 ds in
@@ -164,64 +145,15 @@ bit-placed d p h k =
     let small : d * 2 ^ p < 256 = bit (λ d. d * 2 ^ p < 256) d h (omega arith) (omega arith) in
     (small, mod-eq-of-lt (omega arith))
 
--- ---- the loop over the digits of such a byte
-
--- the byte stands in its place as far as its first j digits make it
-pub record Last (high : Bool) (d₀ : List ℕ) (at : ℕ) (cs ds d : List ℕ) (byte j : ℕ) : Type 0 where
-  pub long : length d ≡ length d₀
-  pub is : d ≡ storeAt d₀ at (stored (Digits false high) j cs)
-  pub sum : byte ≡ byteOf false high (take j ds)
+-- ---- one byte
 
 pub single : (l : List ℕ) → length l ≡ 1 → l ≡ getD l 0 0 ∷ []
 single [] e = absurd (omega arith)
 single (x ∷ []) e = refl
 single (x ∷ y ∷ l) e = absurd (omega arith)
 
-one-set : (d : List ℕ) (at b : ℕ) → at < length d → set d at b ≡ storeAt d at (b ∷ [])
-one-set d at b h =
-    let none : Put d at (b ∷ []) d 0 = put-none in
-    rw add-zero at (put-done (put-more none (omega arith) (omega arith) refl) refl)
-
 -- a byte stored over one that is stored there, or over none
 pub set-over : (d : List ℕ) (at b : ℕ) (s : List ℕ) → at < length d → length s ≤ 1 → set (storeAt d at s) at b ≡ storeAt d at (b ∷ [])
 set-over d at b [] h k = rw (store-none d at) (one-set d at b h)
 set-over d at b (x ∷ []) h k = rw (← one-set d at x h, set-set) (one-set d at b h)
 set-over d at b (x ∷ y ∷ s) h k = absurd (omega arith)
-
-pub last-none : (high : Bool) (d : List ℕ) (at : ℕ) (cs ds : List ℕ) → Last high d at cs ds d 0 0
-unfolding stored digitBytes
-last-none high d at cs ds = record { long = refl; is = sym (store-none d at); sum = sym (zero-byte false high) }
-
--- the digits of a field that the check has seen
-module _ (area : List ℕ) (start len n : ℕ) (fits : start + len ≤ length area) (checked : DigitsAt false area start (min n len)) where
-  abbrev values : List ℕ
-  values = valuesAt area start (min n len)
-
-  pub bits : (j i : ℕ) → getD (take j values) i 0 < 2
-  bits j i =
-      let all : getD values i 0 < 2 = split (suc i) (min n len) (λ h. rw (value-low area start (min n len) i (omega arith) h) (checked i h)) (λ h. rw (value-high area start (min n len) i (omega arith)) (omega arith)) in
-      split (suc i) j (λ h. rw (getD-take j values i 0 h) all) (λ h. rw (List·getD-eq-default (take j values) 0 {n = i} (simp length-take (omega arith))) (omega arith))
-
-  first-values : (j : ℕ) → j ≤ n → map digitValue (take j (part area start len)) ≡ take j values
-  first-values j h =
-      let less : min j (min n len) ≡ min j len = omega arith in
-      ap (map digitValue) (take-min j len (drop start area)) ∙ sym (sym (map-take digitValue j (part area start (min n len))) ∙ ap (map digitValue) (take-min j (min n len) (drop start area)) ∙ rw less)
-
-  module _ (high : Bool) {d₀ d : List ℕ} {at byte bit j : ℕ} (l : Last high d₀ at (part area start len) values d byte j) (h : j < n) (k : n < 8) (e : bit ≡ getD values j 0 * 2 ^ placeOf high 8 j) where
-    next : byte + bit ≡ byteOf false high (take (j + 1) values)
-    next = rw (l .sum, e) (sym (byte-more high values j (omega arith)))
-
-    pub next-small : byte + bit < 256
-    next-small = rw next (byte-small high (take (j + 1) values) (bits (j + 1)))
-
-    pub last-more : at < length d₀ → Last high d₀ at (part area start len) values (set d at (byte + bit)) (byte + bit) (j + 1)
-    last-more inside =
-        let cs : List ℕ = part area start len in
-        let one : List ℕ = stored (Digits false high) (j + 1) cs in
-        let long : length one ≡ 1 = length-stored false high (j + 1) cs ∙ (omega arith) in
-        let byte-is : getD one 0 0 ≡ byte + bit = stored-at false high (j + 1) cs 0 (omega arith) ∙ ap (byteOf false high) (first-values (j + 1) (omega arith)) ∙ sym next in
-        let over : set d at (byte + bit) ≡ storeAt d₀ at ((byte + bit) ∷ []) = rw (l .is) (set-over d₀ at (byte + bit) (stored (Digits false high) j cs) inside (omega (arith, length-stored false high j cs))) in
-        record { long = length-set d at (byte + bit) ∙ l .long; is = over ∙ ap (storeAt d₀ at) (sym (single one long ∙ rw byte-is)); sum = next }
-
-pub last-done : {high : Bool} {d₀ cs ds d : List ℕ} {at byte j : ℕ} (n : ℕ) → Last high d₀ at cs ds d byte j → j ≡ n → d ≡ storeAt d₀ at (stored (Digits false high) n cs)
-last-done n l e = rw (← e) (l .is)

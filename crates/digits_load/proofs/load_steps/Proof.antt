@@ -1,32 +1,27 @@
--- As many whole bytes as the budget allows, and then as many single digits as are left of it: just what the steps do.
-use Rattle.digits_load.proofs.ShownSteps.{shown-counted}
+-- The steps over whole bytes, and behind them those over single digits, are all of them or as many as the budget has.
+use Prim.Native.Nat.{ℕ}
+use mathlib.Core.Path.{_≡_}
+use native.Mathlib.Omega.{arith}
+use Rattle.digits.specs.Steps.{showing}
+use Rattle.digits.proofs.StepLaws.{within-budget}
 use borrow.Author.Needs.{needs}
 use Rattle.digits_load.proofs.load_steps.Statement.{statement}
 use Rattle.digits_load.proofs.load_steps.Tie as tie
 
+add-least : tie.Need-add-least
+add-least c = search needs
+
 least-requires : tie.Need-least-requires
 least-requires c κs = search needs
-
-load-eights-requires : tie.Need-load-eights-requires
-load-eights-requires c κs = search needs
-
-sub-least : tie.Need-sub-least
-sub-least c = search needs
 
 least-requires-2 : tie.Need-least-requires-2
 least-requires-2 c κs = search needs
 
-mul-load-last : tie.Need-mul-load-last
-mul-load-last c = search needs
+show-run-requires : tie.Need-show-run-requires
+show-run-requires c κs = (omega arith, omega arith, omega arith, omega arith, λ e. omega arith, λ e. absurd (let z : _≡_ {A = ℕ} 0 1 = cc in omega arith))
 
-add-load-last : tie.Need-add-load-last
-add-load-last c = search needs
-
-add-load-last-2 : tie.Need-add-load-last-2
-add-load-last-2 c = search needs
-
-load-last-requires : tie.Need-load-last-requires
-load-last-requires c κs = search needs
+show-run-requires-2 : tie.Need-show-run-requires-2
+show-run-requires-2 c κs = (omega arith, omega arith, omega arith, omega arith, λ e. absurd (let z : _≡_ {A = ℕ} 0 1 = cc in omega arith), λ e h. omega arith)
 
 same-length : tie.Need-same-length
 same-length c = search needs
@@ -35,22 +30,9 @@ returns : tie.Need-returns
 returns c =
     let start = c .before .before .before .before .before .before .before .before .before .before .before .before in
     let a = start .args in
-    let whole = c .before .before .before .before .before .before .before .before .before .least in
-    let single = c .before .before .before .before .least2 in
-    shown-counted (a .high) (a .bytes .now) (a .at) (a .to) (a .n) (a .area .now) (start .pre .2) (start .pre .1) (a .budget) (whole .result) (single .result) (whole .ensures) (single .ensures)
-    (c .before .before .before .before .before .before .before .load-eights .ensures) (c .before .before .load-last .ensures)
+    let all = c .before .before .before .before .before .before .before .before .before .least in
+    within-budget (showing (a .high) (a .bytes .now) (a .at) (a .to)) (a .n) (a .budget) (all .result) (all .ensures)
+    (λ bytes same. c .before .before .show-run2 .ensures bytes (c .before .before .before .before .before .before .show-run .ensures bytes same))
 
 pub load-steps-spec : {M : Type 1} → statement M
-load-steps-spec =
-    tie.close
-    (tie.spec
-    least-requires
-    load-eights-requires
-    sub-least
-    least-requires-2
-    mul-load-last
-    add-load-last
-    add-load-last-2
-    load-last-requires
-    same-length
-    returns)
+load-steps-spec = tie.close (tie.spec add-least least-requires least-requires-2 show-run-requires show-run-requires-2 same-length returns)
