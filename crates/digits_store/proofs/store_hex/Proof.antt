@@ -30,8 +30,7 @@ next-byte-requires : tie.Need-next-byte-requires Inv-loop μ-loop
 next-byte-requires c κs =
     let start = c .before .before .before .before .before in
     let a = start .args in
-    let checked = digits-at true (a .area .now) (a .start) (a .len) (a .n) (start .pre .1) (start .pre .3) in
-    (omega arith, omega arith, rw (c .before .before .least .ensures) checked)
+    (omega arith, omega arith, λ i h. digits-at true (a .area .now) (a .start) (a .len) (a .n) (start .pre .1) (start .pre .3) i (omega arith))
 
 add-out : tie.Need-add-out Inv-loop μ-loop
 add-out c = omega arith
