@@ -1,10 +1,14 @@
 # make                 proves the library and writes target/staticlib/libcurlew.a, the manual pages target/man3 and the command target/curlew
 # make demo            the same, and runs the exam-server example and the command
-# make test            proves everything from nothing and runs all tests; the last line is 'N passed, 0 failed'
+# make test            proves everything from nothing and runs all tests; the last line is 'N passed, 0 failed'. It says which
+#                      programs are missing, and installs them where INSTALL=1 or CI is set
+# make check-c         the tests of hosts, installed copy, command, packages and Python, without proving again
 # make shared          writes target/shared/libcurlew.so, for Python and others that load a library
 # make install         header, archive, pkg-config file, command and manual pages under prefix (or PREFIX), below DESTDIR
 # make install-shared  the shared object
 # make uninstall       removes what both installed
+# make dist            writes target/dist/curlew-VERSION-x86_64-linux.tar.gz, for machines without the Rattle kit
+# make deb             writes Debian's packages curlew, libcurlew2 and libcurlew-dev into target/dist
 # make bench           compares the speed with Tcl, Perl, Python, plain C and an unproved twin; numbers and plots in target/bench
 # make bench-publish   puts the figures and plots of the last comparison into docs
 # make clean           removes target
@@ -18,9 +22,20 @@ datarootdir = $(prefix)/share
 mandir = $(datarootdir)/man
 man3dir = $(mandir)/man3
 pkgconfigdir = $(libdir)/pkgconfig
+# make test INSTALL=1 installs what the tests need; elsewhere INSTALL is the program that copies files, as GNU has it.
+ifeq ($(INSTALL),1)
+override INSTALL := install
+export CURLEW_INSTALL := 1
+else
 INSTALL = install
+endif
 INSTALL_DATA = $(INSTALL) -m 644
 INSTALL_PROGRAM = $(INSTALL)
+
+# The time that stands in the packages: that of the commit.
+ifndef SOURCE_DATE_EPOCH
+SOURCE_DATE_EPOCH = $(shell git log -1 --format=%ct 2>/dev/null || date -u -d $(DAY) +%s)
+endif
 
 # The version is said once, in the header; the day of it in docs/CHANGES.md.
 VERSION := $(shell sed -n 's/^.define CURLEW_VERSION "\(.*\)"$$/\1/p' include/curlew.h)
@@ -36,7 +51,7 @@ COMPARE := target/compare
 CRATES := $(shell find crates crates.txt -type f)
 TWIN := $(wildcard tests/second/*.rs) tests/second/build.sh
 
-.PHONY: all demo test check shared install install-shared uninstall bench bench-publish clean
+.PHONY: all demo test check check-c shared install install-shared uninstall dist deb bench bench-publish clean
 
 all: $(ARCHIVE) $(PAGES)
 
@@ -70,6 +85,9 @@ shared: $(SHARED)
 
 test check:
 	@tests/run
+
+check-c: all
+	@tests/run c
 
 $(COMPARE)/second: $(ARCHIVE) $(TWIN)
 	tests/second/build.sh $(ARCHIVE) $(COMPARE)
@@ -109,6 +127,12 @@ uninstall:
 	rm -f "$(DESTDIR)$(includedir)/curlew.h" "$(DESTDIR)$(pkgconfigdir)/curlew.pc" "$(DESTDIR)$(libdir)/libcurlew.a" \
 		"$(DESTDIR)$(libdir)/libcurlew.so" "$(DESTDIR)$(libdir)/$(SONAME)" "$(DESTDIR)$(libdir)/$(OBJECT)"
 	@for page in curlew $(CALLS); do rm -f "$(DESTDIR)$(man3dir)/$$page.3"; done
+
+dist: all shared
+	@SOURCE_DATE_EPOCH="$(SOURCE_DATE_EPOCH)" packaging/dist "$(VERSION)"
+
+deb: all shared
+	@SOURCE_DATE_EPOCH="$(SOURCE_DATE_EPOCH)" packaging/deb "$(VERSION)" "$(DAY)"
 
 clean:
 	rm -rf target

@@ -29,26 +29,27 @@ struct library_state {
     const struct library *lib;
     uint8_t slots[CROWD_FIELDS * CURLEW_SLOT_SIZE];
     uint8_t area[256];
+    size_t used;
+    uint8_t *mark, *running; /* where these values lie in the area; the number is at its front */
 };
 
-/* Area: number 0, name 8, mark 28, running number 36, legs 44, strip 92, hex digits 104. */
 static void fill_table(struct library_state *s)
 {
-    static const uint8_t legs[6] = {61, 0, 88, 7, 100, 3};
-    size_t i;
+    static const int64_t legs[6] = {61, 0, 88, 7, 100, 3};
+    struct curlew_table table = curlew_table_over(s->slots, sizeof s->slots, s->area, sizeof s->area);
 
-    memcpy(s->area + 8, CROWD_NAME, strlen(CROWD_NAME));
-    for (i = 0; i < 6; i++)
-        curlew_put_uint(s->area + 44 + i * CURLEW_ITEM_SIZE, legs[i]);
-    memcpy(s->area + 92, CROWD_STRIP, 12);
-    memcpy(s->area + 104, CROWD_HEX, 8);
-    curlew_put_slot(s->slots, 0, CURLEW_STRING, 0, 8);
-    curlew_put_slot(s->slots, 1, CURLEW_STRING, 8, (uint32_t)strlen(CROWD_NAME));
-    curlew_put_slot(s->slots, 2, CURLEW_UNSIGNED, 28, 1);
-    curlew_put_slot(s->slots, 3, CURLEW_UNSIGNED, 36, 1);
-    curlew_put_slot(s->slots, 4, CURLEW_SIGNED, 44, 6);
-    curlew_put_slot(s->slots, 5, CURLEW_STRING, 92, 12);
-    curlew_put_slot(s->slots, 6, CURLEW_STRING, 104, 8);
+    curlew_table_add_text(&table, "C0000000", 8);
+    curlew_table_add_text(&table, CROWD_NAME, strlen(CROWD_NAME));
+    curlew_table_add_uint(&table, 0);
+    curlew_table_add_uint(&table, 0);
+    curlew_table_add_ints(&table, legs, 6);
+    curlew_table_add_text(&table, CROWD_STRIP, 12);
+    curlew_table_add_text(&table, CROWD_HEX, 8);
+    if (table.full)
+        stop("no room for the table of a candidate");
+    s->used = table.area_used;
+    s->mark = s->area + curlew_table_slot(&table, 2).start;
+    s->running = s->area + curlew_table_slot(&table, 3).start;
 }
 
 static void *library_open(const void *with)
@@ -70,10 +71,10 @@ static void library_pack(void *state, size_t from, size_t to, uint8_t *records)
     fill_table(s);
     for (i = from; i < to; i++) {
         crowd_number(s->area, i);
-        curlew_put_uint(s->area + 28, crowd_mark(i));
-        curlew_put_uint(s->area + 36, i);
+        curlew_put_uint(s->mark, crowd_mark(i));
+        curlew_put_uint(s->running, i);
         if (s->lib->pack(CROWD_LAYOUT, sizeof CROWD_LAYOUT - 1, s->slots, sizeof s->slots,
-                         s->area, 112, records + i * CROWD_RECORD, CROWD_RECORD, reply, sizeof reply) != CURLEW_OK)
+                         s->area, s->used, records + i * CROWD_RECORD, CROWD_RECORD, reply, sizeof reply) != CURLEW_OK)
             stop("a candidate was refused");
     }
 }

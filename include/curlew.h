@@ -111,8 +111,8 @@
  *                               sheet, sizeof sheet, reply, sizeof reply);
  *
  * Each of them answers 1, or 0 where slots or area have no room left. It has added nothing then, and nothing is added
- * behind it, so no value takes the slot of another. A full table has a cut slot at its end: every call refuses it with
- * number 1, and nothing is lost without a word.
+ * behind it, so no value takes the slot of another. A full table has a cut slot at its end, if its run has room for a
+ * slot at all: every call refuses it with number 1, and nothing is lost without a word.
  *
  * To read into a table give the whole rooms, and say afterwards how many slots the reading set and how many the table
  * has; those that were not in the record are not set then:

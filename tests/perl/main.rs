@@ -1,4 +1,5 @@
-//! Compares translated templates with a real perl: `perl ANSWER.PL [templates] [seed]`.
+//! Compares translated templates with a real perl: `perl ANSWER.PL [templates] [seed]`. Without a seed it takes a fixed one
+//! and then a fresh one, so many templates each.
 //!
 //! Perl packs by the template, the library by the layout that the template becomes; then both read.
 
@@ -72,8 +73,7 @@ use std::env;
 use std::process::exit;
 use values::Value;
 
-const TEMPLATES: u64 = 4000;
-const SEED: u64 = 20260101;
+const TEMPLATES: u64 = 2000;
 const SHOWN: usize = 5;
 
 /// What perl must answer.
@@ -274,10 +274,14 @@ fn main() {
         eprintln!("usage: perl ANSWER.PL [templates] [seed]");
         exit(2)
     });
-    let (templates, seed) = (number_argument(2, TEMPLATES), number_argument(3, SEED));
-    println!("seed {}, {} templates", seed, templates);
-    let mut dice = Dice::new(seed);
-    let questions: Vec<Question> = (0..templates).flat_map(|_| asked(&mut dice)).collect();
+    let templates = number_argument(2, TEMPLATES);
+    let seeds = dice::seeds(env::args().nth(3));
+    let mut questions: Vec<Question> = Vec::new();
+    for &seed in &seeds {
+        println!("seed {}, {} templates", seed, templates);
+        let mut dice = Dice::new(seed);
+        questions.extend((0..templates).flat_map(|_| asked(&mut dice)));
+    }
     let lines = questions.iter().map(|q| q.line.clone()).collect();
     let perl = env::var("PERL").unwrap_or_else(|_| "perl".to_string());
     let replies = answers(&perl, &script, lines);
@@ -293,7 +297,7 @@ fn main() {
         }
     }
     let passed = questions.len() - failed;
-    if questions.len() < templates as usize {
+    if questions.len() < seeds.len() * templates as usize {
         println!("FAILED: too few of the templates became layouts");
         failed += 1;
     }

@@ -1,6 +1,6 @@
 #!/bin/sh
 # build.sh ARCHIVE TARGET: builds TARGET/second against the archive libcurlew.a, and the twin as
-# TARGET/libtwin.a and TARGET/libtwin.so. Then run TARGET/second [seconds] [seed].
+# TARGET/libtwin.a and TARGET/libtwin.so. Then run TARGET/second [rounds] [seed].
 set -e
 here=$(cd "$(dirname "$0")" && pwd)
 archives=$(cd "$(dirname "$1")" && pwd)

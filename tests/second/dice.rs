@@ -1,5 +1,21 @@
 //! Random numbers from a seed.
 
+use std::time::{SystemTime, UNIX_EPOCH};
+
+/// The seed of every run, so that what it finds is found again.
+const FIXED: u64 = 20260101;
+
+/// The seeds of a run: the one that is given, or else the fixed one and a fresh one, which the clock gives.
+pub fn seeds(given: Option<String>) -> Vec<u64> {
+    let now = SystemTime::now()
+        .duration_since(UNIX_EPOCH)
+        .map_or(1, |since| since.as_nanos() as u64);
+    match given {
+        None => vec![FIXED, now],
+        Some(text) => vec![text.parse().expect("the seed is a number")],
+    }
+}
+
 pub struct Dice {
     state: u64,
 }

@@ -1,6 +1,6 @@
-//! Compares the library with the twin, call by call: `second [seconds] [seed] [trace]`.
+//! Compares the library with the twin, call by call: `second [rounds] [seed] [trace]`.
 //!
-//! With `trace` each call is shown before it is made, to find one that crashes.
+//! Without a seed it takes a fixed one and then a fresh one, so many rounds each. With `trace` each call is shown before it is made, to find one that crashes.
 
 mod call;
 mod calls;
@@ -42,26 +42,38 @@ mod walk;
 use calls::Scratch;
 use dice::Dice;
 use std::process::exit;
-use std::time::{Duration, Instant};
 use tally::Tally;
 
-const SECONDS: u64 = 20;
-const SEED: u64 = 20260101;
+const ROUNDS: u64 = 250;
 
-fn argument(place: usize, otherwise: u64) -> u64 {
-    match std::env::args().nth(place) {
-        None => otherwise,
-        Some(text) => text.parse().unwrap_or_else(|_| {
-            eprintln!("usage: second [seconds] [seed] [trace]");
-            exit(2)
-        }),
+/// Random calls of every sort, from a seed.
+fn roll(seed: u64, rounds: u64, tally: &mut Tally) {
+    println!("seed {}, {} rounds", seed, rounds);
+    let mut dice = Dice::new(seed);
+    let mut scratch = Scratch::new();
+    for _ in 0..rounds {
+        calls::round(&mut dice, &mut scratch, tally);
+        sheet_calls::round(&mut dice, tally);
+        rescue_calls::round(&mut dice, tally);
+        compare_calls::round(&mut dice, &mut scratch, tally);
+        mean_calls::round(&mut dice, tally);
+        perl_calls::round(&mut dice, tally);
+        layout_calls::round(&mut dice, &mut scratch, tally);
+        promises_calls::round(&mut dice, tally);
+        row_calls::round(&mut dice, &mut scratch, tally);
+        lossless::round(&mut dice, tally);
+        glue_calls::round(&mut dice, tally);
+        real_calls::round(&mut dice, tally);
     }
 }
 
 fn main() {
-    let seconds = argument(1, SECONDS);
-    let seed = argument(2, SEED);
-    println!("seed {}, {} seconds", seed, seconds);
+    let rounds = std::env::args().nth(1).map_or(ROUNDS, |text| {
+        text.parse().unwrap_or_else(|_| {
+            eprintln!("usage: second [rounds] [seed] [trace]");
+            exit(2)
+        })
+    });
     let trace = std::env::args()
         .nth(3)
         .map_or(false, |word| word == "trace");
@@ -85,22 +97,8 @@ fn main() {
         "fixed calls: {} passed, {} failed",
         tally.passed, tally.failed
     );
-    let mut dice = Dice::new(seed);
-    let mut scratch = Scratch::new();
-    let begin = Instant::now();
-    while begin.elapsed() < Duration::from_secs(seconds) {
-        calls::round(&mut dice, &mut scratch, &mut tally);
-        sheet_calls::round(&mut dice, &mut tally);
-        rescue_calls::round(&mut dice, &mut tally);
-        compare_calls::round(&mut dice, &mut scratch, &mut tally);
-        mean_calls::round(&mut dice, &mut tally);
-        perl_calls::round(&mut dice, &mut tally);
-        layout_calls::round(&mut dice, &mut scratch, &mut tally);
-        promises_calls::round(&mut dice, &mut tally);
-        row_calls::round(&mut dice, &mut scratch, &mut tally);
-        lossless::round(&mut dice, &mut tally);
-        glue_calls::round(&mut dice, &mut tally);
-        real_calls::round(&mut dice, &mut tally);
+    for seed in dice::seeds(std::env::args().nth(2)) {
+        roll(seed, rounds, &mut tally);
     }
     tally.print();
     exit((tally.failed > 0) as i32);
