@@ -3,7 +3,8 @@
 # make test            proves everything from nothing and runs all tests; the last line is 'N passed, 0 failed'. It says which
 #                      programs are missing, and installs them where INSTALL=1 or CI is set
 # make check-c         the tests of hosts, installed copy, command, packages and Python, without proving again
-# make shared          writes target/shared/libcurlew.so, for Python and others that load a library
+# make shared          writes target/shared/libcurlew.so, for programs that load a library
+# make wheel           writes target/dist/curlew-VERSION-cp39-abi3-linux_x86_64.whl, the Python package with the library in it
 # make install         header, archive, pkg-config file, command and manual pages under prefix (or PREFIX), below DESTDIR
 # make install-shared  the shared object
 # make uninstall       removes what both installed
@@ -51,7 +52,7 @@ COMPARE := target/compare
 CRATES := $(shell find crates crates.txt -type f)
 TWIN := $(wildcard tests/second/*.rs) tests/second/build.sh
 
-.PHONY: all demo test check check-c shared install install-shared uninstall dist deb bench bench-publish clean
+.PHONY: all demo test check check-c shared wheel install install-shared uninstall dist deb bench bench-publish clean
 
 all: $(ARCHIVE) $(PAGES)
 
@@ -138,3 +139,4 @@ clean:
 	rm -rf target
 
 include tools/command.mk
+include tools/wheel.mk
