@@ -138,5 +138,5 @@ deb: all shared
 clean:
 	rm -rf target
 
-include tools/command.mk
+include command/command.mk
 include tools/wheel.mk

@@ -15,7 +15,7 @@ mkdir -p "$build"
 
 curlew=${BENCH_COMMAND:-$build/curlew}
 [ -n "${BENCH_COMMAND:-}" ] ||
-    "${CC:-gcc}" -std=c99 -O2 -Wall -Wextra -I "$include" -o "$curlew" "$root"/tools/*.c "$archive" -pthread
+    "${CC:-gcc}" -std=c99 -O2 -Wall -Wextra -I "$include" -o "$curlew" "$root"/command/*.c "$archive" -pthread
 
 # One block of 1,000 different records, as often as it takes.
 make_records() {

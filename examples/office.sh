@@ -20,28 +20,56 @@ say() {
     "$curlew" "$@" 2>&1
 }
 
-new='a6 A12 Su Su Su b10'
+# The registrar's list, as a spreadsheet saves it. An empty cell is a leg that is not marked: it is no 0.
+cat > list.csv << 'END'
+number,name,written,oral,steno,strip
+C00417,Ada Lind,61,0,88,1101101011
+C00418,"Ferrer, Boas",47,52,,
+C00419,Cem Aksoy,73,66,70,1111100000
+C00420,Dora Weiss,55,,91,1111000010
+C00421,Efe Aydin,,,,
+C00422,Freya Holm,82,79,85,1111111111
+C00423,Gil Baros,0,0,0,0000000000
+C00424,Hana Novak,64,58,,
+C00425,Ivo Marek,91,88,93,1111111101
+C00426,Jona Berg,49,50,51,1010101010
+END
 
-say layout "$new"
+# What stands where, with names: a line a field.
+cat > marks.layout << 'END'
+number  a6
+name    A12
+written Su   # of 100
+oral    Su
+steno   Su   # since last year
+strip   b10
+END
 
-# Last year's record has no third leg and no strip.
-say pack "$new" C00417 'Ada Lind' 61 0 88 1101101011 -o ada.rec
-say pack 'a6 A12 Su Su' C00418 'Boas Ferrer' 47 52 -o boas.rec
-say read "$new" ada.rec
-say read "$new" boas.rec
+say layout --layout marks.layout
 
-# Another marker's copy.
-say pack "$new" C00417 'Ada Lind' 61 52 88 1101101011 -o other.rec
-say compare "$new" ada.rec other.rec
+# Ten sheets, one after the other: legs that are not marked have their place in them.
+say sheet write --csv --layout marks.layout list.csv -o list.sheets
+say mean --layout marks.layout --legs written,oral,steno --fields number,name list.sheets
+say sheet read --csv --layout marks.layout --fields number,written,oral,steno list.sheets
 
-# A leg in the middle that nobody marked: a record has no place for it, a sheet keeps it.
-say pack "$new" C00420 'Dora Weiss' 55 @ 91 1111000010
-say sheet write "$new" C00420 'Dora Weiss' 55 @ 91 1111000010 -o dora.sheet
-say sheet write --record "$new" boas.rec -o boas.sheet
-say sheet write "$new" C00421 'Efe Aydin' @ @ @ @ -o efe.sheet
-say mean --legs 2-4 dora.sheet boas.sheet efe.sheet
+# Records have no place for a leg that is missing in the middle: the list is refused, and nothing is written.
+say pack --csv --layout marks.layout list.csv -o list.rec
+grep -v ',,' list.csv > whole.csv
+say pack --csv --layout marks.layout whole.csv -o whole.rec
+say read --csv --layout marks.layout whole.rec
+
+# Another marker's copy of the file.
+sed 's/Cem Aksoy,73,66/Cem Aksoy,73,68/' whole.csv > other.csv
+say pack --csv --layout marks.layout other.csv -o other.rec
+say compare --records --different --layout marks.layout whole.rec other.rec
+
+# Last year's record has no third leg and no strip; this year's layout reads it.
+say pack 'a6 A12 Su Su' C00390 'Kai Lund' 58 61 -o kai.rec
+say read --layout marks.layout kai.rec
+say show --layout marks.layout kai.rec
 
 # The laptop died while saving.
+say sheet write 'a6 A12 Su Su Su b10' C00420 'Dora Weiss' 55 @ 91 1111000010 -o dora.sheet
 head -c 40 dora.sheet > cut.sheet
 say sheet read cut.sheet
 say sheet rescue 6 cut.sheet -o mended.sheet

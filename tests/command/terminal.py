@@ -1,5 +1,5 @@
 """What the command does where its output is a terminal: colours, the progress line, no bytes. The last line says 'N passed, M failed'."""
-import os, pty, subprocess, sys
+import os, pty, subprocess, sys, time
 
 passed = failed = 0
 
@@ -49,8 +49,8 @@ _, seen, _ = on_terminal(["read", layout, "short.rec"], TERM="dumb")
 check("a terminal without colours", b"\x1b" not in seen, seen)
 _, seen, piped = on_terminal(["read", layout, "short.rec"], output=False)
 check("no colours into a pipe", b"\x1b" not in piped and b"not marked" in piped, piped)
-for form in ("--json", "--tsv"):
-    _, seen, _ = on_terminal(["read", form, layout, "short.rec"])
+for form in ("--json", "--tsv", "--csv"):
+    _, seen, _ = on_terminal(["read", form, layout, "long.rec"])
     check("no colours with " + form, b"\x1b" not in seen, seen)
 status, seen, _ = on_terminal(["compare", layout, "long.rec", "short.rec"])
 check("what differs has a colour", status == 1 and b"\x1b[31mfirst copy only\x1b[m" in seen, seen)
@@ -61,7 +61,7 @@ check("a complaint into a pipe has none", piped.startswith(b"curlew: layout"), p
 
 status, seen, _ = on_terminal(["pack", layout, "C00417", "7"])
 check("no bytes on a terminal", status == 2 and b"-o FILE" in seen and b"C00417" not in seen, seen)
-status, seen, _ = on_terminal(["pack", "--json", layout, "C00417", "7"])
+status, seen, _ = on_terminal(["pack", "--hex", layout, "C00417", "7"])
 check("bytes in hex on a terminal", status == 0 and b"4330303431370007" in seen, seen)
 status, seen, _ = on_terminal(["sheet", "write", layout, "C00417", "7"])
 check("no sheet on a terminal", status == 2 and b"terminal" in seen, seen)
@@ -70,14 +70,53 @@ subprocess.run(["curlew", "sheet", "write", "Su Su", "4", "@", "-o", "one.sheet"
 subprocess.run(["curlew", "sheet", "write", "Su Su", "@", "@", "-o", "none.sheet"], check=True)
 many = ["one.sheet"] * 30 + ["none.sheet"] * 3 + ["missing.sheet"]
 status, seen, piped = on_terminal(["mean"] + many, output=False)
-check("a progress line", status == 2 and b"\r\x1b[K1 of 34 sheets" in seen, seen)
-check("a count", b"34 sheets: 30 with a mean, 3 with no leg marked, 1 refused" in seen, seen)
-check("the progress line is taken away", b"\r\x1b[K\x1b[1;31mcurlew:\x1b[m missing.sheet" in seen, seen)
+check("a count", status == 2 and b"34 sheets: 30 with a mean, 3 with no leg marked, 1 refused" in seen, seen)
+check("no progress line for what is quick", b"\r\x1b[K" not in seen, seen)
 check("rows beside it", piped.count(b"\n") == 35 and b"\x1b" not in piped, piped)
 status, seen, piped = on_terminal(["mean"] + ["one.sheet"] * 20, output=False)
-check("no progress line for few", status == 0 and seen == b"", seen)
+check("no count for few", status == 0 and seen == b"", seen)
 status, seen, piped = on_terminal(["mean"] + many, output=False, errors=False)
-check("no progress line into a pipe", b"of 34" not in piped and b"with a mean" not in piped, piped)
+check("no count into a pipe", b"of 34" not in piped and b"with a mean" not in piped, piped)
+
+
+def slowly(arguments, errors_on_terminal):
+    """Runs it with records that come one by one, for some three seconds. Returns what its errors got, and when each record came out."""
+    main, side = pty.openpty()
+    process = subprocess.Popen(["curlew"] + arguments, stdin=subprocess.PIPE, stdout=subprocess.PIPE,
+                               stderr=side if errors_on_terminal else subprocess.PIPE)
+    os.close(side)
+    lines = [process.stdout.readline()]
+    for number in range(12):
+        process.stdin.write(b"C%05d\x00\x07" % number)
+        process.stdin.flush()
+        lines.append(process.stdout.readline())
+        time.sleep(0.25)
+    process.stdin.close()
+    process.wait()
+    seen = b"" if errors_on_terminal else process.stderr.read()
+    while errors_on_terminal:
+        try:
+            more = os.read(main, 65536)
+        except OSError:
+            break
+        if not more:
+            break
+        seen += more
+    os.close(main)
+    return seen, lines
+
+
+seen, lines = slowly(["read", "--csv", layout], True)
+check("each record comes out as it came in", lines == [b"field0,field1\n"] + [b"C%05d,7\n" % n for n in range(12)], lines)
+check("a progress line after two seconds", b"\r\x1b[K" in seen and b" records" in seen and b"\r\x1b[K1 records" not in seen, seen)
+seen, lines = slowly(["read", "--csv", layout], False)
+check("no progress line into a pipe", seen == b"", seen)
+
+status, seen, _ = on_terminal(["show", layout, "short.rec"])
+check("show has colours and no brackets", status == 0 and b"\x1b[36m43\x1b[m" in seen and b"[43" not in seen.replace(b"\x1b[", b""), seen)
+check("what is missing has a colour", b"\x1b[33mnot marked\x1b[m" in seen, seen)
+status, seen, _ = on_terminal(["show", layout, "short.rec", "long.rec"])
+check("bytes that differ are turned round", b"\x1b[33;7m00\x1b[m" in seen, seen)
 
 print(f"{passed} passed, {failed} failed")
 sys.exit(failed != 0)

@@ -39,7 +39,7 @@ def field():
     length = 1 if count is None else count
     text = kind + ("" if count is None else str(count))
     if kind in "aA":
-        value = bytes(dice.choice(b"abcXYZ019_~\xc3\xa9\x01\xff") for _ in range(length))
+        value = bytes(dice.choice(b"abcXYZ019@_~\xc3\xa9\x01\xff") for _ in range(length))
         return text, value, value
     if kind in "bBhH":
         base, size = (2, 8) if kind in "bB" else (16, 2)
@@ -56,10 +56,15 @@ def field():
     return text, items if count is not None else items[0], b"".join(struct.pack(form, v) for v in items)
 
 
-def argument(value):
+def plain(value):
+    """A value as it stands behind --."""
     if isinstance(value, bytes):
-        return (b"@" if value[:1] == b"@" else b"") + value
+        return value
     return ",".join(map(repr, value if isinstance(value, list) else [value])).encode()
+
+
+def argument(value):
+    return (b"@" if plain(value)[:1] == b"@" else b"") + plain(value)
 
 
 def shown(entry):
@@ -80,7 +85,8 @@ def one_round():
     starts = [sum(len(raw) for _, _, raw in fields[:i]) for i in range(len(fields) + 1)]
     arguments = [argument(value) for value in values]
 
-    check("pack", curlew("pack", layout, "--", *arguments) == record, layout, values)
+    check("pack", curlew("pack", layout, *arguments) == record, layout, values)
+    check("pack, as they are", curlew("pack", "--", layout, *map(plain, values)) == record, layout, values)
 
     rows = json.loads(curlew("layout", "--json", layout))
     check("layout", rows["values"] == len(fields) and rows["bytes"] == len(record), layout, rows)
@@ -89,16 +95,16 @@ def one_round():
 
     cut = dice.choice([len(record), dice.randint(0, len(record))])
     ends = next((i for i in range(len(fields)) if starts[i + 1] > cut), len(fields))
-    told = json.loads(curlew("read", "--json", layout, stdin=record[:cut]))
+    told = json.loads(curlew("read", "--json", "--long", layout, stdin=record[:cut]))
     kept = [v.rstrip(b" \0") if text[0] == "A" else v for text, v, _ in fields]
     check("read", [shown(row) for row in told["fields"]] == kept[:ends] + [None] * (len(fields) - ends), layout, told, kept)
     check("where", [row["byte"] for row in told["fields"]] == starts[:ends] + [None] * (len(fields) - ends), layout, told)
     check("how many", told["set"] == ends and told["looked_at"] == starts[ends], layout, told)
     check("carried out", told["carried_out"] == min(ends + 1, len(fields)), layout, told)
 
-    holes = [dice.random() < 0.3 for _ in fields]
-    sheet = curlew("sheet", "write", layout, "--", *(b"@" if hole else a for hole, a in zip(holes, arguments)))
-    entries = [shown(row) for row in json.loads(curlew("sheet", "read", "--json", stdin=sheet))["entries"]]
+    holes = [dice.random() < 0.3 or value == [] for value in values]
+    sheet = curlew("sheet", "write", layout, *(b"@" if hole else a for hole, a in zip(holes, arguments)))
+    entries = [shown(row) for row in json.loads(curlew("sheet", "read", "--json", "--long", stdin=sheet))["entries"]]
     lists = [v if isinstance(v, (bytes, list)) else [v] for v in values]
     check("sheet", entries == [None if hole else v for hole, v in zip(holes, lists)], layout, entries)
     packed = curlew("sheet", "read", "--record", layout, stdin=sheet, status=1 if any(holes) else 0)
@@ -111,10 +117,12 @@ def one_round():
     if whole:
         spot = dice.choice(whole)
         other = bytearray(record)
-        other[dice.randrange(starts[spot], starts[spot + 1])] ^= 1 << dice.randrange(8)
+        place = dice.randrange(starts[spot], starts[spot + 1])
+        other[place] ^= 1 << dice.randrange(8)
         open("two.rec", "wb").write(other)
         found = json.loads(curlew("compare", "--json", layout, "one.rec", "two.rec", status=1))
         check("different", [row["verdict"] == "different" for row in found["fields"]] == [i == spot for i in range(len(fields))], layout, found)
+        check("byte of the record", found["fields"][spot]["byte"] == place, layout, found)
 
 
 def walk(fields):

@@ -42,6 +42,12 @@ static struct words words_of(uint32_t number)
     return (struct words){"refused", NULL};
 }
 
+const char *refusal_words(uint32_t number, const char **advice)
+{
+    *advice = words_of(number).advice;
+    return words_of(number).what;
+}
+
 void refuse(const char *where, uint32_t number)
 {
     struct words words = words_of(number);
@@ -61,13 +67,40 @@ static void refuse_at(const char *name, const char *text, size_t length, struct 
     advise("%s", words.advice);
 }
 
-void refuse_layout(const char *name, const char *text, size_t length, struct curlew_answer answer)
+/* A tab or a line end looks like a space, and is none. */
+static int is_white(char c)
 {
-    if (answer.number == CURLEW_BAD_SIZE) {
+    return c >= '\t' && c <= '\r';
+}
+
+/* Layouts from a file: the line of the field that the place is in. */
+static void advise_line(const struct layout *layout, size_t place)
+{
+    size_t field = 0, i;
+
+    if (layout->file_name == NULL)
+        return;
+    for (i = 0; i < place && i < layout->length; i++)
+        field += layout->text[i] == ' ';
+    advise("It stands in line %lu of %s.", (unsigned long)layout->lines[field], layout->file_name);
+}
+
+void refuse_layout(const struct layout *layout, const char *name, struct curlew_answer answer)
+{
+    const char *text = layout->text;
+    size_t length = layout->length;
+
+    if (answer.number == CURLEW_BAD_TYPE && answer.first < length && is_white(text[answer.first])) {
+        complain("%s, byte %lu: a %s stands there, and only spaces stand between fields (number 2)", name,
+                 (unsigned long)answer.first, text[answer.first] == '\t' ? "tab" : "line end or other white space");
+        caret(text, length, answer.first);
+        advise("Put a space there; --layout FILE takes a layout of several lines.");
+    } else if (answer.number == CURLEW_BAD_SIZE) {
         complain("%s: it has %lu bytes, and a layout has at most %d (number 1)", name, (unsigned long)length, CURLEW_MAX_LAYOUT);
         advise("Leave out the spaces, or put fields of one type together, as in Su5.");
     } else if (answer.number >= CURLEW_BAD_TYPE && answer.number <= CURLEW_BAD_MOVE) {
         refuse_at(name, text, length, answer);
+        advise_line(layout, answer.first);
     } else {
         refuse(name, answer.number);
     }

@@ -88,16 +88,29 @@ static void show_json(const struct texts *texts, struct curlew_answer answer, st
     text_string(out, "}\n");
 }
 
-static void show_with_tabs(const struct texts *texts, struct curlew_answer answer, struct text *out)
+static void place_text(struct table *table, uint32_t place)
 {
-    text_string(out, "extends\tnumber\tfields\tadded\told byte\tnew byte\n");
-    if (answer.number == CURLEW_OK)
-        text_format(out, "yes\t0\t%lu\t%lu\t-\t-\n", (unsigned long)answer.first, (unsigned long)answer.second);
-    else if (texts->older_place == CURLEW_NOWHERE)
-        text_format(out, "no\t%lu\t-\t-\t-\t%lu\n", (unsigned long)answer.number, (unsigned long)texts->newer_place);
+    if (place == CURLEW_NOWHERE)
+        table_word(table, "-", PLAIN);
     else
-        text_format(out, "no\t%lu\t-\t-\t%lu\t%lu\n", (unsigned long)answer.number, (unsigned long)texts->older_place,
-                    (unsigned long)texts->newer_place);
+        table_number(table, place);
+}
+
+static void show_in_cells(const struct texts *texts, struct curlew_answer answer, enum form form, struct text *out)
+{
+    static const struct column columns[] = {{"extends", 0}, {"number", 1}, {"fields", 1}, {"added", 1}, {"old byte", 1}, {"new byte", 1}};
+    int extends = answer.number == CURLEW_OK;
+    struct table table;
+
+    table_start(&table, columns, sizeof columns / sizeof columns[0]);
+    table_word(&table, extends ? "yes" : "no", PLAIN);
+    table_number(&table, answer.number);
+    place_text(&table, extends ? answer.first : CURLEW_NOWHERE);
+    place_text(&table, extends ? answer.second : CURLEW_NOWHERE);
+    place_text(&table, texts->older_place);
+    place_text(&table, texts->newer_place);
+    table_print(&table, form, 1, out);
+    table_free(&table);
 }
 
 static int extends_answered(struct texts *texts, enum form form, struct curlew_answer answer)
@@ -108,8 +121,8 @@ static int extends_answered(struct texts *texts, enum form form, struct curlew_a
     texts->older_place = answer.number == CURLEW_OTHER_FIELDS ? place_in_older(texts) : CURLEW_NOWHERE;
     if (form == JSON)
         show_json(texts, answer, &out);
-    else if (form == TSV)
-        show_with_tabs(texts, answer, &out);
+    else if (form != PEOPLE)
+        show_in_cells(texts, answer, form, &out);
     else
         show_for_people(texts, answer, &out);
     output_text(&out);
@@ -117,17 +130,18 @@ static int extends_answered(struct texts *texts, enum form form, struct curlew_a
     return answer.number == CURLEW_OK ? DONE : REFUSED;
 }
 
-int layout_extends(const struct options *options)
+int layout_extends(struct options *options)
 {
     static struct texts texts;
-    struct extends_answer answer = call_extends(options->operands[0], options->operands[1]);
-    const char *refused = options->operands[answer.which];
+    struct extends_answer answer;
 
-    if (answer.answer.number >= CURLEW_BAD_SIZE && answer.answer.number <= CURLEW_BAD_MOVE) {
-        refuse_layout(answer.which == 0 ? "OLD" : "NEW", refused, strlen(refused), answer.answer);
+    if (has(options, OPTION_LAYOUT | OPTION_NAMES))
+        return bad_use(options, "--extends is not taken with ", option_name(options->given & (OPTION_LAYOUT | OPTION_NAMES)));
+    if (operands_suit(options, 2, 2) != DONE)
+        return TROUBLE;
+    if (layout_given(&texts.older, "OLD", options->operands[0], TO_SHOW) != DONE ||
+        layout_given(&texts.newer, "NEW", options->operands[1], TO_SHOW) != DONE)
         return REFUSED;
-    }
-    if (!layout_for_packing(&texts.older, options->operands[0]) || !layout_for_packing(&texts.newer, options->operands[1]))
-        return REFUSED;
+    answer = call_extends(options->operands[0], options->operands[1]);
     return extends_answered(&texts, options->form, answer.answer);
 }

@@ -105,10 +105,38 @@ void text_real(struct text *text, double value)
         text_nan(text, value);
         return;
     }
+    if (value > 0 && value < 1e15 && value == (double)(uint64_t)value) {
+        text_unsigned(text, (uint64_t)value);
+        return;
+    }
     do
         snprintf(digits, sizeof digits, "%.*g", precision, value);
     while (precision++ < 17 && strtod(digits, NULL) != value);
     text_string(text, digits);
+}
+
+void text_single(struct text *text, double value)
+{
+    char digits[40];
+    int precision = 6;
+
+    if (!isfinite(value)) {
+        text_real(text, value);
+        return;
+    }
+    do
+        snprintf(digits, sizeof digits, "%.*g", precision, value);
+    while (precision++ < 9 && (float)strtod(digits, NULL) != (float)value);
+    text_string(text, digits);
+}
+
+void text_json_real(struct text *text, double value)
+{
+    size_t start = text->length;
+
+    text_real(text, value);
+    if (memchr(text->bytes + start, '.', text->length - start) == NULL && memchr(text->bytes + start, 'e', text->length - start) == NULL)
+        text_string(text, ".0");
 }
 
 void text_hex(struct text *text, const uint8_t *bytes, size_t length)
@@ -172,6 +200,14 @@ void text_escaped(struct text *text, const uint8_t *bytes, size_t length)
     show_all(text, bytes, length, '\\');
 }
 
+void text_message(struct text *text, const char *bytes, size_t length)
+{
+    size_t i = 0;
+
+    while (i < length)
+        i += show_one(text, (const uint8_t *)bytes + i, length - i);
+}
+
 void text_format(struct text *text, const char *format, ...)
 {
     va_list arguments;
@@ -184,16 +220,6 @@ void text_format(struct text *text, const char *format, ...)
     vsnprintf(text_room(text, (size_t)length + 1), (size_t)length + 1, format, arguments);
     va_end(arguments);
     text->length += (size_t)length;
-}
-
-size_t text_columns(const char *bytes, size_t length)
-{
-    size_t columns = 0;
-    size_t i;
-
-    for (i = 0; i < length; i++)
-        columns += ((uint8_t)bytes[i] & 0xc0) != 0x80;
-    return columns;
 }
 
 void text_free(struct text *text)

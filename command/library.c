@@ -31,6 +31,14 @@ struct curlew_answer call_layout(const char *text, size_t length)
     return curlew_get_answer(reply);
 }
 
+struct curlew_answer call_fields(const char *text, size_t length, uint8_t *rows)
+{
+    uint8_t reply[CURLEW_FIELDS_REPLY];
+
+    curlew_fields(text, length, rows, CURLEW_MAX_LAYOUT * CURLEW_FIELD_SIZE, reply, sizeof reply);
+    return curlew_get_answer(reply);
+}
+
 struct promises call_promises(const struct layout *layout)
 {
     uint8_t reply[CURLEW_PROMISES_REPLY];
@@ -60,6 +68,16 @@ struct curlew_answer call_pack(const struct layout *layout, const struct values 
 
     curlew_pack(layout->text, layout->length, values->slots, values->count * CURLEW_SLOT_SIZE, values->area, values->used,
                 record, CURLEW_MAX_RECORD, reply, sizeof reply);
+    return curlew_get_answer(reply);
+}
+
+struct curlew_answer call_pack_one(const struct layout *layout, const struct values *values, size_t index, uint8_t *record)
+{
+    const struct field *field = &layout->value_fields[index];
+    uint8_t reply[CURLEW_PACK_REPLY];
+
+    curlew_pack(layout->text + field->start, field->length, values->slots + index * CURLEW_SLOT_SIZE, CURLEW_SLOT_SIZE, values->area,
+                values->used, record, CURLEW_MAX_RECORD, reply, sizeof reply);
     return curlew_get_answer(reply);
 }
 
@@ -162,35 +180,4 @@ struct curlew_answer call_from_perl(const char *text, size_t length, char *layou
 
     curlew_from_perl(text, length, layout, CURLEW_MAX_LAYOUT, reply, sizeof reply);
     return curlew_get_answer(reply);
-}
-
-/* ---- layouts ---- */
-
-static int take_layout(struct layout *layout, struct curlew_answer answer)
-{
-    if (answer.number != CURLEW_OK) {
-        refuse_layout("layout", layout->text, layout->length, answer);
-        return 0;
-    }
-    layout_split(layout);
-    return 1;
-}
-
-int layout_for_packing(struct layout *layout, const char *text)
-{
-    layout->text = text;
-    layout->length = strlen(text);
-    return take_layout(layout, call_layout(text, layout->length));
-}
-
-/* Reading takes layouts that packing refuses (`x*`): the library judges it by a record of no bytes. */
-int layout_for_reading(struct layout *layout, const char *text)
-{
-    struct values none = {{0}, 0, NULL, 0};
-    uint8_t reply[CURLEW_READ_REPLY];
-
-    layout->text = text;
-    layout->length = strlen(text);
-    curlew_read(text, layout->length, NULL, 0, none.slots, sizeof none.slots, NULL, 0, 0, reply, sizeof reply);
-    return take_layout(layout, curlew_get_answer(reply));
 }

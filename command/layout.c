@@ -3,41 +3,6 @@
 
 #include "tool.h"
 
-/* Where a field begins. Behind a star that depends on the value, until `X*` or `@` with a number says it again. */
-struct walk {
-    int known, highest_known;
-    size_t at, highest;
-};
-
-/*
- * The bytes that a field fills, by the library: a field of a layout that was accepted is itself such a layout, and the record that it
- * packs has that length, with an empty value for a star. It says nothing of X and @, which fill none.
- */
-static size_t bytes_filled(const struct layout *layout, const struct field *field)
-{
-    return call_layout(layout->text + field->start, field->length).second;
-}
-
-/* What a field does to the cursor, as curlew.h has it under LAYOUTS. */
-static void walk_on(struct walk *walk, const struct layout *layout, const struct field *field)
-{
-    if (field->type == 'X' && field->form == STARRED) {
-        walk->known = 1;
-        walk->at = 0;
-    } else if (field->type == 'X') {
-        walk->at -= field->count < walk->at ? field->count : walk->at;
-    } else if (field->type == '@') {
-        walk->known = field->form == STARRED ? walk->highest_known : 1;
-        walk->at = field->form == STARRED ? walk->highest : field->count;
-    } else {
-        walk->known = walk->known && field->form != STARRED;
-        walk->at += bytes_filled(layout, field);
-    }
-    if (walk->at > walk->highest)
-        walk->highest = walk->at;
-    walk->highest_known = walk->highest_known && (field_value(field) == MOVE || field->form != STARRED);
-}
-
 static void count_cell(struct table *table, const struct field *field)
 {
     if (field->form == COUNTED)
@@ -46,14 +11,12 @@ static void count_cell(struct table *table, const struct field *field)
         table_word(table, field->form == STARRED ? "all" : "none", PLAIN);
 }
 
-static void bytes_cell(struct table *table, const struct layout *layout, const struct field *field)
+static void place_cell(struct table *table, uint32_t place)
 {
-    if (field->type == 'X' || field->type == '@')
-        table_word(table, "-", PLAIN);
-    else if (field->form == STARRED)
+    if (place == CURLEW_OPEN)
         table_word(table, "unknown", PLAIN);
     else
-        table_number(table, bytes_filled(layout, field));
+        table_number(table, place);
 }
 
 /* In tab-separated text the first field that stands against a promise says so in a column of its own. */
@@ -68,7 +31,6 @@ static void promise_cells(struct table *table, const struct field *field, struct
 
 static void layout_rows(const struct layout *layout, enum form form, struct promises promises, struct table *table)
 {
-    struct walk walk = {1, 1, 0, 0};
     size_t value = 0, i;
 
     for (i = 0; i < layout->count; i++) {
@@ -78,33 +40,37 @@ static void layout_rows(const struct layout *layout, enum form form, struct prom
             table_word(table, "-", PLAIN);
         else
             table_number(table, value++);
+        if (layout->names.count > 0) {
+            if (field_value(field) == MOVE)
+                text_char(&table->text, '-');
+            else
+                text_message(&table->text, layout->names.text[value - 1], strlen(layout->names.text[value - 1]));
+            table_close(table, PLAIN);
+        }
         text_add(&table->text, layout->text + field->start, field->length);
         table_close(table, PLAIN);
         field_words(field, &table->text);
         table_close(table, PLAIN);
         count_cell(table, field);
-        if (walk.known)
-            table_number(table, walk.at);
+        place_cell(table, field->position);
+        if (field->type == 'X' || field->type == '@')
+            table_word(table, "-", PLAIN);
         else
-            table_word(table, "unknown", PLAIN);
-        bytes_cell(table, layout, field);
-        if (form == TSV)
+            place_cell(table, field->bytes);
+        if (form == TSV || form == CSV)
             promise_cells(table, field, promises);
-        walk_on(&walk, layout, field);
     }
 }
 
-static int has_star(const struct layout *layout)
+static void place_json(struct text *out, uint32_t place)
 {
-    size_t i;
-
-    for (i = 0; i < layout->values; i++)
-        if (layout->value_fields[i].form == STARRED)
-            return 1;
-    return 0;
+    if (place == CURLEW_OPEN)
+        text_string(out, "null");
+    else
+        text_unsigned(out, place);
 }
 
-static void field_json(const struct layout *layout, const struct field *field, const struct walk *walk, size_t value, struct text *out)
+static void field_json(const struct layout *layout, const struct field *field, size_t value, struct text *out)
 {
     text_char(out, '{');
     json_key(out, "field");
@@ -112,6 +78,8 @@ static void field_json(const struct layout *layout, const struct field *field, c
         text_string(out, "null");
     else
         text_unsigned(out, value);
+    if (layout->names.count > 0 && field_value(field) != MOVE)
+        json_named(out, "name", layout->names.text[value], strlen(layout->names.text[value]));
     json_named(out, "type", layout->text + field->start, field->length);
     json_key(out, "words");
     text_char(out, '"');
@@ -123,15 +91,9 @@ static void field_json(const struct layout *layout, const struct field *field, c
     else
         text_string(out, field->form == STARRED ? "\"*\"" : "null");
     json_key(out, "byte");
-    if (walk->known)
-        text_unsigned(out, walk->at);
-    else
-        text_string(out, "null");
+    place_json(out, field->position);
     json_key(out, "bytes");
-    if (field->form == STARRED || field->type == 'X' || field->type == '@')
-        text_string(out, "null");
-    else
-        text_unsigned(out, bytes_filled(layout, field));
+    place_json(out, field->type == 'X' || field->type == '@' ? CURLEW_OPEN : field->bytes);
     text_char(out, '}');
 }
 
@@ -146,7 +108,6 @@ static void promise_json(const char *key, const char *place_key, uint32_t place,
 
 static void layout_json(const struct layout *layout, struct curlew_answer answer, struct promises promises, struct text *out)
 {
-    struct walk walk = {1, 1, 0, 0};
     size_t value = 0, i;
 
     text_char(out, '{');
@@ -154,7 +115,7 @@ static void layout_json(const struct layout *layout, struct curlew_answer answer
     json_number(out, "values", answer.first);
     json_number(out, "bytes", answer.second);
     json_key(out, "starred");
-    text_string(out, has_star(layout) ? "true" : "false");
+    text_string(out, layout->starred ? "true" : "false");
     promise_json("grows", "grows_byte", promises.grows, out);
     promise_json("keeps", "keeps_byte", promises.keeps, out);
     promise_json("joins", "joins_byte", promises.joins, out);
@@ -163,9 +124,8 @@ static void layout_json(const struct layout *layout, struct curlew_answer answer
     for (i = 0; i < layout->count; i++) {
         if (i > 0)
             text_char(out, ',');
-        field_json(layout, &layout->fields[i], &walk, value, out);
+        field_json(layout, &layout->fields[i], value, out);
         value += field_value(&layout->fields[i]) != MOVE;
-        walk_on(&walk, layout, &layout->fields[i]);
     }
     text_string(out, "]}\n");
 }
@@ -182,7 +142,7 @@ static void layout_notes(struct curlew_answer answer)
 static void layout_summary(const struct layout *layout, struct curlew_answer answer, struct text *out)
 {
     text_count(out, answer.first, "value", "values");
-    text_string(out, has_star(layout) ? ", a record of at least " : ", a record of ");
+    text_string(out, layout->starred ? ", a record of at least " : ", a record of ");
     text_count(out, answer.second, "byte\n", "bytes\n");
 }
 
@@ -202,17 +162,21 @@ static void promise_line(const struct layout *layout, const char *promise, uint3
 }
 
 /* Rows of fields; for people also what they come to. */
-static void layout_table(const struct layout *layout, enum form form, struct curlew_answer answer, struct promises promises,
-                         struct text *out)
+static void layout_table(const struct layout *layout, const struct options *options, struct curlew_answer answer,
+                         struct promises promises, struct text *out)
 {
-    static const struct column columns[] = {{"field", 1}, {"type", 0}, {"in words", 0}, {"count", 1}, {"first byte", 1}, {"bytes", 1},
-                                            {"may grow", 0}, {"loses nothing", 0}, {"may be joined", 0}};
-    size_t width = sizeof columns / sizeof columns[0];
+    static const struct column plain[] = {{"field", 1}, {"type", 0}, {"in words", 0}, {"count", 1}, {"first byte", 1}, {"bytes", 1},
+                                          {"may grow", 0}, {"loses nothing", 0}, {"may be joined", 0}};
+    struct column columns[10] = {{"field", 1}, {"name", 0}};
+    size_t named = layout->names.count > 0 ? 1 : 0;
+    size_t width = sizeof plain / sizeof plain[0] + named;
+    enum form form = options->form;
     struct table table;
 
-    table_start(&table, columns, form == TSV ? width : width - 3);
+    memcpy(columns + 1 + named, plain + 1, sizeof plain - sizeof plain[0]);
+    table_start(&table, columns, form == PEOPLE ? width - 3 : width);
     layout_rows(layout, form, promises, &table);
-    table_print(&table, form, out);
+    table_print(&table, form, !has(options, OPTION_NO_HEAD), out);
     table_free(&table);
     if (form == PEOPLE) {
         layout_summary(layout, answer, out);
@@ -222,48 +186,56 @@ static void layout_table(const struct layout *layout, enum form form, struct cur
     }
 }
 
-int command_layout(const struct options *options)
+int command_layout(struct options *options)
 {
     static struct layout layout;
     struct curlew_answer answer;
     struct promises promises;
     struct text out = {0};
+    int status;
 
-    if (options->given & OPTION_EXTENDS)
+    if (has(options, OPTION_EXTENDS))
         return layout_extends(options);
-    if (!layout_for_packing(&layout, options->operands[0]))
-        return REFUSED;
-    answer = call_layout(layout.text, layout.length);
-    promises = call_promises(&layout);
-    if (options->form == JSON)
-        layout_json(&layout, answer, promises, &out);
-    else
-        layout_table(&layout, options->form, answer, promises, &out);
-    output_text(&out);
-    layout_notes(answer);
-    text_free(&out);
-    return DONE;
+    status = layout_take(&layout, options, TO_SHOW);
+    if (status == DONE)
+        status = operands_suit(options, 0, 0);
+    if (status == DONE) {
+        answer = call_layout(layout.text, layout.length);
+        promises = call_promises(&layout);
+        if (options->form == JSON)
+            layout_json(&layout, answer, promises, &out);
+        else
+            layout_table(&layout, options, answer, promises, &out);
+        output_text(&out);
+        layout_notes(answer);
+        text_free(&out);
+    }
+    layout_free(&layout);
+    return status;
 }
 
-int command_perl(const struct options *options)
+int command_perl(struct options *options)
 {
-    const char *text = options->operands[0];
-    size_t length = strlen(text);
     char layout[CURLEW_MAX_LAYOUT];
-    struct curlew_answer answer = call_from_perl(text, length, layout);
+    struct curlew_answer answer;
     struct text out = {0};
+    const char *text;
 
+    if (operands_suit(options, 1, 1) != DONE)
+        return TROUBLE;
+    text = options->operands[0];
+    answer = call_from_perl(text, strlen(text), layout);
     if (answer.number != CURLEW_OK) {
-        refuse_template(text, length, answer);
+        refuse_template(text, strlen(text), answer);
         return REFUSED;
     }
     if (options->form == JSON) {
         text_char(&out, '{');
-        json_named(&out, "template", text, length);
+        json_named(&out, "template", text, strlen(text));
         json_named(&out, "layout", layout, answer.first);
         text_char(&out, '}');
     } else {
-        if (options->form == TSV)
+        if (options->form != PEOPLE)
             text_string(&out, "layout\n");
         text_add(&out, layout, answer.first);
     }

@@ -81,14 +81,14 @@ static void add_cell(const struct table *table, size_t column, const char *bytes
     text_string(out, last ? "\n" : "  ");
 }
 
-static void lined_up(struct table *table, struct text *out)
+static void lined_up(struct table *table, int head, struct text *out)
 {
     size_t widths[16];
     size_t i;
 
     for (i = 0; i < table->width; i++)
         widths[i] = column_width(table, i);
-    for (i = 0; i < table->width; i++)
+    for (i = 0; head && i < table->width; i++)
         add_cell(table, i, table->columns[i].head, strlen(table->columns[i].head), HEAD, widths[i], out);
     for (i = 0; i < table->count; i++) {
         size_t length;
@@ -98,29 +98,34 @@ static void lined_up(struct table *table, struct text *out)
     }
 }
 
-static void with_tabs(struct table *table, struct text *out)
+/* With commas a value that is not marked is an empty cell; an empty text has quotes. */
+static void in_lines(struct table *table, enum form form, int head, struct text *out)
 {
+    char between = form == CSV ? ',' : '\t';
     size_t i;
 
-    for (i = 0; i < table->width; i++) {
+    for (i = 0; head && i < table->width; i++) {
         text_string(out, table->columns[i].head);
-        text_char(out, i + 1 == table->width ? '\n' : '\t');
+        text_char(out, i + 1 == table->width ? '\n' : between);
     }
     for (i = 0; i < table->count; i++) {
         size_t length;
         const char *text = cell_text(table, i, &length);
 
-        text_add(out, text, length);
-        text_char(out, (i + 1) % table->width == 0 ? '\n' : '\t');
+        if (form == TSV)
+            text_add(out, text, length);
+        else if (table->cells[i].ink != MISSING)
+            csv_cell(out, text, length, 0);
+        text_char(out, (i + 1) % table->width == 0 ? '\n' : between);
     }
 }
 
-void table_print(struct table *table, enum form form, struct text *out)
+void table_print(struct table *table, enum form form, int head, struct text *out)
 {
-    if (form == TSV)
-        with_tabs(table, out);
+    if (form == TSV || form == CSV)
+        in_lines(table, form, head, out);
     else
-        lined_up(table, out);
+        lined_up(table, head, out);
     table->count = 0;
     table->text.length = 0;
 }

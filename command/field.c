@@ -1,20 +1,5 @@
-/*
- * The fields of a layout, for showing them.
- *
- * layout_split looks for no fault and guards no number: it is called only with a layout that the library accepted. Such a text is a
- * row of fields and spaces, each field one of the type characters, perhaps `u`, perhaps `*` or digits, so that the loop below meets
- * nothing else; it has at most CURLEW_MAX_LAYOUT bytes, so that it has no more fields; and a count is at most CURLEW_MAX_COUNT, so
- * that no sum overflows. What a field does to a record is the library's to say: the numbers shown are its answers, or sums of them
- * that tests/command holds to its answer for the whole layout.
- */
-#include <string.h>
-
+/* A field of a layout: what sort of value it takes, and what it is in words. Where it stands and what it fills is the library's to say. */
 #include "tool.h"
-
-static int is_digit(char c)
-{
-    return c >= '0' && c <= '9';
-}
 
 enum value_form field_value(const struct field *field)
 {
@@ -24,49 +9,6 @@ enum value_form field_value(const struct field *field)
     case 'b': case 'B': case 'h': case 'H': return DIGITS;
     case 'r': case 'R': case 'q': case 'Q': return REALS;
     default: return INTEGERS;
-    }
-}
-
-/* Takes the field that begins at `at`; returns where it ends. */
-static size_t field_split(const struct layout *layout, size_t at, struct field *field)
-{
-    const char *text = layout->text;
-
-    memset(field, 0, sizeof *field);
-    field->start = at;
-    field->type = text[at++];
-    field->flag = at < layout->length && text[at] == 'u';
-    at += field->flag ? 1 : 0;
-    if (at < layout->length && text[at] == '*') {
-        field->form = STARRED;
-        at++;
-    } else if (at < layout->length && is_digit(text[at])) {
-        field->form = COUNTED;
-        while (at < layout->length && is_digit(text[at]))
-            field->count = 10 * field->count + (size_t)(text[at++] - '0');
-    } else {
-        field->count = 1;
-    }
-    field->length = at - field->start;
-    return at;
-}
-
-void layout_split(struct layout *layout)
-{
-    size_t at = 0;
-
-    layout->count = layout->values = 0;
-    while (at < layout->length) {
-        struct field *field = &layout->fields[layout->count];
-
-        if (layout->text[at] == ' ') {
-            at++;
-            continue;
-        }
-        at = field_split(layout, at, field);
-        layout->count++;
-        if (field_value(field) != MOVE)
-            layout->value_fields[layout->values++] = *field;
     }
 }
 
