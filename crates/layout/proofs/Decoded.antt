@@ -14,7 +14,7 @@ use Rattle.layout.specs.declared.Parsed.{Parsed}
 use Rattle.layout.specs.declared.Parsed.the-variants.{Fields, Refused}
 use Rattle.layout.specs.Refusals.{if_then_else_, Result, ok, refused}
 use Rattle.layout.specs.Layout.{maxLayout, takesSlot, toNat, slotCount}
-use Rattle.layout.specs.Words.{lastData, shapeNumbered, countFrom, FieldOf, fieldOf, decoded, Parses, slotsTaken, slotsNumbered, flagUnit, countUnit}
+use Rattle.layout.specs.Words.{lastData, shapeNumbered, countFrom, FieldOf, fieldOf, wordFor, decoded, Parses, slotsTaken, slotsNumbered, flagUnit, countUnit}
 use Rattle.layout.proofs.Steps.{bit-le, field-fits}
 use Rattle.layout.proofs.Numbered.{data-code, move-code, slot-numbered}
 
@@ -26,6 +26,12 @@ decoded-length n ws h = length-map (take n ws) fieldOf ∙ length-take-le n ws h
 pub decoded-more : (n w : ℕ) (ws : List ℕ) → n < length ws → decoded (n + 1) (set ws n w) ≡ decoded n ws ++ (fieldOf w ∷ [])
 unfolding decoded
 decoded-more n w ws h = rw (add-one, take-suc-set ws n w h) (map-append fieldOf (take n ws) (w ∷ []))
+
+-- and the words are those of the fields
+pub plan-more : (n w : ℕ) (ws : List ℕ) → n < length ws → map wordFor (decoded n ws) ≡ take n ws → wordFor (fieldOf w) ≡ w
+    → map wordFor (decoded (n + 1) (set ws n w)) ≡ take (n + 1) (set ws n w)
+plan-more n w ws h e q =
+    ap (map wordFor) (decoded-more n w ws h) ∙ map-append wordFor (decoded n ws) (fieldOf w ∷ []) ∙ (rw (add-one, take-suc-set ws n w h, e, q))
 
 -- the slots of joined fields
 pub count-append : (fs gs : List Field) → slotCount (fs ++ gs) ≡ slotCount fs + slotCount gs
@@ -105,6 +111,14 @@ parsed-fields (ok fs) r n slots ws p e =
     let m : min n (length ws) ≡ n = sym (length-map (take n ws) fieldOf ∙ length-take n ws) ∙ ap length d ∙ sym l in
     record { fields = ap ok (sym d); taken = k ∙ ap slotCount (sym d); few = omega arith; room = p .room }
 parsed-fields (refused why p) r n slots ws q e = let z : _≡_ {A = ℕ} 0 1 = cc (q .answer) in absurd (omega arith)
+
+-- and that the words are those of the fields
+pub parsed-plan : (o : Result (List Field)) (r : Parsed) (n slots : ℕ) (ws : List ℕ) → Parses o r ws → r ≡ Fields n slots → map wordFor (decoded n ws) ≡ take n ws
+parsed-plan (ok fs) r n slots ws p e =
+    let l : n ≡ length fs = cc (p .answer) in
+    let d : decoded n ws ≡ fs = ap (λ (i : ℕ). decoded i ws) l ∙ p .words in
+    rw (d, l) (p .plan)
+parsed-plan (refused why p) r n slots ws q e = let z : _≡_ {A = ℕ} 0 1 = cc (q .answer) in absurd (omega arith)
 
 pub parsed-refused : (o : Result (List Field)) (r : Parsed) (why : Refusal) (p : ℕ) (ws : List ℕ) → Parses o r ws → r ≡ Refused why p → o ≡ refused why p
 parsed-refused (ok fs) r why p ws q e = let z : _≡_ {A = ℕ} 0 1 = cc (q .answer) in absurd (omega arith)

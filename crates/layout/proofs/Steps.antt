@@ -22,9 +22,10 @@ use Rattle.layout.specs.declared.Typed.the-variants.{Known, Unknown}
 use Rattle.layout.specs.declared.Refusal.the-variants.{UnknownType, CountTooLarge, CountMisused}
 use Rattle.layout.specs.Refusals.{if_then_else_, refused}
 use Rattle.layout.specs.Layout.{maxCount, isDecimal, digitRun, decimal, typeOf, flagged, countOf, countLength, inLimit, hasMeaning, toNat, takesSlot, field, bad, fieldAfter, fieldAt, stepOf}
+use Rattle.layout.proofs.Encoded.{number-back, count-back}
 use Rattle.layout.proofs.Laws.{FitType, fit-either, decimal-held}
 use Rattle.layout.specs.declared.Found.the-variants.{Item, Bad}
-use Rattle.layout.specs.Words.{lastText, lastDigits, lastIntegers, lastData, skipNumber, backNumber, gotoNumber, lastType, typeNumbered, countFrom, known, HasType, fieldOf, wordOf, overCount, heldNumber, NumberAt, CountAt, TailAt, FitCode, FitCount, FieldOf, FoundAs, flagUnit, countUnit}
+use Rattle.layout.specs.Words.{lastText, lastDigits, lastIntegers, lastData, skipNumber, backNumber, gotoNumber, lastType, typeNumbered, countFrom, known, HasType, fieldOf, wordOf, wordFor, overCount, heldNumber, NumberAt, CountAt, TailAt, FitCode, FitCount, FieldOf, FoundAs, flagUnit, countUnit}
 
 -- ---- a decimal number from the place i on
 
@@ -147,6 +148,13 @@ word-field c u n h =
     let flag : (toNat u + 2 * n) % 2 ≡ toNat u = omega arith in
     let high : wordOf c u n / countUnit ≡ n = omega arith in
     rw (low, upper, flag, high, bit-of u)
+
+-- a field's word comes back from the field
+pub word-back : (d : ℕ) (u : Bool) (n : ℕ) → d ≤ lastType → HasType d → wordFor (fieldOf (wordOf d u n)) ≡ wordOf d u n
+unfolding wordFor
+word-back d u n l h =
+    let small : d < 256 = omega arith in
+    rw (word-field d u n small, number-back d l h, count-back n)
 
 width-fits : (a b c : Bool) → (0 < (if a then 1 else if b then 2 else if c then 4 else 8)) × ((if a then 1 else if b then 2 else if c then 4 else 8) ≤ 8)
 width-fits true b c = (omega arith, omega arith)
@@ -309,5 +317,5 @@ module _ (packing : Bool) (text : List ℕ) (p d b v e : ℕ) (s : Seen text p d
       let small : d < 256 = omega (arith, s .low) in
       record {
         step = rw (w, more) (step-field packing p _ _ (s .no-space) k typed u refl v number h d small numbered m);
-        told = (slot ∙ (rw (w, word-field d u v small)), omega (arith, inside, s .start, s .tail .1 .1));
+        told = (slot ∙ (rw (w, word-field d u v small)), omega (arith, inside, s .start, s .tail .1 .1), rw w (word-back d u v (s .low) (s .named)));
       }

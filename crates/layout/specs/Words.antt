@@ -138,6 +138,31 @@ pub record FieldOf (w : ℕ) (f : Field) : Type 0 where
 abbrev pub wordOf : ℕ → Bool → ℕ → ℕ
 wordOf c u n = c + flagUnit * toNat u + countUnit * n
 
+-- the other way round: the number of a type, of a count, and the word of a field
+abbrev pub widthNumber : ℕ → ℕ
+widthNumber w = if ltb w 2 then 6 else if ltb w 4 then 8 else if ltb w 8 then 10 else 12
+
+abbrev pub realNumber : Bool → ℕ
+realNumber true = suc lastIntegers
+realNumber false = suc lastSingle
+
+abbrev pub typeNumber : Code → ℕ
+typeNumber (Data (Text pad)) = pad / 32
+typeNumber (Data (Digits hex high)) = suc lastText + 2 * toNat hex + toNat high
+typeNumber (Data (Integers w big)) = widthNumber w + toNat big
+typeNumber (Data (Reals single big)) = realNumber single + toNat big
+typeNumber (Move Skip) = skipNumber
+typeNumber (Move Back) = backNumber
+typeNumber (Move Goto) = gotoNumber
+
+abbrev pub countNumber : Count → ℕ
+countNumber Absent = 0
+countNumber Star = 1
+countNumber (Times n) = suc (suc n)
+
+unfoldable pub wordFor : Field → ℕ
+wordFor f = wordOf (typeNumber (f .code)) (f .unsigned) (countNumber (f .count))
+
 -- the fields in the first n words
 unfoldable pub decoded : ℕ → List ℕ → List Field
 unfolding fieldOf
@@ -161,10 +186,16 @@ abbrev pub Decodes : Result (List Field) → List ℕ → Type 0
 Decodes (ok fs) ws = decoded (length fs) ws ≡ fs
 Decodes (refused n p) ws = Unit {0}
 
+-- and they are the words of those fields
+abbrev pub Encodes : Result (List Field) → List ℕ → Type 0
+Encodes (ok fs) ws = map wordFor fs ≡ take (length fs) ws
+Encodes (refused n p) ws = Unit {0}
+
 -- the answer is that of the definition, and the first words are the fields; the other words may be anything
 pub record Parses (o : Result (List Field)) (r : Parsed) (ws : List ℕ) : Type 0 where
   pub answer : r ≡ parsedAs o
   pub words : Decodes o ws
+  pub plan : Encodes o ws
   pub room : length ws ≤ maxLayout
 
 -- ---- inside `parse`
@@ -186,9 +217,9 @@ abbrev pub stepFound : Found → Step
 stepFound (Item w m k) = field (fieldOf w) m
 stepFound (Bad why place) = bad why place
 
--- its slots are those of its field, and it ends inside a text of so many bytes
+-- its slots are those of its field, it ends inside a text of so many bytes, and its word is the field's
 abbrev pub Told : ℕ → ℕ → Found → Type 0
-Told size p (Item w m k) = (k ≡ slotsTaken (fieldOf w)) × (p + m < size)
+Told size p (Item w m k) = (k ≡ slotsTaken (fieldOf w)) × (p + m < size) × (wordFor (fieldOf w) ≡ w)
 Told size p (Bad why place) = Unit {0}
 
 pub record FoundAs (packing : Bool) (text : List ℕ) (p : ℕ) (r : Found) : Type 0 where

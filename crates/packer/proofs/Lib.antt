@@ -1,2 +1,2 @@
 -- Laws of the whole call.
-mod WholeLaws
+pub mod WholeLaws

@@ -8,8 +8,8 @@ use layout::Parsed;
 use layout::Refusal;
 use record::Answer;
 
-// What is left once the layout is read.
-fn packed(p: Parsed, words: &[u32], slots: &[u32], area: &[u8], output: &mut [u8]) -> Answer
+// What is left once the fields are read, of a layout or a plan.
+pub fn packed(p: Parsed, words: &[u32], slots: &[u32], area: &[u8], output: &mut [u8]) -> Answer
     requires { ⌜ Readable p (now words) (now slots) (now area) (now output) ⌝ }
     ensures { λ r. ⌜ PacksAsRead p (before words) (before slots) (before area) (before output) r (after output) ⌝ }
 {

@@ -15,7 +15,7 @@ fn bit(b: bool) -> usize
 }
 
 // The count means something after the type, so that number 4 does not apply; both are given by their numbers.
-fn has_meaning(packing: bool, d: u32, n: u32) -> bool
+pub fn has_meaning(packing: bool, d: u32, n: u32) -> bool
     ensures { λ r. ⌜ r ≡ hasMeaning packing (known (typeNumbered d)) (countFrom n) ⌝ }
 {
     if d <= layout::LAST_DATA {

@@ -1,2 +1,3 @@
--- The laws of each way out.
+-- The laws of each way out, and of the whole call.
 pub mod Calls
+pub mod Whole

@@ -13,3 +13,4 @@ pub mod Widening
 pub mod Readings
 pub mod Arguments
 mod Steps
+pub mod ByFields

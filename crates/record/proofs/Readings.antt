@@ -20,8 +20,8 @@ use Rattle.layout.proofs.Laws.{bound, demanded, ok-inj, no-number-zero}
 use Rattle.record.specs.declared.Answer.{Answer}
 use Rattle.record.specs.Bytes.{part, storeAt}
 use Rattle.record.specs.Table.{maxSlots, slotWidth, slotsOf, Value, areaBytes, slotNumbers, valueBytes}
-use Rattle.record.specs.Geometry.{amount, bytesFor, itemsIn, movedIn, sizesFit}
-use Rattle.record.specs.Reading.{Read, loaded, valuesFrom, reads, putInto, readEffect, positionsOf, read, readSteps}
+use Rattle.record.specs.Geometry.{amount, bytesFor, itemsIn, movedIn, lengthsFit}
+use Rattle.record.specs.Reading.{Read, loaded, valuesFrom, readsFields, putInto, readEffect, positionsOf, read, readSteps, leftOf, readFields}
 use Rattle.record.proofs.Bytes.{and-true}
 use Rattle.record.proofs.Tables.{length-slots}
 use Rattle.record.proofs.Sizes.{Sized, sized}
@@ -56,15 +56,15 @@ pub record Few (slots : List ℕ) (n : ℕ) : Type 0 where
 few-by : (slots : List ℕ) (k n : ℕ) → length slots ≤ slotWidth * maxSlots → k ≤ length (slotsOf slots) → n ≤ k → Few slots n
 few-by slots k n within enough few = let l : length (slotsOf slots) ≡ length slots / slotWidth = length-slots slots in record { lent = omega arith; most = omega arith }
 
-reads-few : (layout bs slots area : List ℕ) (mark : ℕ) (vs : List Value) → reads layout bs slots area mark ≡ ok vs → Few slots (length vs)
-unfolding reads
-reads-few layout bs slots area mark vs e =
+reads-few : (size : ℕ) (o : Result (List Field)) (bs slots area : List ℕ) (mark : ℕ) (vs : List Value) → readsFields size o bs slots area mark ≡ ok vs → Few slots (length vs)
+unfolding readsFields
+reads-few size o bs slots area mark vs e =
     let (fit, e₁) = demanded _ _ _ _ vs e in
-    let (fs, _, e₂) = bound (fieldsOf false layout) _ vs e₁ in
+    let (fs, _, e₂) = bound o _ vs e₁ in
     let (enough, e₃) = demanded _ _ _ _ vs e₂ in
     let shown : List Value = valuesFrom bs 0 fs in
     let (_, e₄) = demanded (leb (mark + length (valueBytes shown)) (length area)) NoRoom 0 (λ _. ok shown) vs e₃ in
-    let all : Sized (length layout) (length slots) (length bs) (length area) = sized (and-true (sizesFit layout slots bs area) (leb mark (length area)) fit .0) in
+    let all : Sized size (length slots) (length bs) (length area) = sized (and-true (lengthsFit size (length slots) (length bs) (length area)) (leb mark (length area)) fit .0) in
     few-by slots (slotCount fs) (length vs) (all .lent .table) (leb-true (slotCount fs) (length (slotsOf slots)) enough) (subst (λ (ws : List Value). length ws ≤ slotCount fs) {x = shown} (ok-inj e₄) (values-few bs 0 fs))
 
 -- ---- what stood in the slots does not count
@@ -110,34 +110,63 @@ module _ (xs area : List ℕ) (mark : ℕ) (at : List ℕ) where
   effect-few (ok vs) h z = h vs refl
   effect-few (refused why place) h z = no-number-zero why z
 
-module _ (layout bs area : List ℕ) (mark : ℕ) (xs : List ℕ) where
+-- ---- by fields that stand in a run of so many bytes or numbers
+
+module _ (size : ℕ) (o : Result (List Field)) (bs area : List ℕ) (mark : ℕ) (xs : List ℕ) where
   -- any slots will do in the place of ys, if they are as many
   module _ (ys : List ℕ) (same : length xs ≡ length ys) where
-    reads-same : reads layout bs ys area mark ≡ reads layout bs xs area mark
-    unfolding reads
+    reads-same : readsFields size o bs ys area mark ≡ readsFields size o bs xs area mark
+    unfolding readsFields
     reads-same = rw (length-slots ys, length-slots xs, same)
 
-    pub read-over : read layout bs ys area mark ≡ over ys (read layout bs xs area mark)
-    unfolding read
-    read-over = rw reads-same (effect-over xs area mark (positionsOf (length bs) (fieldsOf false layout)) ys (reads layout bs xs area mark))
+    pub fields-over : leftOf (readFields size o bs ys area mark) ≡ over ys (leftOf (readFields size o bs xs area mark))
+    unfolding readFields
+    fields-over = rw reads-same (effect-over xs area mark (positionsOf (length bs) o) ys (readsFields size o bs xs area mark))
 
-    pub steps-same : readSteps layout bs ys area mark ≡ readSteps layout bs xs area mark
-    unfolding readSteps
-    steps-same = rw reads-same
+    pub fields-steps : readFields size o bs ys area mark .answer .steps ≡ readFields size o bs xs area mark .answer .steps
+    unfolding readFields
+    fields-steps = rw reads-same
 
-  module _ (z : read layout bs xs area mark .answer .number ≡ 0) where
+  module _ (z : readFields size o bs xs area mark .answer .answer .number ≡ 0) where
     -- the slots after those that are set stay as lent
-    pub read-unset : drop (read layout bs xs area mark .answer .first * slotWidth) (read layout bs xs area mark .slots) ≡ drop (read layout bs xs area mark .answer .first * slotWidth) xs
-    unfolding read
-    read-unset = effect-unset xs area mark (positionsOf (length bs) (fieldsOf false layout)) (reads layout bs xs area mark) z
+    pub fields-unset :
+        drop (readFields size o bs xs area mark .answer .answer .first * slotWidth) (readFields size o bs xs area mark .slots)
+        ≡ drop (readFields size o bs xs area mark .answer .answer .first * slotWidth) xs
+    unfolding readFields
+    fields-unset = effect-unset xs area mark (positionsOf (length bs) o) (readsFields size o bs xs area mark) z
 
-    pub read-few : Few xs (read layout bs xs area mark .answer .first)
-    unfolding read
-    read-few = effect-few xs area mark (positionsOf (length bs) (fieldsOf false layout)) (reads layout bs xs area mark) (reads-few layout bs xs area mark) z
+    pub fields-few : Few xs (readFields size o bs xs area mark .answer .answer .first)
+    unfolding readFields
+    fields-few = effect-few xs area mark (positionsOf (length bs) o) (readsFields size o bs xs area mark) (reads-few size o bs xs area mark) z
 
   -- what a call left has room for the slots that it set
-  pub set-few : {a : Answer} {xs′ area′ : List ℕ} → record { answer = a; slots = xs′; area = area′ } ≡ read layout bs xs area mark → a .number ≡ 0 → length xs′ ≡ length xs → a .first * slotWidth ≤ length xs′
-  set-few {a} p z e =
-      let same : read layout bs xs area mark .answer ≡ a = ap (λ (r : Read). r .answer) (sym p) in
-      let few : Few xs (read layout bs xs area mark .answer .first) = read-few (rw same z) in
+  pub fields-set : {a : Answer} {xs′ area′ : List ℕ} → record { answer = a; slots = xs′; area = area′ } ≡ leftOf (readFields size o bs xs area mark) → a .number ≡ 0 → length xs′ ≡ length xs → a .first * slotWidth ≤ length xs′
+  fields-set {a} p z e =
+      let same : readFields size o bs xs area mark .answer .answer ≡ a = ap (λ (r : Read). r .answer) (sym p) in
+      let few : Few xs (readFields size o bs xs area mark .answer .answer .first) = fields-few (rw same z) in
       rw e ((rw same at few) .lent)
+
+-- ---- and by a layout
+
+module _ (layout bs area : List ℕ) (mark : ℕ) (xs : List ℕ) where
+  module _ (ys : List ℕ) (same : length xs ≡ length ys) where
+    pub read-over : read layout bs ys area mark ≡ over ys (read layout bs xs area mark)
+    unfolding read readFields
+    read-over = fields-over (length layout) (fieldsOf false layout) bs area mark xs ys same
+
+    pub steps-same : readSteps layout bs ys area mark ≡ readSteps layout bs xs area mark
+    unfolding readSteps readFields
+    steps-same = fields-steps (length layout) (fieldsOf false layout) bs area mark xs ys same
+
+  module _ (z : read layout bs xs area mark .answer .number ≡ 0) where
+    pub read-unset : drop (read layout bs xs area mark .answer .first * slotWidth) (read layout bs xs area mark .slots) ≡ drop (read layout bs xs area mark .answer .first * slotWidth) xs
+    unfolding read readFields
+    read-unset = fields-unset (length layout) (fieldsOf false layout) bs area mark xs z
+
+    pub read-few : Few xs (read layout bs xs area mark .answer .first)
+    unfolding read readFields
+    read-few = fields-few (length layout) (fieldsOf false layout) bs area mark xs z
+
+  pub set-few : {a : Answer} {xs′ area′ : List ℕ} → record { answer = a; slots = xs′; area = area′ } ≡ read layout bs xs area mark → a .number ≡ 0 → length xs′ ≡ length xs → a .first * slotWidth ≤ length xs′
+  unfolding read readFields
+  set-few p z e = fields-set (length layout) (fieldsOf false layout) bs area mark xs p z e

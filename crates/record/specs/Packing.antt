@@ -25,7 +25,7 @@ use Rattle.record.specs.declared.Cursor.{Cursor}
 use Rattle.record.specs.Bytes.{storeAt, fit, ceilDiv, pieces, join, digits, number, ordered}
 use Rattle.record.specs.Table.{unset, string, real, isIntegers, slotsOf, shown}
 use Rattle.record.specs.Slots.{valueEnd, isInside}
-use Rattle.record.specs.Geometry.{amount, base, perByte, backFrom, gotoIn, sizesFit}
+use Rattle.record.specs.Geometry.{amount, base, perByte, backFrom, gotoIn, lengthsFit}
 
 -- ---- what a field stores of its argument's items
 
@@ -212,14 +212,19 @@ finished area ts fs output = do
   _ ← demand (leb (length bs) (length output)) NoRoom 0
   ok bs
 
--- the result, or the first refusal in 01's order
-unfoldable pub packs : List ℕ → List ℕ → List ℕ → List ℕ → Result (List ℕ)
-unfolding fieldsOf slotCount slotsOf finished
-packs layout slots area output = do
-  _ ← demand (sizesFit layout slots output area) BadSize 0
-  fs ← fieldsOf true layout
+-- the result, or the first refusal in 01's order, for fields, or their refusal, that stand in a run of so many bytes or numbers
+unfoldable pub packsFields : ℕ → Result (List Field) → List ℕ → List ℕ → List ℕ → Result (List ℕ)
+unfolding slotCount slotsOf finished
+packsFields size fields slots area output = do
+  _ ← demand (lengthsFit size (length slots) (length output) (length area)) BadSize 0
+  fs ← fields
   _ ← demand (eqb (length (slotsOf slots)) (slotCount fs)) WrongSlots 0
   finished area (slotsOf slots) fs output
+
+-- and for those of a layout
+unfoldable pub packs : List ℕ → List ℕ → List ℕ → List ℕ → Result (List ℕ)
+unfolding fieldsOf packsFields
+packs layout slots area output = packsFields (length layout) (fieldsOf true layout) slots area output
 
 -- all that a call of the packer leaves: its answer and the output buffer
 pub record Packed : Type 0 where
@@ -231,6 +236,11 @@ abbrev pub packEffect : List ℕ → Result (List ℕ) → Packed
 packEffect output (ok bs) = record { answer = accepted (length bs) 0; output = bs ++ drop (length bs) output }
 packEffect output (refused why place) = record { answer = refusal why place; output = output }
 
+unfoldable pub packFields : ℕ → Result (List Field) → List ℕ → List ℕ → List ℕ → Packed
+unfolding packsFields
+packFields size fields slots area output = packEffect output (packsFields size fields slots area output)
+
+-- (it is `packFields` for the layout's fields: proved in proofs/ByFields.antt)
 unfoldable pub pack : List ℕ → List ℕ → List ℕ → List ℕ → Packed
 unfolding packs
 pack layout slots area output = packEffect output (packs layout slots area output)

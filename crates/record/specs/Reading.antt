@@ -17,7 +17,7 @@ use Rattle.record.specs.declared.Answer.{Answer}
 use Rattle.record.specs.declared.ReadAnswer.{ReadAnswer}
 use Rattle.record.specs.Bytes.{part, storeAt, pieces, join, digits, number, ordered}
 use Rattle.record.specs.Table.{string, real, integerKind, slotsOf, Value, slotWidth, slotNumbers, valueBytes}
-use Rattle.record.specs.Geometry.{base, perByte, bytesFor, itemsOf, movedIn, sizesFit}
+use Rattle.record.specs.Geometry.{base, perByte, bytesFor, itemsOf, movedIn, lengthsFit}
 use Rattle.record.specs.Packing.{accepted, refusal}
 
 -- ---- the value that a field's bytes show
@@ -101,16 +101,21 @@ stepsFrom size at (f ∷ fs) = elim (f .code) [
 
 -- ---- the call
 
--- the values that a layout shows of a record, or the first refusal in 01's order
-unfoldable pub reads : List ℕ → List ℕ → List ℕ → List ℕ → ℕ → Result (List Value)
-unfolding fieldsOf slotsOf slotCount valuesFrom valueBytes
-reads layout bs slots area mark = do
-  _ ← demand (sizesFit layout slots bs area && leb mark (length area)) BadSize 0
-  fs ← fieldsOf false layout
+-- the values that fields show of a record, or the first refusal in 01's order, where they, or their refusal, stand in a run of so many bytes or numbers
+unfoldable pub readsFields : ℕ → Result (List Field) → List ℕ → List ℕ → List ℕ → ℕ → Result (List Value)
+unfolding slotsOf slotCount valuesFrom valueBytes
+readsFields size fields bs slots area mark = do
+  _ ← demand (lengthsFit size (length slots) (length bs) (length area) && leb mark (length area)) BadSize 0
+  fs ← fields
   _ ← demand (leb (slotCount fs) (length (slotsOf slots))) WrongSlots 0
   let vs = valuesFrom bs 0 fs
   _ ← demand (leb (mark + length (valueBytes vs)) (length area)) NoRoom 0
   ok vs
+
+-- and those that a layout shows
+unfoldable pub reads : List ℕ → List ℕ → List ℕ → List ℕ → ℕ → Result (List Value)
+unfolding fieldsOf readsFields
+reads layout bs slots area mark = readsFields (length layout) (fieldsOf false layout) bs slots area mark
 
 -- all that a call of the reader leaves: its answer, the slots and the area
 pub record Read : Type 0 where
@@ -174,3 +179,10 @@ leftOf x = record { answer = x .answer .answer; slots = x .slots; area = x .area
 
 abbrev pub readAll : List ℕ → List ℕ → List ℕ → List ℕ → ℕ → ReadAll
 readAll layout bs slots area mark = withSteps (read layout bs slots area mark) (readSteps layout bs slots area mark)
+
+-- the same for fields, or their refusal, that are given (`readAll` is this for the layout's fields: proved in proofs/ByFields.antt)
+unfoldable pub readFields : ℕ → Result (List Field) → List ℕ → List ℕ → List ℕ → ℕ → ReadAll
+unfolding readsFields positionsFrom putInto stepsFrom
+readFields size fields bs slots area mark =
+    let vs = readsFields size fields bs slots area mark in
+    withSteps (readEffect slots area mark (positionsOf (length bs) fields) vs) (stepsOf (length bs) fields vs)

@@ -5,7 +5,7 @@ use borrow.Author.Tests.{not-true, not-false}
 use lib.ListN.{length}
 use Rattle.record.specs.Geometry.{lengthsFit}
 use Rattle.record.proofs.Sizes.{Sized, sized}
-use Rattle.packer.proofs.WholeLaws.{pack-sizes}
+use Rattle.packer.proofs.WholeLaws.{layout-sizes, layout-read, layout-packed}
 use borrow.Author.Needs.{needs}
 use Rattle.packer.proofs.pack.Statement.{statement}
 use Rattle.packer.proofs.pack.Tie as tie
@@ -23,7 +23,7 @@ limits : (c : tie.Else1) → Sized (length (c .before .before .before .before .b
 limits c = sized (fine c)
 
 returns : tie.Need-returns
-returns c = rw (c .refused .ensures) (pack-sizes _ _ _ _ (sym (c .before .before .lengths-fit .ensures) ∙ not-true _ (c .before .if1 .taken)))
+returns c = rw (c .refused .ensures) (layout-sizes _ _ _ _ (sym (c .before .before .lengths-fit .ensures) ∙ not-true _ (c .before .if1 .taken)))
 
 slice-aggregate-parse : tie.Need-slice-aggregate-parse
 slice-aggregate-parse c = search needs
@@ -37,7 +37,7 @@ slice-aggregate-packed c = search needs
 packed-requires : tie.Need-packed-requires
 packed-requires c κs =
     let p = c .before .before .before in
-    (_, record { fine = fine (p .before .before); parsed = p .parse .ensures })
+    (_, _, layout-read _ _ _ _ (fine (p .before .before)) (p .parse .ensures))
 
 same-length : tie.Need-same-length
 same-length c = search needs
@@ -46,7 +46,7 @@ returns-2 : tie.Need-returns-2
 returns-2 c =
     let r = c .before .before in
     let p = r .before .before .before .before in
-    r .packed .ensures _ (record { fine = fine (p .before .before); parsed = p .parse .ensures })
+    layout-packed _ _ _ _ (fine (p .before .before)) (p .parse .ensures) (r .packed .ensures)
 
 pub pack-spec : {M : Type 1} → statement M
 pack-spec =

@@ -5,7 +5,7 @@ use native.Mathlib.Omega.{arith}
 use borrow.Author.Tests.{not-true, not-false}
 use lib.ListN.{length}
 use Rattle.record.specs.Geometry.{lengthsFit}
-use Rattle.packer.proofs.WholeLaws.{pack-sizes}
+use Rattle.packer.proofs.WholeLaws.{layout-sizes, layout-read, layout-packed}
 use borrow.Author.Needs.{needs}
 use Rattle.packer.proofs.pack_short.Statement.{statement}
 use Rattle.packer.proofs.pack_short.Tie as tie
@@ -29,7 +29,7 @@ fine : (c : tie.Else2) → lengthsFit (length (c .before .before .before .before
 fine c = sym (c .before .lengths-fit .ensures) ∙ not-false _ (c .if2 .left)
 
 returns-2 : tie.Need-returns-2
-returns-2 c = rw (c .refused .ensures) (pack-sizes _ _ _ _ (sym (c .before .before .lengths-fit .ensures) ∙ not-true _ (c .before .if2 .taken)))
+returns-2 c = rw (c .refused .ensures) (layout-sizes _ _ _ _ (sym (c .before .before .lengths-fit .ensures) ∙ not-true _ (c .before .if2 .taken)))
 
 slice-aggregate-parse : tie.Need-slice-aggregate-parse
 slice-aggregate-parse c = search needs
@@ -43,7 +43,7 @@ slice-aggregate-packed c = search needs
 packed-requires : tie.Need-packed-requires
 packed-requires c κs =
     let p = c .before .before .before in
-    (_, record { fine = fine (p .before .before); parsed = p .parse .ensures })
+    (_, _, layout-read _ _ _ _ (fine (p .before .before)) (p .parse .ensures))
 
 same-length-2 : tie.Need-same-length-2
 same-length-2 c = search needs
@@ -52,7 +52,7 @@ returns-3 : tie.Need-returns-3
 returns-3 c =
     let r = c .before .before in
     let p = r .before .before .before .before in
-    r .packed .ensures _ (record { fine = fine (p .before .before); parsed = p .parse .ensures })
+    layout-packed _ _ _ _ (fine (p .before .before)) (p .parse .ensures) (r .packed .ensures)
 
 pub pack-short-spec : {M : Type 1} → statement M
 pack-short-spec =
