@@ -1,0 +1,2 @@
+-- What a plan is, and the effects of the calls.
+pub mod Plans
