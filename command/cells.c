@@ -34,7 +34,7 @@ const char *cells_where(struct cells *cells, size_t column)
 
     where->length = 0;
     text_string(where, cells_source(cells));
-    if (cells->headed)
+    if (cells->headed || cells->form == JSON)
         text_format(where, ", row %llu (line %llu)", (unsigned long long)cells->row, (unsigned long long)cells->line);
     else
         text_format(where, ", head (line %llu)", (unsigned long long)cells->line);
@@ -59,6 +59,33 @@ enum row_found cells_lost(struct cells *cells, const char *what, const char *adv
 static const char *cell_bytes(const struct cells *cells, const struct cell_in *cell)
 {
     return cell->length > 0 ? cells->bytes.bytes + cell->start : "";
+}
+
+void cells_complain(struct cells *cells, size_t column, const char *what)
+{
+    struct text shown = {0};
+
+    if (column < cells->count && cells->cells[column].form != CELL_NONE && cells->cells[column].form != CELL_MISSING) {
+        const struct cell_in *cell = &cells->cells[column];
+
+        text_quoted(&shown, (const uint8_t *)cell_bytes(cells, cell), cell->length < 40 ? cell->length : 40);
+        text_string(&shown, cell->length > 40 ? "...: " : ": ");
+    }
+    complain("%s: %.*s%s", cells_where(cells, column), (int)shown.length, shown.length > 0 ? shown.bytes : "", what);
+    text_free(&shown);
+}
+
+/* What the library said of it. */
+void cells_refused(struct cells *cells, size_t column, uint32_t number)
+{
+    struct text what = {0};
+    const char *advice;
+
+    text_format(&what, "%s (number %lu)%c", refusal_words(number, &advice), (unsigned long)number, '\0');
+    cells_complain(cells, column, what.bytes);
+    if (advice != NULL)
+        advise("%s", advice);
+    text_free(&what);
 }
 
 /* The row as it could stand in a table. */
@@ -269,8 +296,8 @@ static enum row_found suits_head(struct cells *cells)
     size_t i;
 
     if (cells->form != JSON && cells->count != cells->columns) {
-        complain("%s: it has %lu cell%s, and the table %lu columns", cells_where(cells, cells->columns), (unsigned long)cells->count,
-                 cells->count == 1 ? "" : "s", (unsigned long)cells->columns);
+        complain("%s: it has %lu cell%s, and the table %lu column%s", cells_where(cells, cells->columns), (unsigned long)cells->count,
+                 cells->count == 1 ? "" : "s", (unsigned long)cells->columns, cells->columns == 1 ? "" : "s");
         return ROW_BAD;
     }
     for (i = 0; cells->form == JSON && i < cells->columns; i++)

@@ -145,18 +145,22 @@ static uint8_t *area_room(struct values *values, size_t bytes, struct fault *fau
     return NULL;
 }
 
+/* A slot behind the others, over what was put behind the values in use. The header's helper keeps to the limits. */
 static int close_slot(struct values *values, uint32_t kind, size_t length)
 {
-    size_t bytes = kind == CURLEW_STRING ? length : CURLEW_ITEM_SIZE * length;
+    struct curlew_table table = {values->slots, sizeof values->slots, values->count * CURLEW_SLOT_SIZE,
+                                 values->area, CURLEW_MAX_AREA, values->used, 0};
 
-    curlew_put_slot(values->slots, values->count++, kind, (uint32_t)values->used, (uint32_t)length);
-    values->used += bytes;
+    if (!curlew_table_add(&table, kind, length, kind == CURLEW_STRING || kind == CURLEW_UNSET ? 1 : CURLEW_ITEM_SIZE))
+        return 0;
+    values->count = curlew_table_count(&table);
+    values->used = table.area_used;
     return 1;
 }
 
 void value_unset(struct values *values)
 {
-    curlew_put_slot(values->slots, values->count++, CURLEW_UNSET, 0, 0);
+    close_slot(values, CURLEW_UNSET, 0);
 }
 
 static int add_string(struct values *values, const struct given *given, struct fault *fault)

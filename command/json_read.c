@@ -287,14 +287,16 @@ static enum row_found take_member(struct cells *cells, size_t guess)
     if (column >= cells->head.count)
         return unknown_member(cells, cells->bytes.bytes + start, length);
     if (cells->cells[column].form != CELL_MISSING)
-        return cells_lost(cells, "a name stands there twice", "Each field has one value in a row.");
+        return cells_lost(cells, "a name stands there twice in one object", "Each field has one value in a row.");
     wrong = take_value(cells, &cell);
     if (wrong == NULL && hex && !from_hex(cells, &cell))
         wrong = "a name that ends in _hex wants a text of hex digits, two for each byte";
     cells->cells[column] = cell;
-    if (wrong != NULL)
-        return cells_lost(cells, wrong, "A text is a string, a mark a number, a list an array of numbers; null is not marked.");
-    return ROW_TAKEN;
+    if (wrong == NULL || cells->source.failed)
+        return wrong == NULL ? ROW_TAKEN : ROW_LOST;
+    cells_complain(cells, column, wrong);
+    advise("A text is a string, a mark a number, a list an array of numbers; null is not marked.");
+    return ROW_LOST;
 }
 
 static enum row_found take_object(struct cells *cells)

@@ -109,7 +109,7 @@ int losses_counted(struct losses *losses, const struct layout *layout, const str
         for (loss = 0; found != 0 && loss < LOSSES; loss++)
             if (found & 1u << loss) {
                 if (has(options, OPTION_STRICT)) {
-                    complain("%s: %s (--strict)", cells_where(cells, cells->column_of[i]), loss_words((enum loss)loss));
+                    cells_complain(cells, cells->column_of[i], loss_words((enum loss)loss));
                     return 0;
                 }
                 if (losses->count[i][loss]++ == 0)

@@ -113,15 +113,9 @@ static int length_suits(struct packing *packing, size_t length)
 
 static int pack_refused(struct packing *packing, struct curlew_answer answer)
 {
-    const char *advice;
-    const char *what = refusal_words(answer.number, &advice);
     int cell = answer.number != CURLEW_NO_ROOM && answer.first < packing->layout->values;
 
-    complain("%s: %s (number %lu)",
-             cells_where(&packing->cells, cell ? packing->cells.column_of[answer.first] : packing->cells.columns), what,
-             (unsigned long)answer.number);
-    if (advice != NULL)
-        advise("%s", advice);
+    cells_refused(&packing->cells, cell ? packing->cells.column_of[answer.first] : packing->cells.columns, answer.number);
     return 0;
 }
 

@@ -35,10 +35,13 @@ static int length_noted(const struct layout *layout, const struct options *optio
 
     if (length == 0 || layout->starred || length == own)
         return DONE;
-    complain("%s--records %lu: the layout's own length is %lu, so that %lu byte%s of each record %s", strict ? "" : "note: ",
-             (unsigned long)length, (unsigned long)own, (unsigned long)(length > own ? length - own : own - length),
-             length + 1 == own || own + 1 == length ? "" : "s",
-             length > own ? "belong to no field" : "are missing, and fields at its end are not marked");
+    if (length > own)
+        complain("%s--records %lu: the layout's own length is %lu, so that %lu byte%s at the end of each record belong%s to no field",
+                 strict ? "" : "note: ", (unsigned long)length, (unsigned long)own, (unsigned long)(length - own),
+                 length - own == 1 ? "" : "s", length - own == 1 ? "s" : "");
+    else
+        complain("note: --records %lu: the layout's own length is %lu, so that fields at the end of each record are not marked",
+                 (unsigned long)length, (unsigned long)own);
     return strict ? REFUSED : DONE;
 }
 
@@ -58,8 +61,8 @@ static int gaps_noted(struct desk *desk, size_t length)
                                     call_read(desk->layout, zeros, length, &desk->values).answer.first, length, 1);
     free(zeros);
     if (over > 0)
-        complain("%sthe layout passes over %lu byte%s of each record: they belong to no field", strict ? "" : "note: ", (unsigned long)over,
-                 over == 1 ? "" : "s");
+        complain("%sthe layout passes over %lu byte%s of each record, which belong%s to no field", strict ? "" : "note: ",
+                 (unsigned long)over, over == 1 ? "" : "s", over == 1 ? "s" : "");
     return over > 0 && strict ? REFUSED : DONE;
 }
 

@@ -90,8 +90,8 @@ static int table_row(struct table_of_sheets *table, struct sheets *sheets, const
     if (!table->started)
         table_begin(table, values->count, out);
     if (values->count > table->columns) {
-        complain("%s: it has %lu entries, and the table %lu columns", sheets_where(sheets), (unsigned long)values->count,
-                 (unsigned long)table->columns);
+        complain("%s: it has %lu entries, and the table %lu column%s", sheets_where(sheets), (unsigned long)values->count,
+                 (unsigned long)table->columns, table->columns == 1 ? "" : "s");
         advise("Give a name for each entry: --names.");
         return REFUSED;
     }

@@ -114,17 +114,12 @@ struct writing {
 static int write_row(struct writing *writing, size_t *length)
 {
     struct curlew_answer answer;
-    const char *advice, *what;
 
     if (!cells_values(&writing->cells, writing->layout, &writing->values))
         return 0;
     answer = values_checked(writing->layout, &writing->values, writing->record);
     if (answer.number != CURLEW_OK) {
-        what = refusal_words(answer.number, &advice);
-        complain("%s: %s (number %lu)", cells_where(&writing->cells, writing->cells.column_of[answer.first]), what,
-                 (unsigned long)answer.number);
-        if (advice != NULL)
-            advise("%s", advice);
+        cells_refused(&writing->cells, writing->cells.column_of[answer.first], answer.number);
         return 0;
     }
     if (!losses_counted(&writing->losses, writing->layout, &writing->values, &writing->cells, writing->options))

@@ -19,7 +19,7 @@ static int load(struct showing *showing, size_t which, const char *name)
     size_t i, k;
     int status;
 
-    record->name = name;
+    record->name = strcmp(name, "-") == 0 ? "standard input" : name;
     record->bytes = get_memory(CURLEW_MAX_RECORD + 1);
     record->owner = get_memory(CURLEW_MAX_RECORD);
     values_start(&record->values);
@@ -52,6 +52,12 @@ int byte_differs(const struct showing *showing, size_t place)
     if (place >= one->length || place >= other->length)
         return place < one->length || place < other->length;
     return one->bytes[place] != other->bytes[place];
+}
+
+/* Whether it ends too soon for its fields. */
+static int is_short(const struct showing *showing, const struct shown_record *record)
+{
+    return record->set < showing->layout->values;
 }
 
 /* ---- one line of bytes ---- */
@@ -102,7 +108,7 @@ static void hex_part(const struct showing *showing, const struct shown_record *r
 
     for (i = from; i < from + width; i++) {
         if (i >= record->length) {
-            text_string(out, i == record->length && i > 0 ? " |  " : "    ");
+            text_string(out, i == record->length && is_short(showing, record) ? " |  " : "    ");
             continue;
         }
         text_char(out, sign_before(record, i));
@@ -236,46 +242,59 @@ static size_t line_width(const struct showing *showing, size_t width)
     return 6 + showing->count * (5 * width + 1) + 4 * (showing->count - 1);
 }
 
+/* A line ends where its last sign stands. */
+static void line_end(struct text *out)
+{
+    while (out->length > 0 && out->bytes[out->length - 1] == ' ')
+        out->length--;
+    text_char(out, '\n');
+}
+
+/* Whether there is something to draw from this byte on: bytes, or the place where a record ends too soon. */
+static int is_drawn(const struct showing *showing, size_t from)
+{
+    size_t which;
+
+    for (which = 0; which < showing->count; which++) {
+        const struct shown_record *record = &showing->records[which];
+
+        if (from < record->length || (from == record->length && is_short(showing, record)))
+            return 1;
+    }
+    return 0;
+}
+
+/* Each line of bytes with the fields that begin in it beside it; then those that begin in none. */
 static void show_lines(const struct showing *showing, size_t width, struct text *out)
 {
-    size_t longest = showing->records[0].length, from, i;
+    int listed[CURLEW_MAX_SLOTS] = {0};
+    size_t from, i;
 
-    if (showing->count == 2 && showing->records[1].length > longest)
-        longest = showing->records[1].length;
-    for (from = 0; from <= longest && (from < longest || longest % width == 0); from += width) {
-        int first = 1;
+    for (from = 0; is_drawn(showing, from); from += width) {
+        size_t fields = 0;
 
-        if (from == longest && from > 0 && showing->records[0].set == showing->layout->values)
-            break;
         byte_line(showing, from, width, out);
         for (i = 0; i < showing->layout->values; i++)
             if (begins(showing, i) >= from && begins(showing, i) < from + width) {
-                text_spaces(out, first ? 2 : line_width(showing, width) + 2);
+                text_spaces(out, fields++ == 0 ? 2 : line_width(showing, width) + 2);
                 field_line(out, showing, i);
-                text_char(out, '\n');
-                first = 0;
+                line_end(out);
+                listed[i] = 1;
             }
-        if (first)
-            text_char(out, '\n');
+        if (fields == 0)
+            line_end(out);
         for (i = from; i < from + width && showing->count == 2; i++)
             if (byte_differs(showing, i))
                 bit_line(out, showing, i);
     }
-}
-
-/* What no line of bytes has beside it: fields behind the end. */
-static void show_missing(const struct showing *showing, struct text *out)
-{
-    size_t which, i;
-
-    for (which = 0; which < showing->count; which++)
-        if (showing->records[which].set < showing->layout->values)
-            text_format(out, "%s ends at byte %lu, too soon for what follows\n", showing->records[which].name,
-                        (unsigned long)showing->records[which].length);
+    for (i = 0; i < showing->count; i++)
+        if (is_short(showing, &showing->records[i]))
+            text_format(out, "%s ends at byte %lu, too soon for some fields\n", showing->records[i].name,
+                        (unsigned long)showing->records[i].length);
     for (i = 0; i < showing->layout->values; i++)
-        if (begins(showing, i) > CURLEW_MAX_RECORD || (begins(showing, i) == showing->records[0].length && showing->records[0].length > 0)) {
+        if (!listed[i]) {
             field_line(out, showing, i);
-            text_char(out, '\n');
+            line_end(out);
         }
 }
 
@@ -306,7 +325,6 @@ static void show(const struct options *options, const struct showing *showing)
         show_html(showing, &out);
     } else {
         show_lines(showing, showing->count == 2 ? BESIDE : ALONE, &out);
-        show_missing(showing, &out);
         show_summary(showing, &out);
     }
     if (options->output != NULL && strcmp(options->output, "-") != 0) {

@@ -139,7 +139,7 @@ static void field_table(struct text *out, const struct showing *showing)
         text_string(out, showing->count == 1 ? "<th>value</th>" : which == 0 ? "<th>first copy</th>" : "<th>second copy</th>");
     text_string(out, "</tr>\n");
     for (i = 0; i < showing->layout->values; i++) {
-        struct curlew_slot slot = curlew_get_slot(showing->records[0].values.slots, i);
+        struct curlew_slot slot = curlew_get_slot(showing->records[i < showing->records[0].set ? 0 : showing->count - 1].values.slots, i);
         struct text name = {0};
 
         text_field(&name, showing->layout, i);

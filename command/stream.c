@@ -210,6 +210,8 @@ int read_many(struct desk *desk, size_t length, const char *name)
     input_close(&stream.input);
     if (stream.unread)
         return TROUBLE;
+    if (options->from > 0 && stream.records == options->from)
+        complain("note: %s has no record %llu", stream.input.name, (unsigned long long)options->from);
     if (stream.status == DONE)
         note_over(options, stream.over_records, stream.over_bytes);
     if (options->form == PEOPLE && stream.status == DONE)

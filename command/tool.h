@@ -424,8 +424,10 @@ int cells_open(struct cells *cells, const struct options *options, enum form for
 enum row_found cells_next(struct cells *cells);
 const char *cells_where(struct cells *cells, size_t column); /* row and column in words; without the column where it is none */
 const char *cells_source(const struct cells *cells);
+void cells_complain(struct cells *cells, size_t column, const char *what); /* with row, column, name and text of the cell */
 /* Puts the row into the values. Returns 1, or 0 after a complaint. */
 int cells_values(struct cells *cells, const struct layout *layout, struct values *values);
+void cells_refused(struct cells *cells, size_t column, uint32_t number); /* by the library */
 int cells_failed(const struct cells *cells); /* the file could not be read */
 void cells_close(struct cells *cells);
 void cells_show_row(const struct cells *cells); /* the row in full, as advice */
