@@ -1,7 +1,7 @@
-"""The Python package beside struct and the usual conversions: package.py [records]; $BENCH_ROUNDS sets the rounds (15, 5 for many records).
+"""The Python package beside struct and the usual conversions: package.py [records]; $BENCH_ROUNDS sets the rounds.
 
-Both read the mark record of w1, and a shorter one that has text and integers alone; what they give is compared first. A goal is met where the
-median of the rounds' ratios keeps to it; behind it stand the least and the greatest.
+Both read the mark record of w1, and a shorter one that has text and integers alone; what they give is compared first. A
+goal is met where the median of the rounds' ratios keeps to it; behind the median stand the least and the greatest.
 """
 import os
 import platform
@@ -49,8 +49,9 @@ def compare(name, ours, theirs, number, rounds, goal=None, unit=1.0):
     times = [(time_calls(ours, number), time_calls(theirs, number)) for _ in range(rounds + 1)][1:]
     ratios = sorted(own / other for own, other in times)
     verdict = "-" if goal is None else f"<={goal:.2f} {'met' if median(ratios) <= goal else 'MISSED'}"
-    print(f"{name:<44} {median(own for own, _ in times) / unit:>8.0f} {median(other for _, other in times) / unit:>10.0f}"
-          f" {median(ratios):>8.3f} {f'{ratios[0]:.3f} to {ratios[-1]:.3f}':>16} {verdict:>14}")
+    own, other = (median(pair[i] for pair in times) / unit for i in (0, 1))
+    spread = f"{ratios[0]:.3f} to {ratios[-1]:.3f}"
+    print(f"{name:<40} {own:>8.0f} {other:>8.0f} {median(ratios):>8.3f} {spread:>18} {verdict:>14}")
 
 
 def drain(rows):
@@ -78,23 +79,24 @@ def main():
     if marks.pack(values) != work.record:
         sys.exit("not the same bytes")
 
-    print(f"The Python package, Python {platform.python_version()}, beside struct and the usual conversions to the same values. Medians of {rounds} rounds;")
-    print("nanoseconds a record.")
-    print(f"{'':<44} {'package':>8} {'struct':>10} {'ratio':>8} {'least to greatest':>16} {'goal':>13}")
-    record = work.record
-    compare("w1 small mark record, read", lambda: marks.read(record), lambda: mark_row(MARK_RECORD.unpack(record)), CALLS, rounds,
-            READ_GOAL)
-    compare("w1, read as a named tuple", lambda: named.read(record), lambda: mark_row(MARK_RECORD.unpack(record)), CALLS, rounds)
+    print(f"The Python package, Python {platform.python_version()}, beside struct and the usual conversions to the")
+    print(f"same values. Nanoseconds a record; medians of {rounds} rounds, a third of that for many records.")
+    print(f"{'':<40} {'package':>8} {'struct':>8} {'ratio':>8} {'least to greatest':>18} {'goal':>14}")
+    read_marks, read_named, read_short, record = marks.read, named.read, short.read, work.record
+    compare("w1 small mark record, read", lambda: read_marks(record), lambda: mark_row(MARK_RECORD.unpack(record)),
+            CALLS, rounds, READ_GOAL)
+    compare("w1, read as a named tuple", lambda: read_named(record), lambda: mark_row(MARK_RECORD.unpack(record)),
+            CALLS, rounds)
     compare("w1, packed", lambda: marks.pack(values), lambda: pack_mark_record(*work.values), CALLS, rounds)
-    compare("text and integers of 25 bytes, read", lambda: short.read(little), lambda: short_row(SHORT.unpack(little)), CALLS, rounds,
-            READ_GOAL)
-    few = max(rounds // 3, 1)
-    for name, layout, form, row, one in ((f"w1, {records:,} records iterated", marks, MARK_RECORD, mark_row, record),
-                                         (f"25 bytes, {records:,} records iterated", short, SHORT, short_row, little)):
+    compare("25 bytes of text and integers, read", lambda: read_short(little), lambda: short_row(SHORT.unpack(little)),
+            CALLS, rounds, READ_GOAL)
+    for name, layout, form, row, one in (("w1", marks, MARK_RECORD, mark_row, record),
+                                         ("25 bytes", short, SHORT, short_row, little)):
         data = one * records
-        compare(name, lambda: drain(layout.records(data)), lambda: drain(map(row, form.iter_unpack(data))), 1, few, ITERATE_GOAL,
-                records)
-    print(f"Goals: a record read in at most {READ_GOAL:.0f} times the time, records iterated in at most {ITERATE_GOAL:.0f} times.")
+        compare(f"{name}, {records:,} records iterated", lambda: drain(layout.records(data)),
+                lambda: drain(map(row, form.iter_unpack(data))), 1, max(rounds // 3, 1), ITERATE_GOAL, records)
+    print(f"Goals: a record read in at most {READ_GOAL:.0f} times the time, records iterated in at most"
+          f" {ITERATE_GOAL:.0f} times.")
 
 
 main()

@@ -1,5 +1,5 @@
 #!/bin/sh
-# The Python package on single records and on a million of them, beside Python's struct: bench/package.sh [archive [header folder]]
+# The Python package on one record and on a million of them, beside struct: bench/package.sh [archive [header folder]]
 # $BENCH_BUILD: folder for what is built; $BENCH_RECORDS: how many records; $BENCH_ROUNDS: rounds.
 set -e
 here=$(cd "$(dirname "$0")" && pwd)
