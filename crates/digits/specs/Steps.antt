@@ -54,7 +54,7 @@ unfolding step
 steps write n bytes zero = record { done = 0; bytes = bytes }
 steps write n bytes (suc k) = step write n (steps write n bytes k)
 
--- bytes `one`, and then bytes `two` after the steps number j to m: where j steps made the former of some bytes, m make the latter of them
+-- the steps from the number j on up to m turn the bytes `one` into `two`: of whatever j steps make the former, m steps make the latter
 abbrev pub Advanced : Writing → ℕ → ℕ → ℕ → List ℕ → List ℕ → Type 0
 Advanced write n j m one two = (bytes : List ℕ) → one ≡ steps write n bytes j .bytes → two ≡ steps write n bytes m .bytes
 

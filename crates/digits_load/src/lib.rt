@@ -57,7 +57,7 @@ fn show_run(
     }
 }
 
-// Reads n binary digits as far as a budget of steps goes, whatever it is: those over whole bytes, and then those over the digits that are left.
+// Reads n binary digits as far as a budget of steps goes, whatever it is: the steps over whole bytes, and then those over the digits that are left.
 pub fn load_steps(
     area: &mut [u8],
     to: usize,
@@ -70,8 +70,8 @@ pub fn load_steps(
     requires { ⌜ (n ≤ maxArea) × (to + n ≤ length (now area)) × (at + ceilDiv n 8 ≤ length (now bytes)) ⌝ }
     ensures { λ _. ⌜ after area ≡ steps (showing high (before bytes) at to) n (before area) budget .bytes ⌝ }
 {
-    let all = record::least(n / 8 + n % 8, budget);
-    let eights = record::least(n / 8, budget);
+    let all = record::least(n / 8 + n % 8, budget); // the steps to do
+    let eights = record::least(n / 8, budget); // of these, over whole bytes
     show_run(area, to, bytes, at, n, 0, eights, true, high);
     show_run(area, to, bytes, at, n, eights, all, false, high)
 }

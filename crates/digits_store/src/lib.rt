@@ -89,8 +89,8 @@ fn store_run(
     }
 }
 
-// Stores n binary digits, padding counted, as far as a budget of steps goes, whatever it is: those over the bytes whose digits are all there, those
-// over the whole bytes with padding, and then those over the digits that are left.
+// Stores n binary digits, padding counted, as far as a budget of steps goes, whatever it is: the steps over bytes whose digits are all there, those
+// over whole bytes with padding, and then those over the digits that are left.
 pub fn store_steps(
     out: &mut [u8],
     at: usize,
@@ -105,9 +105,9 @@ pub fn store_steps(
     ensures { λ _. ⌜ after out ≡ steps (storing high (part (before area) start len) at) n (before out) budget .bytes ⌝ }
 {
     let have = record::least(n, len);
-    let all = record::least(n / 8 + n % 8, budget);
-    let eights = record::least(n / 8, budget);
-    let fulls = record::least(have / 8, budget);
+    let all = record::least(n / 8 + n % 8, budget); // the steps to do
+    let eights = record::least(n / 8, budget); // of these, over whole bytes
+    let fulls = record::least(have / 8, budget); // and of these, over bytes without padding
     store_run(out, at, area, start, have, n, 0, fulls, true, true, high);
     store_run(
         out,
