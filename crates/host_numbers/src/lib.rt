@@ -16,11 +16,12 @@ fn number_at(bytes: &[u8], at: usize) -> u32
     big_endian::number_at(bytes, at, NUMBER_SIZE) as u32
 }
 
+// Turned round and stored low byte first: of this the compiler makes one store.
 fn put_number(out: &mut [u8], at: usize, x: u32)
     requires { ⌜ at + numberSize ≤ length (now out) ⌝ }
     ensures { λ _. ⌜ now (out .exit) ≡ storeAt (now (out .entry)) at (numberBytes numberSize x) ⌝ }
 {
-    big_endian::put_number(out, at, NUMBER_SIZE, x as u64)
+    integers::put_four(out, at, integers::turn_four(x, true))
 }
 
 // The n numbers from number `from` on, out of the bytes where they stand.

@@ -1,6 +1,6 @@
 -- Laws of bytes in their order or turned round, and of runs of bytes, one after the other.
 use Prim.Native.Nat.{ℕ, zero, suc, _+_, _-_, _*_, _/_, _%_, _≤_, _<_}
-use native.Mathlib.Nat.{add-zero, suc-mul, zero-mul, add-sub-cancel}
+use native.Mathlib.Nat.{add-zero, suc-mul, zero-mul, add-sub-cancel, div-div-eq-div-mul}
 use native.Mathlib.Omega.{arith}
 use mathlib.Core.Path.{_≡_, refl, sym, ap, _∙_}
 use mathlib.Core.Bool.{Bool, true, false}
@@ -10,6 +10,7 @@ use lib.Seq.{take-take, drop-drop}
 use Rattle.record.specs.Bytes.{part, storeAt, pieces, join, digits, number, ordered, numberAt}
 use Rattle.record.proofs.Bytes.{All, all-take, all-drop, all-ordered, all-below, length-digits, length-ordered, digits-number, join-pieces, drop-take}
 use Rattle.record.proofs.Stores.{runs, runs-first, length-runs, length-part, getD-reverse, Put, put-none, put-more, put-done, Wrote, wrote-next, store-next, length-storeAt}
+use Rattle.byte_runs.proofs.WordLaws.{put-low}
 use Rattle.integers.specs.Eights.{eights}
 
 -- ---- bytes
@@ -30,6 +31,11 @@ four-turned x =
     let d = x / 256 / 256 / 256 % 256 in
     let n : a * 16777216 + b * 65536 + c * 256 + d ≡ number 256 (d ∷ c ∷ b ∷ a ∷ []) = omega arith in
     ap (digits 256 4) n ∙ digits-number 256 (d ∷ c ∷ b ∷ a ∷ []) (omega arith, (omega arith, (omega arith, (omega arith, tt))))
+
+-- four bytes, put one by one
+pub four-low : (d : List ℕ) (at x : ℕ) → at + 4 ≤ length d
+    → set (set (set (set d at (x % 256)) (at + 1) (x / 256 % 256)) (at + 2) (x / 256 / 256 % 256)) (at + 3) (x / 256 / 256 / 256 % 256) ≡ storeAt d at (digits 256 4 x)
+four-low d at x room = rw (div-div-eq-div-mul x 256 256, div-div-eq-div-mul x 65536 256) (put-low d at x room)
 
 -- ---- runs
 

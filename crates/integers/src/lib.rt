@@ -37,8 +37,22 @@ pub fn pair_at(from: &[u8], at: usize) -> u16
     from[at] as u16 + 256 * from[at + 1] as u16
 }
 
+// Stores the two bytes of a number, the low one first, turned round or not.
+pub fn put_pair(out: &mut [u8], at: usize, v: u16, turn: bool)
+    requires { ⌜ at + 2 ≤ length (now out) ⌝ }
+    ensures { λ _. ⌜ after out ≡ storeAt (before out) at (ordered turn (digits 256 2 v)) ⌝ }
+{
+    if turn {
+        out[at] = (v / 256) as u8;
+        out[at + 1] = (v % 256) as u8;
+        return;
+    }
+    out[at] = (v % 256) as u8;
+    out[at + 1] = (v / 256) as u8;
+}
+
 // Four bytes turned round or not. Of the turning the compiler makes one instruction.
-fn turn_four(x: u32, turn: bool) -> u32
+pub fn turn_four(x: u32, turn: bool) -> u32
     ensures { λ r. ⌜ digits 256 4 r ≡ ordered turn (digits 256 4 x) ⌝ }
 {
     if turn {
@@ -56,6 +70,20 @@ pub fn four_at(from: &[u8], at: usize, turn: bool) -> u32
     ensures { λ r. ⌜ digits 256 4 r ≡ ordered turn (part (before from) at 4) ⌝ }
 {
     turn_four(byte_runs::four_at(from, at, false) as u32, turn)
+}
+
+// Stores the four bytes of a number, the lowest first. Written out like this they become one store.
+pub fn put_four(out: &mut [u8], at: usize, x: u32)
+    requires { ⌜ at + 4 ≤ length (now out) ⌝ }
+    ensures { λ _. ⌜ after out ≡ storeAt (before out) at (digits 256 4 x) ⌝ }
+{
+    out[at] = (x % 256) as u8;
+    let x1 = x / 256;
+    out[at + 1] = (x1 % 256) as u8;
+    let x2 = x1 / 256;
+    out[at + 2] = (x2 % 256) as u8;
+    let x3 = x2 / 256;
+    out[at + 3] = (x3 % 256) as u8;
 }
 
 // Stores the eight bytes of a number, the lowest first. Written out like this they become one store.

@@ -1,21 +1,20 @@
 -- Laws of integers that are stored: the bytes of one, and those of many, one after the other.
-use Prim.Native.Nat.{ℕ, _+_, _-_, _*_, _/_, _%_, _≤_, _<_}
-use native.Mathlib.Nat.{add-zero, div-div-eq-div-mul}
+use Prim.Native.Nat.{ℕ, _+_, _-_, _*_, _≤_, _<_}
+use native.Mathlib.Nat.{add-zero}
 use native.Mathlib.Omega.{arith}
 use mathlib.Core.Path.{_≡_, refl, sym, ap, _∙_}
 use mathlib.Core.Bool.{Bool, true, false, not}
 use mathlib.Core.List.{List, _++_, map, reverse, reverse-append, reverse-reverse}
-use lib.ListN.{length, take, drop, getD, set, length-drop, length-reverse, length-map, take-append-drop}
+use lib.ListN.{length, take, drop, getD, length-drop, length-reverse, length-map, take-append-drop}
 use lib.Seq.{take-at, take-all, drop-drop}
 use Rattle.layout.specs.declared.Shape.the-variants.{Integers}
-use Rattle.record.specs.Bytes.{part, storeAt, pieces, join, digits, number, ordered, bigEndianIn}
+use Rattle.record.specs.Bytes.{part, pieces, join, digits, number, ordered, bigEndianIn}
 use Rattle.record.specs.Table.{integersIn}
 use Rattle.record.specs.Packing.{stored, lowBytes}
 use Rattle.record.proofs.Bytes.{all-ordered, length-pieces, drop-take}
 use Rattle.record.proofs.Fields.{item}
 use Rattle.record.proofs.Stores.{runs, length-part}
 use Rattle.record.proofs.Widening.{low-digits}
-use Rattle.byte_runs.proofs.WordLaws.{put-low}
 use Rattle.integers.specs.Eights.{eights}
 use Rattle.integers.proofs.IntegerLaws.{part-bytes, runs-same, joined, eightAt, eights-runs}
 
@@ -45,11 +44,6 @@ stored-item area at w big small narrow inside =
     let count : 8 - (8 - w) ≡ w = omega arith in
     let last : drop (8 - w) p ≡ part area (at + (8 - w)) w = drop-take (8 - w) 8 (drop at area) ∙ rw (count, drop-drop (8 - w) at area) in
     sym (ap (ordered big) (low ∙ end ∙ ap reverse last) ∙ turned-ordered big (part area (at + (8 - w)) w))
-
--- four bytes, put one by one
-pub four-low : (d : List ℕ) (at x : ℕ) → at + 4 ≤ length d
-    → set (set (set (set d at (x % 256)) (at + 1) (x / 256 % 256)) (at + 2) (x / 256 / 256 % 256)) (at + 3) (x / 256 / 256 / 256 % 256) ≡ storeAt d at (digits 256 4 x)
-four-low d at x room = rw (div-div-eq-div-mul x 256 256, div-div-eq-div-mul x 65536 256) (put-low d at x room)
 
 -- ---- n integers
 

@@ -1,4 +1,4 @@
--- One integer is stored by itself, as the law of one alone says; more are stored by a loop, as numbers where they fill two bytes or four, and whole where they fill eight.
+-- One integer is stored by itself, as the law of one alone says; more are stored by a loop, and whole where they fill eight bytes.
 use native.Mathlib.Omega.{arith}
 use mathlib.Core.Path.{ap, _∙_}
 use Rattle.record.specs.Bytes.{storeAt}
@@ -32,8 +32,8 @@ returns c =
     (c .before .before .copy-ordered .ensures
     ∙ ap (storeAt (a .out .now) (a .at)) (stored-one (a .area .now) (a .start) (a .w) (a .big) (λ i. known .shared-slice-known .given i .fits) (start .pre .0) (omega (arith, pre .2))))
 
-store-pairs-requires : tie.Need-store-pairs-requires
-store-pairs-requires c κs =
+copy-eights-requires : tie.Need-copy-eights-requires
+copy-eights-requires c κs =
     let pre = rw (c .before .if2 .taken) at (c .before .before .before .before .before .pre) in
     (omega arith, omega arith)
 
@@ -41,33 +41,11 @@ same-length-2 : tie.Need-same-length-2
 same-length-2 c = search needs
 
 returns-2 : tie.Need-returns-2
-returns-2 c = rw (c .before .before .before .before .if2 .taken) (c .before .before .store-pairs .ensures)
-
-store-fours-requires : tie.Need-store-fours-requires
-store-fours-requires c κs =
-    let pre = rw (c .before .if3 .taken) at (c .before .before .before .before .before .before .pre) in
-    (omega arith, omega arith)
-
-same-length-3 : tie.Need-same-length-3
-same-length-3 c = search needs
-
-returns-3 : tie.Need-returns-3
-returns-3 c = rw (c .before .before .before .before .if3 .taken) (c .before .before .store-fours .ensures)
-
-copy-eights-requires : tie.Need-copy-eights-requires
-copy-eights-requires c κs =
-    let pre = rw (c .before .if4 .taken) at (c .before .before .before .before .before .before .before .pre) in
-    (omega arith, omega arith)
-
-same-length-4 : tie.Need-same-length-4
-same-length-4 c = search needs
-
-returns-4 : tie.Need-returns-4
-returns-4 c =
-    let known = c .before .before .before .before .before .before .before .before in
+returns-2 c =
+    let known = c .before .before .before .before .before .before in
     let start = known .before .before in
     let a = start .args in
-    let eight = c .before .before .before .before .if4 .taken in
+    let eight = c .before .before .before .before .if2 .taken in
     let pre = rw eight at (start .pre) in
     rw eight
     (c .before .before .copy-eights .ensures
@@ -76,11 +54,11 @@ returns-4 c =
 store-each-requires : tie.Need-store-each-requires
 store-each-requires c κs = search needs
 
-same-length-5 : tie.Need-same-length-5
-same-length-5 c = search needs
+same-length-3 : tie.Need-same-length-3
+same-length-3 c = search needs
 
-returns-5 : tie.Need-returns-5
-returns-5 c = search needs
+returns-3 : tie.Need-returns-3
+returns-3 c = search needs
 
 pub store-spec : {M : Type 1} → statement M
 store-spec =
@@ -91,15 +69,9 @@ store-spec =
     copy-ordered-requires
     same-length
     returns
-    store-pairs-requires
+    copy-eights-requires
     same-length-2
     returns-2
-    store-fours-requires
-    same-length-3
-    returns-3
-    copy-eights-requires
-    same-length-4
-    returns-4
     store-each-requires
-    same-length-5
-    returns-5)
+    same-length-3
+    returns-3)

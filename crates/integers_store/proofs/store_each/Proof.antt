@@ -18,26 +18,20 @@ abbrev μ-loop : tie.MeasureT-loop
 loop-holds : tie.Need-loop-holds Inv-loop μ-loop
 loop-holds c = (omega arith, wrote-none)
 
-mul-copy-ordered : tie.Need-mul-copy-ordered Inv-loop μ-loop
-mul-copy-ordered c = omega (arith, next-run (c .before .before .before .before .before .args .w) (c .before .loop-test .taken))
+mul-store-item : tie.Need-mul-store-item Inv-loop μ-loop
+mul-store-item c = omega (arith, next-run (c .before .before .before .before .before .args .w) (c .before .loop-test .taken))
 
-add-copy-ordered : tie.Need-add-copy-ordered Inv-loop μ-loop
-add-copy-ordered c = omega (arith, next-run (c .before .before .before .before .before .args .w) (c .before .loop-test .taken))
+add-store-item : tie.Need-add-store-item Inv-loop μ-loop
+add-store-item c = omega (arith, next-run (c .before .before .before .before .before .args .w) (c .before .loop-test .taken))
 
-mul-copy-ordered-2 : tie.Need-mul-copy-ordered-2 Inv-loop μ-loop
-mul-copy-ordered-2 c = omega arith
+mul-store-item-2 : tie.Need-mul-store-item-2 Inv-loop μ-loop
+mul-store-item-2 c = omega arith
 
-add-copy-ordered-2 : tie.Need-add-copy-ordered-2 Inv-loop μ-loop
-add-copy-ordered-2 c = omega arith
+add-store-item-2 : tie.Need-add-store-item-2 Inv-loop μ-loop
+add-store-item-2 c = omega arith
 
-sub-copy-ordered : tie.Need-sub-copy-ordered Inv-loop μ-loop
-sub-copy-ordered c = omega arith
-
-add-copy-ordered-3 : tie.Need-add-copy-ordered-3 Inv-loop μ-loop
-add-copy-ordered-3 c = omega arith
-
-copy-ordered-requires : tie.Need-copy-ordered-requires Inv-loop μ-loop
-copy-ordered-requires c κs = omega (arith, next-run (c .before .before .before .before .before .args .w) (c .before .loop-test .taken))
+store-item-requires : tie.Need-store-item-requires Inv-loop μ-loop
+store-item-requires c κs = omega (arith, next-run (c .before .before .before .before .before .args .w) (c .before .loop-test .taken))
 
 add-i : tie.Need-add-i Inv-loop μ-loop
 add-i c = omega arith
@@ -55,7 +49,7 @@ loop-again c =
     let bytes = stored-item (a .area .now) (a .start + loop .i * 8) (a .w) (a .big) (λ i. known .shared-slice-known .given i .fits) (start .pre .0) (omega arith) in (
       omega arith,
       wrote-more (a .w) (λ k. length-item (a .w) (a .big) _) (loop .inv .1) refl (omega (arith, next-run (a .w) (turn .loop-test .taken)))
-          (c .before .before .copy-ordered .ensures ∙ ap (storeAt (loop .out) (a .at + loop .i * a .w)) bytes),
+          (c .before .before .store-item .ensures ∙ ap (storeAt (loop .out) (a .at + loop .i * a .w)) bytes),
     )
 
 same-length : tie.Need-same-length Inv-loop μ-loop
@@ -73,13 +67,11 @@ store-each-spec =
     Inv-loop
     μ-loop
     loop-holds
-    mul-copy-ordered
-    add-copy-ordered
-    mul-copy-ordered-2
-    add-copy-ordered-2
-    sub-copy-ordered
-    add-copy-ordered-3
-    copy-ordered-requires
+    mul-store-item
+    add-store-item
+    mul-store-item-2
+    add-store-item-2
+    store-item-requires
     add-i
     loop-less
     loop-again

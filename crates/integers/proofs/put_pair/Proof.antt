@@ -3,8 +3,8 @@ use native.Mathlib.Omega.{arith}
 use lib.ListN.{length-set}
 use Rattle.byte_runs.proofs.WordLaws.{pair-low, pair-high}
 use borrow.Author.Needs.{needs}
-use Rattle.integers_store.proofs.put_pair.Statement.{statement}
-use Rattle.integers_store.proofs.put_pair.Tie as tie
+use Rattle.integers.proofs.put_pair.Statement.{statement}
+use Rattle.integers.proofs.put_pair.Tie as tie
 
 cast-out : tie.Need-cast-out
 cast-out c = search needs

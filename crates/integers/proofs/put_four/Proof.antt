@@ -1,10 +1,10 @@
 -- Four stores side by side are one of the four digits.
 use native.Mathlib.Omega.{arith}
 use lib.ListN.{length-set}
-use Rattle.integers_store.proofs.StoredLaws.{four-low}
+use Rattle.integers.proofs.IntegerLaws.{four-low}
 use borrow.Author.Needs.{needs}
-use Rattle.integers_store.proofs.put_four.Statement.{statement}
-use Rattle.integers_store.proofs.put_four.Tie as tie
+use Rattle.integers.proofs.put_four.Statement.{statement}
+use Rattle.integers.proofs.put_four.Tie as tie
 
 cast-out : tie.Need-cast-out
 cast-out c = search needs
