@@ -9,7 +9,7 @@
 # make install-shared  the shared object
 # make uninstall       removes what both installed
 # make dist            writes target/dist/curlew-VERSION-x86_64-linux.tar.gz, for machines without the Rattle kit
-# make deb             writes Debian's packages curlew, libcurlew2 and libcurlew-dev into target/dist
+# make deb             writes Debian's packages curlew, libcurlew2, libcurlew-dev and python3-curlew into target/dist
 # make bench           compares the speed with Tcl, Perl, Python, plain C and an unproved twin; numbers and plots in target/bench
 # make bench-publish   puts the figures and plots of the last comparison into docs
 # make clean           removes target
