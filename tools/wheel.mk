@@ -5,4 +5,4 @@ WHEEL := target/dist/curlew-$(VERSION)-cp39-abi3-linux_x86_64.whl
 wheel: $(WHEEL)
 
 $(WHEEL): $(wildcard python/*.* python/src/* python/curlew/*.py*) include/curlew.h tools/wheel.mk tools/wheel $(ARCHIVE)
-	@tools/wheel $(ARCHIVE) include target/dist
+	@SOURCE_DATE_EPOCH="$(SOURCE_DATE_EPOCH)" tools/wheel $(ARCHIVE) include target/dist

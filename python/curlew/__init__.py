@@ -25,9 +25,9 @@ from ._sheets import from_perl, mean, sheet_dump, sheet_load, sheet_rescue
 
 __all__ = [
     "Bytes", "Extension", "Field", "Finding", "Given", "Kind", "Layout", "MAX_AREA", "MAX_COUNT", "MAX_LAYOUT",
-    "MAX_MARK", "MAX_RECORD", "MAX_SHEET", "MAX_SLOTS", "MAX_TEMPLATE", "Mean", "Number", "Promises", "Reading", "Refused",
-    "Rescued", "SLOT_SIZE", "Value", "Verdict", "__version__", "from_perl", "mean", "sheet_dump", "sheet_load",
-    "sheet_rescue",
+    "MAX_MARK", "MAX_RECORD", "MAX_SHEET", "MAX_SLOTS", "MAX_TEMPLATE", "Mean", "Number", "Promises", "Reading",
+    "Refused", "Rescued", "SLOT_SIZE", "Value", "Verdict", "__version__", "from_perl", "mean", "sheet_dump",
+    "sheet_load", "sheet_rescue",
 ]
 
 # Where they are found is here, in messages and in pickles too.

@@ -4,13 +4,13 @@ from __future__ import annotations
 import os
 from collections import namedtuple
 from itertools import chain, repeat
-from typing import (Any, BinaryIO, Generic, Iterator, List, Mapping, Optional, Sequence, Tuple, Type, TypeVar, Union,
-                    overload)
+from typing import (Any, BinaryIO, Generic, Iterator, List, Mapping, Optional, Sequence, SupportsIndex, Tuple, Type,
+                    TypeVar, Union, overload)
 
 from . import _core
 from ._answers import Extension, Field, Finding, Given, Promises, Reading, Verdict
 from ._refused import Number
-from ._runs import Bytes, Lent, Writable, as_bytes, blocks_of, checked_coding
+from ._runs import Bytes, Lent, Writable, as_bytes, blocks_of, checked_coding, checked_int
 
 Row = TypeVar("Row", bound=Tuple[Any, ...])
 Values = Union[Sequence[Given], Mapping[str, Given]]
@@ -222,7 +222,7 @@ class Layout(Generic[Row]):
         """
         return self._core.read(record)  # type: ignore[no-any-return]
 
-    def read_into(self, record: Bytes, slots: Writable, area: Writable, mark: int = 0) -> Reading:
+    def read_into(self, record: Bytes, slots: Writable, area: Writable, mark: SupportsIndex = 0) -> Reading:
         """Reads a record into slots and, from byte `mark` on, into an area, as curlew_read does.
 
         The slots of fields that the record is too short for stay as they were; so do all other bytes. Read several
@@ -235,11 +235,11 @@ class Layout(Generic[Row]):
         >>> layout.values(slots, area)
         (b'C00417', 61, None)
         """
-        whole = as_bytes(record, "record")
+        whole, start = as_bytes(record, "record"), checked_int(mark, "mark")
         with Lent(slots, "slots") as own_slots, Lent(area, "area") as own_area:
             if own_slots.exporter is own_area.exporter:
                 raise ValueError("slots and area lie in one object: give each its own")
-            answer = Reading(*self._core.read_into(whole, own_slots.array, own_area.array, mark))
+            answer = Reading(*self._core.read_into(whole, own_slots.array, own_area.array, start))
             own_slots.give_back()
             own_area.give_back()
         return answer
@@ -250,7 +250,7 @@ class Layout(Generic[Row]):
         return self._core.values(own_slots, own_area)  # type: ignore[no-any-return]
 
     def records(self, source: Union[str, os.PathLike[str], BinaryIO, Bytes],
-                length: Optional[int] = None) -> Iterator[Row]:
+                length: Optional[SupportsIndex] = None) -> Iterator[Row]:
         """An iterator over the records of a file or of a run of bytes. The last one may be cut: it is read as it is.
 
         The source is a path (str or os.PathLike), a file that is open for reading bytes, or bytes, a bytearray, a
@@ -263,11 +263,9 @@ class Layout(Generic[Row]):
         >>> list(Layout("a2 Su Su").records(b"Ad\\x00\\x3dEf\\x00\\x00", length=4))
         [(b'Ad', 61, None), (b'Ef', 0, None)]
         """
-        size = self._length if length is None else length
+        size = self._length if length is None else checked_int(length, "length")
         if size is None:
             raise ValueError("length: starred values decide how long a record is, so say it")
-        if not isinstance(size, int) or isinstance(size, bool):
-            raise TypeError(f"length: an int, not {type(size).__name__}")
         if not 1 <= size <= _core.MAX_RECORD:
             raise ValueError(f"length: a record has 1 to {_core.MAX_RECORD} bytes, not {size}")
         if isinstance(source, bytes):

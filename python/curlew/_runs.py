@@ -4,7 +4,8 @@ from __future__ import annotations
 import codecs
 import mmap
 import os
-from typing import Any, BinaryIO, Iterator, Optional, Union
+from operator import index
+from typing import Any, BinaryIO, Iterator, Optional, SupportsIndex, Union
 
 Bytes = Union[bytes, bytearray, memoryview, mmap.mmap]
 Writable = Union[bytearray, memoryview, mmap.mmap]
@@ -66,6 +67,13 @@ class Lent:
         """Writes what the call left. No call takes a run of more than LONGEST bytes, so the copy is whole here."""
         if self._view is not None:
             self._view[:] = self.array
+
+
+def checked_int(number: SupportsIndex, what: str) -> int:
+    """The int that it is or stands for; TypeError for what is none, True and False too."""
+    if isinstance(number, bool) or not hasattr(number, "__index__"):
+        raise TypeError(f"{what}: an int, not {type(number).__name__}")
+    return index(number)
 
 
 def checked_coding(encoding: Optional[str], errors: Optional[str]) -> None:

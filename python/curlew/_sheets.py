@@ -5,7 +5,7 @@ from typing import List, Optional, Sequence, SupportsIndex, Union
 
 from . import _core
 from ._answers import Given, Mean, Rescued, Value
-from ._runs import Bytes, checked_coding
+from ._runs import Bytes, checked_coding, checked_int
 
 
 def sheet_dump(values: Sequence[Given], *, encoding: Optional[str] = None, errors: Optional[str] = None) -> bytes:
@@ -31,14 +31,15 @@ def sheet_load(sheet: Bytes, *, encoding: Optional[str] = None, errors: Optional
     return _core.sheet_load(sheet, encoding, errors)
 
 
-def sheet_rescue(sheet: Bytes, legs: int, *, encoding: Optional[str] = None, errors: Optional[str] = None) -> Rescued:
+def sheet_rescue(sheet: Bytes, legs: SupportsIndex, *, encoding: Optional[str] = None,
+                 errors: Optional[str] = None) -> Rescued:
     """What is whole at the front of a damaged sheet of so many legs; None for the legs that are lost.
 
     >>> sheet_rescue(sheet_dump([61, 88])[:-1], 2)
     Rescued(values=[[61], None], kept=1, cleared=1, dropped=10)
     """
     checked_coding(encoding, errors)
-    return Rescued(*_core.sheet_rescue(sheet, legs, encoding, errors))
+    return Rescued(*_core.sheet_rescue(sheet, checked_int(legs, "legs"), encoding, errors))
 
 
 def mean(legs: Sequence[Union[SupportsIndex, Sequence[SupportsIndex], None]]) -> Mean:

@@ -365,18 +365,18 @@ static PyObject *pack_table(const struct layout *layout, const struct curlew_tab
 static PyObject *layout_pack(PyObject *self, PyObject *arguments)
 {
     const struct layout *layout = (const struct layout *)self;
-    PyObject *values, *record = NULL;
+    PyObject *values, *wrap, *cut, *record = NULL;
     struct table table;
-    int wrap, cut;
 
-    if (!PyArg_ParseTuple(arguments, "Opp:pack", &values, &wrap, &cut) || !is_list(values, "values"))
+    if (!PyArg_ParseTuple(arguments, "OO!O!:pack", &values, &PyBool_Type, &wrap, &PyBool_Type, &cut) ||
+        !is_list(values, "values"))
         return NULL;
     if ((size_t)list_length(values) != layout->slots || layout->slots > CURLEW_MAX_SLOTS)
         return refuse_count(layout, (size_t)list_length(values));
     table_start(&table, &layout->python, &layout->coding);
     table.source = layout->source;
-    table.wrap = wrap;
-    table.cut = cut;
+    table.wrap = wrap == Py_True;
+    table.cut = cut == Py_True;
     if (put_values(&table, layout, values))
         record = pack_table(layout, &table.built);
     table_free(&table);

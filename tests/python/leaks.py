@@ -12,6 +12,7 @@ from curlew import Layout
 
 
 CALLS = 1000000
+FLAT = 262144
 
 
 def resident():
@@ -34,6 +35,20 @@ def used(work, rounds):
         work()
     gc.collect()
     return resident()
+
+
+def growth(work, rounds):
+    """How much more is in use after so many rounds more, the least of three times: the allocator may grow for its own
+    reasons once, but what the calls lose they lose each time."""
+    least = None
+    before = used(work, rounds)
+    for _ in range(3):
+        now = used(work, rounds)
+        least = now - before if least is None else min(least, now - before)
+        if least <= FLAT:
+            break
+        before = now
+    return least
 
 
 def traced(work, rounds):
@@ -118,12 +133,12 @@ def main():
             for _ in range(20):
                 work()
             continue
-        grown = -used(work, rounds) + used(work, rounds)
+        grown = growth(work, rounds)
         tracemalloc.start()
         more = -traced(work, 200) + min(traced(work, 200) for _ in range(3))
         tracemalloc.stop()
         # One block in each round, of 16 bytes at least, would be 3,200 bytes of Python's own memory.
-        if grown > 262144 or more > 2048:
+        if grown > FLAT or more > 2048:
             print(f"{work.__name__}: {grown} bytes more in use after {10 * rounds} calls and again as many, "
                   f"{more} of Python's own after 200 rounds or more")
             failed += 1

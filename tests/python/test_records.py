@@ -149,6 +149,7 @@ class Tables(unittest.TestCase):
         run = bytearray(64)
         for slots, area in ((run, run), (memoryview(run)[:16], memoryview(run)[16:]), (run, memoryview(run))):
             self.assertRaises(ValueError, layout.read_into, b"\5", slots, area)
+        self.assertRaises(ValueError, layout._core.read_into, b"\5", run, run, 0)
         self.assertEqual(run, bytes(64))
         del slots, area
         run.extend(b"not held")

@@ -116,9 +116,11 @@ class WrongTypes(unittest.TestCase):
     def test_others(self):
         layout = Layout("S")
         self.each(layout.extends, {"layout"})
-        self.each(lambda mark: layout.read_into(b"\0\5", bytearray(16), bytearray(16), mark), {"int", "bool", "Index"})
-        self.each(lambda length: layout.records(b"", length), {"None", "int"})
-        self.each(lambda legs: curlew.sheet_rescue(SHEET, legs), {"int", "bool", "Index"})
+        self.each(lambda mark: layout.read_into(b"\0\5", bytearray(16), bytearray(16), mark), {"int", "Index"})
+        self.each(lambda length: layout.records(b"", length), {"None", "int", "Index"})
+        self.each(lambda legs: curlew.sheet_rescue(SHEET, legs), {"int", "Index"})
+        self.each(lambda wrap: layout.pack([5], wrap=wrap), {"bool"})
+        self.each(lambda cut: layout.pack([5], cut=cut), {"bool"})
         for call in (curlew.sheet_dump, curlew.sheet_load, lambda *run, **more: curlew.sheet_rescue(*run, 1, **more)):
             right = [1] if call is curlew.sheet_dump else SHEET
             for name in set(ALL) - {"None", "str"}:
