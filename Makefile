@@ -3,6 +3,7 @@
 # make test            proves everything from nothing and runs all tests; the last line is 'N passed, 0 failed'. It says which
 #                      programs are missing, and installs them where INSTALL=1 or CI is set
 # make check-c         the tests of hosts, installed copy, command, packages and Python, without proving again
+# make check-browser   looks at the page of `curlew show --html` in Chromium, for whoever changes that page; not part of make test
 # make shared          writes target/shared/libcurlew.so, for programs that load a library
 # make wheel           writes target/dist/curlew-VERSION-cp39-abi3-linux_x86_64.whl, the Python package with the library in it
 # make install         header, archive, pkg-config file, command and manual pages under prefix (or PREFIX), below DESTDIR
@@ -52,7 +53,7 @@ COMPARE := target/compare
 CRATES := $(shell find crates crates.txt -type f)
 TWIN := $(wildcard tests/second/*.rs) tests/second/build.sh
 
-.PHONY: all demo test check check-c shared wheel install install-shared uninstall dist deb bench bench-publish clean
+.PHONY: all demo test check check-c check-browser shared wheel install install-shared uninstall dist deb bench bench-publish clean
 
 all: $(ARCHIVE) $(PAGES)
 
@@ -89,6 +90,10 @@ test check:
 
 check-c: all
 	@tests/run c
+
+check-browser: target/curlew
+	@command -v chromium >/dev/null || { echo "chromium not found: install Debian's package chromium"; exit 2; }
+	@cd target && PATH="$$PWD:$$PATH" python3 ../tests/command/browser.py
 
 $(COMPARE)/second: $(ARCHIVE) $(TWIN)
 	tests/second/build.sh $(ARCHIVE) $(COMPARE)

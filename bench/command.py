@@ -1,4 +1,4 @@
-"""A file of records of 25 bytes as tab-separated text, by Python's struct: command.py FILE. Prints what `curlew read --records 25 --tsv` prints."""
+"""A file of records of 25 bytes as tab-separated text, by Python's struct: command.py FILE. Prints what `curlew read --records 25 --tsv --long` prints."""
 import struct
 import sys
 

@@ -1,4 +1,4 @@
-# A file of records of 25 bytes as tab-separated text, by Tcl's binary scan: command.tcl FILE. Prints what `curlew read --records 25 --tsv` prints.
+# A file of records of 25 bytes as tab-separated text, by Tcl's binary scan: command.tcl FILE. Prints what `curlew read --records 25 --tsv --long` prints.
 proc main {name} {
     set file [open $name rb]
     fconfigure stdout -buffering full -buffersize 1000000

@@ -9,10 +9,12 @@ int values_suit(const struct layout *layout, size_t count)
 {
     if (count == layout->values)
         return DONE;
-    complain("values: the layout wants %lu, and it got %lu (number %d)", (unsigned long)layout->values, (unsigned long)count,
-             CURLEW_BAD_SLOTS);
-    advise("curlew layout shows the fields. A field with a count takes one list, as 61,0,88 for Su3; no layout takes more than %d.",
-           CURLEW_MAX_SLOTS);
+    complain("values: the layout wants %lu, and it got %lu (number %d)", (unsigned long)layout->values,
+             (unsigned long)count, CURLEW_BAD_SLOTS);
+    advise(
+        "curlew layout shows the fields. A field with a count takes one list, as 61,0,88 for Su3; "
+           "no layout takes more than %d.",
+        CURLEW_MAX_SLOTS);
     return REFUSED;
 }
 
@@ -63,6 +65,7 @@ int table_options(const struct options *options)
     if (status == DONE && has(options, OPTION_NO_HEAD) && has(options, OPTION_JSON))
         status = bad_use(options, "--no-head has no meaning with --json", "");
     if (status == DONE && has(options, OPTION_HEX | OPTION_TEXT) && has(options, TABLE_FORMS))
-        status = bad_use(options, "a table is not taken with ", option_name(options->given & (OPTION_HEX | OPTION_TEXT)));
+        status =
+            bad_use(options, "a table is not taken with ", option_name(options->given & (OPTION_HEX | OPTION_TEXT)));
     return status;
 }

@@ -106,6 +106,16 @@ void cells_show_row(const struct cells *cells)
     text_free(&row);
 }
 
+/* A text that a spreadsheet was kept from computing has one ' more than the text itself. */
+static size_t guard_of(const struct cells *cells, const char *bytes, size_t length)
+{
+    size_t i = 0;
+
+    while (i < length && bytes[i] == '\'')
+        i++;
+    return cells->for_spreadsheet && i > 0 && i < length && strchr("=+-@", bytes[i]) != NULL ? 1 : 0;
+}
+
 /* ---- the head ---- */
 
 static int no_column(struct cells *cells, size_t column, const char *what)
@@ -149,10 +159,11 @@ static int missing_columns(struct cells *cells, const struct layout *layout, int
             text_name(&without, &layout->names, i);
         }
     if (count > 0 && by_name)
-        complain("note: %s: there is no column for %.*s: not marked in every row", cells_source(cells), (int)without.length, without.bytes);
+        complain("note: %s: there is no column for %.*s: not marked in every row", cells_source(cells),
+                 (int)without.length, without.bytes);
     else if (count > 0)
-        complain("%s: it has %lu columns, and the layout %lu values", cells_source(cells), (unsigned long)cells->columns,
-                 (unsigned long)layout->values);
+        complain("%s: it has %lu columns, and the layout %lu values", cells_source(cells),
+                 (unsigned long)cells->columns, (unsigned long)layout->values);
     if (count > 0 && !by_name)
         advise("Give the names of the fields (--names, --layout): then a column may be missing.");
     text_free(&without);
@@ -170,13 +181,14 @@ static int take_head(struct cells *cells)
     if (found != ROW_TAKEN)
         return cells->source.failed ? TROUBLE : REFUSED;
     if (cells->count > CURLEW_MAX_SLOTS) {
-        complain("%s: it has %lu columns, and a table has at most %d", cells_source(cells), (unsigned long)cells->count, CURLEW_MAX_SLOTS);
+        complain("%s: it has %lu columns, and a table has at most %d", cells_source(cells), (unsigned long)cells->count,
+                 CURLEW_MAX_SLOTS);
         return REFUSED;
     }
     for (i = 0; i < cells->count; i++) {
         const struct cell_in *cell = &cells->cells[i];
         const char *bytes = cell_bytes(cells, cell);
-        size_t quote = cells->for_spreadsheet && cell->length > 1 && bytes[0] == '\'' ? 1 : 0;
+        size_t quote = guard_of(cells, bytes, cell->length);
 
         if (cell->length == 0 || memchr(bytes, '\0', cell->length) != NULL) {
             complain("%s: column %lu has no name in the head", cells_source(cells), (unsigned long)i);
@@ -265,7 +277,8 @@ static int take_mark(struct cells *cells)
         return TROUBLE;
     if (source->end == 3 && memcmp(source->buffer, "\xef\xbb\xbf", 3) == 0)
         source->at = 3;
-    if (source->end >= 2 && (memcmp(source->buffer, "\xff\xfe", 2) == 0 || memcmp(source->buffer, "\xfe\xff", 2) == 0)) {
+    if (source->end >= 2 &&
+        (memcmp(source->buffer, "\xff\xfe", 2) == 0 || memcmp(source->buffer, "\xfe\xff", 2) == 0)) {
         complain("%s: this is text in UTF-16", cells_source(cells));
         advise("Save it in UTF-8.");
         return REFUSED;
@@ -273,7 +286,8 @@ static int take_mark(struct cells *cells)
     return DONE;
 }
 
-int cells_open(struct cells *cells, const struct options *options, enum form form, const char *name, struct layout *layout)
+int cells_open(struct cells *cells, const struct options *options, enum form form, const char *name,
+               struct layout *layout)
 {
     int status;
 
@@ -296,8 +310,9 @@ static enum row_found suits_head(struct cells *cells)
     size_t i;
 
     if (cells->form != JSON && cells->count != cells->columns) {
-        complain("%s: it has %lu cell%s, and the table %lu column%s", cells_where(cells, cells->columns), (unsigned long)cells->count,
-                 cells->count == 1 ? "" : "s", (unsigned long)cells->columns, cells->columns == 1 ? "" : "s");
+        complain("%s: it has %lu cell%s, and the table %lu column%s", cells_where(cells, cells->columns),
+                 (unsigned long)cells->count, cells->count == 1 ? "" : "s", (unsigned long)cells->columns,
+                 cells->columns == 1 ? "" : "s");
         return ROW_BAD;
     }
     for (i = 0; cells->form == JSON && i < cells->columns; i++)
@@ -320,7 +335,8 @@ static enum row_found next_that_is_none_blank(struct cells *cells)
         found = csv_next(cells);
     }
     if (found == ROW_TAKEN && blank > 0) {
-        complain("%s, line %llu: this line is blank, and rows follow it", cells_source(cells), (unsigned long long)blank);
+        complain("%s, line %llu: this line is blank, and rows follow it", cells_source(cells),
+                 (unsigned long long)blank);
         advise("Take it out, or fill it in.");
         return ROW_LOST;
     }
@@ -339,17 +355,8 @@ enum row_found cells_next(struct cells *cells)
     return found == ROW_TAKEN ? suits_head(cells) : found;
 }
 
-/* A text that a spreadsheet was kept from computing has one ' more than the text itself. */
-static size_t guard_of(const struct cells *cells, const char *bytes, size_t length)
-{
-    size_t i = 0;
-
-    while (i < length && bytes[i] == '\'')
-        i++;
-    return cells->for_spreadsheet && i > 0 && i < length && strchr("=+-@", bytes[i]) != NULL ? 1 : 0;
-}
-
-static int put_cell(struct cells *cells, const struct field *field, const struct cell_in *cell, struct values *values, struct fault *fault)
+static int put_cell(struct cells *cells, const struct field *field, const struct cell_in *cell, struct values *values,
+                    struct fault *fault)
 {
     const char *bytes = cell_bytes(cells, cell);
     int text = field_value(field) == CHARACTERS || field_value(field) == DIGITS;

@@ -113,8 +113,8 @@ void choose_fields(struct choice *choice, const struct options *options, const s
         no_choice("--fields", options->fields, names);
     for (i = 0; i < choice->count; i++)
         if (choice->index[i] >= limit) {
-            complain("--fields %s: there is no field %lu; they are 0 to %lu", options->fields, (unsigned long)choice->index[i],
-                     (unsigned long)limit - 1);
+            complain("--fields %s: there is no field %lu; they are 0 to %lu", options->fields,
+                     (unsigned long)choice->index[i], (unsigned long)limit - 1);
             exit(TROUBLE);
         }
 }

@@ -14,8 +14,8 @@ struct comparing {
     struct text out;
 };
 
-static void pair_start(struct pair *pair, const struct options *options, const struct layout *layout, const struct names *names,
-                       const struct choice *columns)
+static void pair_start(struct pair *pair, const struct options *options, const struct layout *layout,
+                       const struct names *names, const struct choice *columns)
 {
     int side;
 
@@ -45,7 +45,8 @@ static void pair_end(struct pair *pair)
 /* Signed and unsigned integers that show the same are the same mark. */
 static int same_kind(uint32_t one, uint32_t other)
 {
-    return one == other || (one != CURLEW_STRING && one != CURLEW_REAL && other != CURLEW_STRING && other != CURLEW_REAL);
+    return one == other ||
+           (one != CURLEW_STRING && one != CURLEW_REAL && other != CURLEW_STRING && other != CURLEW_REAL);
 }
 
 /* Of two kinds of integers: whether none has the bit that is a sign for one of them. */
@@ -87,9 +88,11 @@ static void compare_entry(struct pair *pair, size_t index)
     }
     common = lengths[0] < lengths[1] ? lengths[0] : lengths[1];
     if (slots[0].kind == CURLEW_UNSET || slots[1].kind == CURLEW_UNSET)
-        verdict = slots[0].kind != CURLEW_UNSET ? CURLEW_ONLY_FIRST : slots[1].kind != CURLEW_UNSET ? CURLEW_ONLY_SECOND : CURLEW_NEITHER;
-    else if (same_kind(slots[0].kind, slots[1].kind) && lengths[0] == lengths[1] && memcmp(bytes[0], bytes[1], common) == 0 &&
-             (slots[0].kind == slots[1].kind || no_sign(bytes[0], common)))
+        verdict = slots[0].kind != CURLEW_UNSET   ? CURLEW_ONLY_FIRST
+                  : slots[1].kind != CURLEW_UNSET ? CURLEW_ONLY_SECOND
+                                                  : CURLEW_NEITHER;
+    else if (same_kind(slots[0].kind, slots[1].kind) && lengths[0] == lengths[1] &&
+             memcmp(bytes[0], bytes[1], common) == 0 && (slots[0].kind == slots[1].kind || no_sign(bytes[0], common)))
         verdict = CURLEW_SAME;
     curlew_put_number(pair->report + index * CURLEW_FINDING_SIZE, verdict);
     curlew_put_number(pair->report + index * CURLEW_FINDING_SIZE + 8,
@@ -124,7 +127,8 @@ static int compare_records(struct pair *pair)
         while (set < pair->fields && curlew_get_slot(pair->values[side].slots, set).kind != CURLEW_UNSET)
             set++;
         pair->over[side] = set < pair->fields ? 0
-            : pair->lengths[side] - bytes_of_fields(pair->layout, &pair->values[side], set, pair->lengths[side], 1);
+                                              : pair->lengths[side] - bytes_of_fields(pair->layout, &pair->values[side],
+                                                                                      set, pair->lengths[side], 1);
     }
     return DONE;
 }
@@ -154,7 +158,8 @@ static void show_pair(struct comparing *comparing)
     if (options->form == JSON)
         pair_json(pair, &comparing->out);
     else
-        pair_rows(pair, options->form, !has(options, OPTION_NO_HEAD) && (options->form == PEOPLE || !comparing->headed), &comparing->out);
+        pair_rows(pair, options->form, !has(options, OPTION_NO_HEAD) && (options->form == PEOPLE || !comparing->headed),
+                  &comparing->out);
     comparing->headed = 1;
     if (options->form == PEOPLE)
         text_add(&comparing->out, remarks.bytes, remarks.length);
@@ -187,8 +192,8 @@ static void show_counts(struct comparing *comparing)
     }
     output_text(out);
     if (comparing->options->form != PEOPLE && comparing->options->form != JSON && comparing->remarks > 0)
-        complain("note: lengths differ, or bytes belong to no field, in %llu of %llu records", (unsigned long long)comparing->remarks,
-                 (unsigned long long)comparing->pairs);
+        complain("note: lengths differ, or bytes belong to no field, in %llu of %llu records",
+                 (unsigned long long)comparing->remarks, (unsigned long long)comparing->pairs);
 }
 
 /* ---- records ---- */
@@ -199,7 +204,8 @@ static int compare_one(struct comparing *comparing)
     int side;
 
     for (side = 0; side < 2; side++)
-        if (input_all(pair->files[side], pair->records[side], CURLEW_MAX_RECORD, "a record", &pair->lengths[side]) != DONE)
+        if (input_all(pair->files[side], pair->records[side], CURLEW_MAX_RECORD, "a record", &pair->lengths[side]) !=
+            DONE)
             return TROUBLE;
     if (compare_records(pair) != DONE)
         return TROUBLE;
@@ -212,7 +218,8 @@ static int sources_open(struct comparing *comparing, uint64_t passed)
     int side;
 
     for (side = 0; side < 2; side++)
-        if (!source_open(&comparing->sources[side], comparing->pair.files[side]) || !input_skip(&comparing->sources[side].input, passed))
+        if (!source_open(&comparing->sources[side], comparing->pair.files[side]) ||
+            !input_skip(&comparing->sources[side].input, passed))
             return TROUBLE;
     return DONE;
 }
@@ -258,7 +265,8 @@ static int compare_many(struct comparing *comparing, size_t length)
 
 /* ---- sheets ---- */
 
-/* The next sheet of a file; one that is not there has no entries. Returns -1 after a complaint, 0 where there is none. */
+/* The next sheet of a file; one that is not there has no entries. Returns -1 after a complaint, 0 where there is none.
+ */
 static int next_sheet(struct comparing *comparing, int side)
 {
     int found = sheets_next(&comparing->sheets[side], &comparing->pair.values[side]);
@@ -314,7 +322,9 @@ static int compare(struct comparing *comparing, size_t length)
     text_free(&comparing->out);
     if (status != DONE)
         return status;
-    return comparing->fields_different > 0 || (has(comparing->options, OPTION_STRICT) && comparing->remarks > 0) ? REFUSED : DONE;
+    return comparing->fields_different > 0 || (has(comparing->options, OPTION_STRICT) && comparing->remarks > 0)
+               ? REFUSED
+               : DONE;
 }
 
 static int run(struct options *options, const struct layout *layout, const struct names *names)
@@ -333,7 +343,10 @@ static int run(struct options *options, const struct layout *layout, const struc
     if (status != DONE)
         return status;
     comparing.options = options;
-    choose_fields(&columns, options, names, layout != NULL ? layout->values : names->count > 0 ? names->count : CURLEW_MAX_SLOTS);
+    choose_fields(&columns, options, names,
+                  layout != NULL     ? layout->values
+                  : names->count > 0 ? names->count
+                                     : CURLEW_MAX_SLOTS);
     pair_start(&comparing.pair, options, layout, names, &columns);
     status = compare(&comparing, length);
     pair_end(&comparing.pair);

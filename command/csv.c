@@ -1,7 +1,7 @@
 /*
- * A row of a table with commas (RFC 4180) or tabs taken apart. With commas a cell may stand in quotes, with commas, line ends and
- * doubled quotes in it; with tabs a backslash tells of what cannot stand there (\\\\ \\t \\n \\r \\xNN). A line ends in LF or CRLF.
- * What could be read in two ways is refused.
+ * A row of a table with commas (RFC 4180) or tabs taken apart. With commas a cell may stand in quotes, with commas,
+ * line ends and doubled quotes in it; with tabs a backslash tells of what cannot stand there (\\\\ \\t \\n \\r \\xNN).
+ * A line ends in LF or CRLF. What could be read in two ways is refused.
  */
 #include <string.h>
 
@@ -111,8 +111,9 @@ static enum row_found quote_in_front(struct cells *cells, struct cell_in *cell)
         cells->bytes.length = cell->start;
         return ROW_TAKEN;
     }
-    return cells_lost(cells, "a cell begins with a quote, and with tabs quotes mean nothing",
-                      "Where a spreadsheet put it there, save the table with commas; a quote of the text itself is \\x22.");
+    return cells_lost(
+        cells, "a cell begins with a quote, and with tabs quotes mean nothing",
+        "Where a spreadsheet put it there, save the table with commas; a quote of the text itself is \\x22.");
 }
 
 static enum row_found take_plain(struct cells *cells, struct cell_in *cell)
@@ -126,7 +127,8 @@ static enum row_found take_plain(struct cells *cells, struct cell_in *cell)
         cells->source.at++;
         escaped = escaped_byte(cells);
         if (escaped == -1)
-            return cells_lost(cells, "a backslash stands before something that it does not tell of", "A backslash is written \\\\.");
+            return cells_lost(cells, "a backslash stands before something that it does not tell of",
+                              "A backslash is written \\\\.");
         text_char(&cells->bytes, (char)escaped);
         take_run(cells);
     }

@@ -23,7 +23,8 @@ struct command {
 };
 
 static const struct command commands[] = {
-    {"layout", NULL, "LAYOUT\n--extends OLD NEW", "the fields of a layout and what it promises, or whether NEW is OLD with fields added",
+    {"layout", NULL, "LAYOUT\n--extends OLD NEW",
+     "the fields of a layout and what it promises, or whether NEW is OLD with fields added",
      FORMS | NAMED | OPTION_EXTENDS | OPTION_NO_HEAD, command_layout},
     {"pack", NULL, "LAYOUT VALUE... [-o FILE]\n--csv LAYOUT [TABLE] [-o FILE]",
      "values become a record, or the rows of a table a file of records",
@@ -39,16 +40,21 @@ static const struct command commands[] = {
      command_sheet_write},
     {"sheet", "read", "[SHEETS]\n--csv [SHEETS] [--names LIST]\n--record LAYOUT [SHEET] [-o FILE]",
      "what sheets say, as a table or one by one, or a record of one",
-     FORMS | TABLES | OPTION_LONG | OPTION_OUTPUT | OPTION_HEX | OPTION_RECORD | OPTION_FIELDS | OPTION_STRICT, command_sheet_read},
-    {"sheet", "rescue", "LEGS [SHEET] [-o FILE]", "what is whole of a sheet that was cut", FORMS | OPTION_NO_HEAD | OPTION_OUTPUT,
-     command_sheet_rescue},
+     FORMS | TABLES | OPTION_LONG | OPTION_OUTPUT | OPTION_HEX | OPTION_RECORD | OPTION_FIELDS | OPTION_STRICT,
+     command_sheet_read},
+    {"sheet", "rescue", "LEGS [SHEET] [-o FILE]", "what is whole of a sheet that was cut",
+     FORMS | OPTION_NO_HEAD | OPTION_OUTPUT, command_sheet_rescue},
     {"compare", NULL, "LAYOUT FILE FILE\n--records [N] LAYOUT FILE FILE\n--sheets FILE FILE",
      "what differs between two copies of a record, of a file of records, or of sheets",
-     FORMS | NAMED | SOME | OPTION_FIELDS | OPTION_NO_HEAD | OPTION_RECORDS | OPTION_SHEETS | OPTION_DIFFERENT | OPTION_STRICT,
+     FORMS | NAMED | SOME | OPTION_FIELDS | OPTION_NO_HEAD | OPTION_RECORDS | OPTION_SHEETS | OPTION_DIFFERENT |
+         OPTION_STRICT,
      command_compare},
-    {"mean", NULL, "[SHEETS...] [--legs LIST]\n--records [N] LAYOUT [FILE...] [--legs LIST]\n--input csv LAYOUT [TABLE...] [--legs LIST]",
+    {"mean", NULL,
+     "[SHEETS...] [--legs LIST]\n--records [N] LAYOUT [FILE...] [--legs LIST]\n"
+     "--input csv LAYOUT [TABLE...] [--legs LIST]",
      "the mean of the marked legs of each sheet, record or row",
-     FORMS | NAMED | SOME | OPTION_FIELDS | OPTION_NO_HEAD | OPTION_LEGS | OPTION_FILES_FROM | OPTION_RECORDS | OPTION_INPUT,
+     FORMS | NAMED | SOME | OPTION_FIELDS | OPTION_NO_HEAD | OPTION_LEGS | OPTION_FILES_FROM | OPTION_RECORDS |
+         OPTION_INPUT,
      command_mean},
     {"perl", NULL, "TEMPLATE", "the layout of a Perl pack template", FORMS, command_perl},
 };
@@ -97,7 +103,8 @@ static const struct line option_lines[] = {
     {OPTION_LAYOUT, "--layout FILE     in place of LAYOUT: a line a field, its name and the field"},
     {OPTION_FIELDS, "--fields LIST     only these, by name or number, as oral,steno or 3-"},
     {OPTION_NO_HEAD, "--no-head         a table without a line of names"},
-    {OPTION_FOR_SPREADSHEET, "--for-spreadsheet ' before texts that a spreadsheet would compute, and lines end in CRLF"},
+    {OPTION_FOR_SPREADSHEET,
+     "--for-spreadsheet ' before texts that a spreadsheet would compute, and lines end in CRLF"},
     {OPTION_OUTPUT, "-o FILE           writes the record or sheet there, whole or not at all"},
     {OPTION_HEX, "--hex             the bytes as hex digits"},
     {OPTION_STRICT, "--strict          what would be noted is refused"},
@@ -135,13 +142,16 @@ static void usage(struct text *to)
         text_ways(to, &commands[i], "  ", "  ");
         text_format(to, "      %s\n", commands[i].gives);
     }
-    text_string(to, "  help [COMMAND]\n      how a command is used\n\n"
-                    "A VALUE is text as it is, or numbers as 1,2,-3; @FILE takes it from a file, @ alone is not marked. Behind -- all\n"
-                    "are taken as they are. Without a FILE, TABLE or SHEET, or with -, standard input is read.\n\n");
+    text_string(
+        to,
+        "  help [COMMAND]\n      how a command is used\n\n"
+        "A VALUE is text as it is, or numbers as 1,2,-3; @FILE takes it from a file, @ alone is not marked. Behind --\n"
+        "all are taken as they are. Without a FILE, TABLE or SHEET, or with -, standard input is read.\n\n");
     text_options(to, ~0u);
-    text_string(to, "  --help, --version\n\n"
-                    "Exit status: 0 done, 1 differences or a refusal, 2 bad use or a file that cannot be read or written.\n"
-                    "curlew(1) says more.\n");
+    text_string(to,
+                "  --help, --version\n\n"
+                "Exit status: 0 done, 1 differences or a refusal, 2 bad use or a file that cannot be read or written.\n"
+                "curlew(1) says more.\n");
 }
 
 static int show_usage(const struct command *command)

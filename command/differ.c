@@ -33,7 +33,8 @@ size_t pair_differences(const struct pair *pair)
     size_t count = 0, k;
 
     for (k = 0; k < pair->columns.count; k++)
-        count += pair->columns.index[k] < pair->fields && differs(curlew_get_finding(pair->report, pair->columns.index[k]).verdict);
+        count += pair->columns.index[k] < pair->fields &&
+                 differs(curlew_get_finding(pair->report, pair->columns.index[k]).verdict);
     return count;
 }
 
@@ -106,7 +107,9 @@ static void value_cells(struct table *table, enum form form, const struct pair *
 
     for (side = 0; side < 2; side++)
         marked[side] = value_cell(&shown[side], form, &pair->values[side], index, field_of(pair, index));
-    if (form == PEOPLE && (text_columns(shown[0].bytes, shown[0].length) > WIDEST || text_columns(shown[1].bytes, shown[1].length) > WIDEST) &&
+    if (form == PEOPLE &&
+        (text_columns(shown[0].bytes, shown[0].length) > WIDEST ||
+         text_columns(shown[1].bytes, shown[1].length) > WIDEST) &&
         curlew_get_finding(pair->report, index).verdict == CURLEW_DIFFERENT)
         place = parting_place(&shown[0], &shown[1]);
     for (side = 0; side < 2; side++) {
@@ -257,7 +260,7 @@ void pair_remarks(const struct pair *pair, struct text *out)
     for (side = 0; side < 2; side++)
         if (pair->over[side] > 0) {
             text_count(out, pair->over[side], "byte of the ", "bytes of the ");
-            text_format(out, "%s copy belong%s to no field and %s not compared\n", copies[side], pair->over[side] == 1 ? "s" : "",
-                        pair->over[side] == 1 ? "is" : "are");
+            text_format(out, "%s copy belong%s to no field and %s not compared\n", copies[side],
+                        pair->over[side] == 1 ? "s" : "", pair->over[side] == 1 ? "is" : "are");
         }
 }

@@ -13,8 +13,8 @@ static const char *kind_word(uint32_t kind)
 /* The columns that are wanted. Returns how many. */
 static size_t choose_columns(const struct entries *entries, struct column *columns)
 {
-    static const struct column sheet = {"sheet", 1}, entry = {"entry", 1}, name = {"name", 0}, from = {"from the sheet", 0},
-                               kind = {"kind", 0}, value = {"value", 0};
+    static const struct column sheet = {"sheet", 1}, entry = {"entry", 1}, name = {"name", 0},
+                               from = {"from the sheet", 0}, kind = {"kind", 0}, value = {"value", 0};
     size_t count = 0;
 
     if (entries->numbered)

@@ -3,7 +3,8 @@
 
 #include "tool.h"
 
-/* The two texts, and the place in each at which they part; CURLEW_NOWHERE in the old one where only the new one is to blame. */
+/* The two texts, and the place in each at which they part; CURLEW_NOWHERE in the old one where only the new one is to
+ * blame. */
 struct texts {
     struct layout older, newer;
     uint32_t older_place, newer_place;
@@ -32,7 +33,8 @@ static const char *reason(uint32_t number)
 static const char *advice(uint32_t number)
 {
     switch (number) {
-    case CURLEW_OTHER_FIELDS: return "Leave the old fields as they are, count and flag too, and put new ones behind them.";
+    case CURLEW_OTHER_FIELDS:
+        return "Leave the old fields as they are, count and flag too, and put new ones behind them.";
     case CURLEW_NOT_PLAIN: return "A layout that grows has no X, no @, no * and no count of 0.";
     case CURLEW_BAD_SLOTS: return "Put marks of one kind together, as in Su5.";
     default: return "Shorten a field, or keep some of them in a second record.";
@@ -98,7 +100,8 @@ static void place_text(struct table *table, uint32_t place)
 
 static void show_in_cells(const struct texts *texts, struct curlew_answer answer, enum form form, struct text *out)
 {
-    static const struct column columns[] = {{"extends", 0}, {"number", 1}, {"fields", 1}, {"added", 1}, {"old byte", 1}, {"new byte", 1}};
+    static const struct column columns[] = {{"extends", 0}, {"number", 1},   {"fields", 1},
+                                            {"added", 1},   {"old byte", 1}, {"new byte", 1}};
     int extends = answer.number == CURLEW_OK;
     struct table table;
 
@@ -136,7 +139,8 @@ int layout_extends(struct options *options)
     struct extends_answer answer;
 
     if (has(options, OPTION_LAYOUT | OPTION_NAMES))
-        return bad_use(options, "--extends is not taken with ", option_name(options->given & (OPTION_LAYOUT | OPTION_NAMES)));
+        return bad_use(options, "--extends is not taken with ",
+                       option_name(options->given & (OPTION_LAYOUT | OPTION_NAMES)));
     if (operands_suit(options, 2, 2) != DONE)
         return TROUBLE;
     if (layout_given(&texts.older, "OLD", options->operands[0], TO_SHOW) != DONE ||

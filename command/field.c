@@ -1,13 +1,23 @@
-/* A field of a layout: what sort of value it takes, and what it is in words. Where it stands and what it fills is the library's to say. */
+/* A field of a layout: what sort of value it takes, and what it is in words. Where it stands and what it fills is the
+ * library's to say. */
 #include "tool.h"
 
 enum value_form field_value(const struct field *field)
 {
     switch (field->type) {
-    case 'x': case 'X': case '@': return MOVE;
-    case 'a': case 'A': return CHARACTERS;
-    case 'b': case 'B': case 'h': case 'H': return DIGITS;
-    case 'r': case 'R': case 'q': case 'Q': return REALS;
+    case 'x':
+    case 'X':
+    case '@': return MOVE;
+    case 'a':
+    case 'A': return CHARACTERS;
+    case 'b':
+    case 'B':
+    case 'h':
+    case 'H': return DIGITS;
+    case 'r':
+    case 'R':
+    case 'q':
+    case 'Q': return REALS;
     default: return INTEGERS;
     }
 }
@@ -15,9 +25,16 @@ enum value_form field_value(const struct field *field)
 size_t item_bytes(char type)
 {
     switch (type) {
-    case 's': case 'S': return 2;
-    case 'i': case 'I': case 'r': case 'R': return 4;
-    case 'w': case 'W': case 'q': case 'Q': return 8;
+    case 's':
+    case 'S': return 2;
+    case 'i':
+    case 'I':
+    case 'r':
+    case 'R': return 4;
+    case 'w':
+    case 'W':
+    case 'q':
+    case 'Q': return 8;
     default: return 1;
     }
 }
@@ -26,8 +43,10 @@ size_t item_bytes(char type)
 size_t field_bytes(const struct field *field, size_t count)
 {
     switch (field->type) {
-    case 'b': case 'B': return (count + 7) / 8;
-    case 'h': case 'H': return (count + 1) / 2;
+    case 'b':
+    case 'B': return (count + 7) / 8;
+    case 'h':
+    case 'H': return (count + 1) / 2;
     default: return count * item_bytes(field->type);
     }
 }
@@ -36,7 +55,8 @@ static void number_words(const struct field *field, struct text *to)
 {
     size_t bytes = item_bytes(field->type);
 
-    text_format(to, "%s of %lu byte%s", field_value(field) == REALS ? "real" : "integer", (unsigned long)bytes, bytes == 1 ? "" : "s");
+    text_format(to, "%s of %lu byte%s", field_value(field) == REALS ? "real" : "integer", (unsigned long)bytes,
+                bytes == 1 ? "" : "s");
     if (bytes > 1)
         text_string(to, field->type >= 'a' ? ", little-endian" : ", big-endian");
     if (field_value(field) == INTEGERS)

@@ -141,15 +141,21 @@ static uint8_t *area_room(struct values *values, size_t bytes, struct fault *fau
 {
     if (bytes <= CURLEW_MAX_AREA - values->used)
         return values->area + values->used;
-    set_fault(fault, NULL, 0, "all values together take more than 524288 bytes", "Leave something out; a number takes eight bytes.");
+    set_fault(fault, NULL, 0, "all values together take more than 524288 bytes",
+              "Leave something out; a number takes eight bytes.");
     return NULL;
 }
 
 /* A slot behind the others, over what was put behind the values in use. The header's helper keeps to the limits. */
 static int close_slot(struct values *values, uint32_t kind, size_t length)
 {
-    struct curlew_table table = {values->slots, sizeof values->slots, values->count * CURLEW_SLOT_SIZE,
-                                 values->area, CURLEW_MAX_AREA, values->used, 0};
+    struct curlew_table table = {values->slots,
+                                 sizeof values->slots,
+                                 values->count * CURLEW_SLOT_SIZE,
+                                 values->area,
+                                 CURLEW_MAX_AREA,
+                                 values->used,
+                                 0};
 
     if (!curlew_table_add(&table, kind, length, kind == CURLEW_STRING || kind == CURLEW_UNSET ? 1 : CURLEW_ITEM_SIZE))
         return 0;
@@ -194,7 +200,8 @@ static int add_integers(struct values *values, const struct given *given, int fl
         large |= !negative && size >> 63;
     }
     if (negatives && large)
-        return set_fault(fault, NULL, 0, "it has numbers below 0 and numbers above 9223372036854775807, and no list holds both",
+        return set_fault(fault, NULL, 0,
+                         "it has numbers below 0 and numbers above 9223372036854775807, and no list holds both",
                          "A list of 64-bit integers is signed or unsigned: give them to two fields.");
     return close_slot(values, large || (flag && !negatives) ? CURLEW_UNSIGNED : CURLEW_SIGNED, count);
 }
@@ -217,7 +224,8 @@ static int add_reals(struct values *values, const struct given *given, struct fa
     return close_slot(values, CURLEW_REAL, count);
 }
 
-int value_put(struct values *values, const struct field *field, const uint8_t *bytes, size_t length, struct fault *fault)
+int value_put(struct values *values, const struct field *field, const uint8_t *bytes, size_t length,
+              struct fault *fault)
 {
     struct given given = {bytes, length};
 
@@ -235,22 +243,24 @@ static int bad_argument(const char *argument, size_t number, const struct fault 
     struct text shown = {0};
 
     text_fault(&shown, fault);
-    complain("value %lu%s%s: %.*s", (unsigned long)number, argument != NULL ? ", " : "", argument != NULL ? argument : "",
-             (int)shown.length, shown.bytes);
+    complain("value %lu%s%s: %.*s", (unsigned long)number, argument != NULL ? ", " : "",
+             argument != NULL ? argument : "", (int)shown.length, shown.bytes);
     advise("%s", fault->advice);
     text_free(&shown);
     return REFUSED;
 }
 
 /* A text of digits from a file has no line end; another text keeps it, and a note says so. */
-static void line_end(const char *argument, const struct field *field, size_t number, const uint8_t *bytes, size_t *length)
+static void line_end(const char *argument, const struct field *field, size_t number, const uint8_t *bytes,
+                     size_t *length)
 {
     if (*length == 0 || bytes[*length - 1] != '\n')
         return;
     if (field_value(field) == DIGITS)
         *length -= *length > 1 && bytes[*length - 2] == '\r' ? 2 : 1;
     else if (field_value(field) == CHARACTERS)
-        complain("note: value %lu, %s: the text ends with a line end, which is part of it", (unsigned long)number, argument);
+        complain("note: value %lu, %s: the text ends with a line end, which is part of it", (unsigned long)number,
+                 argument);
 }
 
 static int value_from_file(struct values *values, const struct field *field, const char *argument)
@@ -269,8 +279,10 @@ static int value_from_file(struct values *values, const struct field *field, con
     return status;
 }
 
-/* `@` alone is a value that is not marked, @FILE one from a file, @@text the text @text, all else itself; and all is itself as text. */
-static int value_from_argument(struct values *values, const struct field *field, const char *argument, int as_text, int for_sheet)
+/* `@` alone is a value that is not marked, @FILE one from a file, @@text the text @text, all else itself; and all is
+ * itself as text. */
+static int value_from_argument(struct values *values, const struct field *field, const char *argument, int as_text,
+                               int for_sheet)
 {
     enum value_form form = field_value(field);
     const char *from = argument;
@@ -304,7 +316,8 @@ static int twice_standard_input(const struct options *options)
     return count > 1 ? bad_use(options, "only one value can come from standard input (@-)", "") : DONE;
 }
 
-int values_from_arguments(struct values *values, const struct layout *layout, const struct options *options, int for_sheet)
+int values_from_arguments(struct values *values, const struct layout *layout, const struct options *options,
+                          int for_sheet)
 {
     int status = twice_standard_input(options);
     size_t i;

@@ -117,11 +117,11 @@ int input_all(const char *name, uint8_t *to, size_t limit, const char *what, siz
     if (*length <= limit)
         return DONE;
     text_grouped(&most, limit);
-    complain("%s: it has more than %.*s bytes, and %s has no more than that", input.name, (int)most.length, most.bytes, what);
+    complain("%s: it has more than %.*s bytes, and %s has no more than that", input.name, (int)most.length, most.bytes,
+             what);
     text_free(&most);
     return REFUSED;
 }
-
 
 /* ---- byte by byte ---- */
 

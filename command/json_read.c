@@ -1,6 +1,7 @@
 /*
- * A row of a table as JSON taken apart (RFC 8259): an object for each row, all of them in one array or one after the other. A text is a
- * string, a number a number, a list an array of numbers, and null a value that is not marked. Under NAME_hex stands a text in hex.
+ * A row of a table as JSON taken apart (RFC 8259): an object for each row, all of them in one array or one after the
+ * other. A text is a string, a number a number, a list an array of numbers, and null a value that is not marked. Under
+ * NAME_hex stands a text in hex.
  */
 #include <string.h>
 
@@ -91,7 +92,9 @@ static int take_escape(struct cells *cells)
     int c = next_byte(cells);
 
     switch (c) {
-    case '"': case '\\': case '/': text_char(&cells->bytes, (char)c); return 1;
+    case '"':
+    case '\\':
+    case '/': text_char(&cells->bytes, (char)c); return 1;
     case 'b': text_char(&cells->bytes, '\b'); return 1;
     case 'f': text_char(&cells->bytes, '\f'); return 1;
     case 'n': text_char(&cells->bytes, '\n'); return 1;
@@ -209,9 +212,7 @@ static const char *take_value(struct cells *cells, struct cell_in *cell)
         cell->form = CELL_NUMBERS;
         done = take_list(cells);
         break;
-    default:
-        cell->form = CELL_NUMBERS;
-        done = take_number(cells);
+    default: cell->form = CELL_NUMBERS; done = take_number(cells);
     }
     cell->length = cells->bytes.length - cell->start;
     return done ? NULL : no_json;
@@ -251,7 +252,8 @@ static size_t column_named(struct cells *cells, const char *name, size_t length,
 {
     size_t column;
 
-    if (guess < cells->head.count && strlen(cells->head.text[guess]) == length && memcmp(cells->head.text[guess], name, length) == 0)
+    if (guess < cells->head.count && strlen(cells->head.text[guess]) == length &&
+        memcmp(cells->head.text[guess], name, length) == 0)
         return guess;
     column = name_index(&cells->head, name, length);
     if (column == cells->head.count && !cells->headed && column < CURLEW_MAX_SLOTS) {
@@ -278,7 +280,8 @@ static enum row_found take_member(struct cells *cells, size_t guess)
     int hex;
 
     if (skip_space(cells) != '"' || (next_byte(cells), !take_string(cells)) || skip_space(cells) != ':')
-        return cells_lost(cells, "this is no JSON: a name in quotes and a colon are wanted", "A row is an object, as {\"number\":\"C00417\"}.");
+        return cells_lost(cells, "this is no JSON: a name in quotes and a colon are wanted",
+                          "A row is an object, as {\"number\":\"C00417\"}.");
     next_byte(cells);
     length = cells->bytes.length - start;
     hex = length > 4 && memcmp(cells->bytes.bytes + start + length - 4, "_hex", 4) == 0;
@@ -317,7 +320,8 @@ static enum row_found take_object(struct cells *cells)
             c = skip_space(cells) == '}' ? -1 : ',';
         }
         if (c != '}' && c != ',')
-            return cells_lost(cells, "this is no JSON: a comma or } is wanted", "A row is an object, as {\"number\":\"C00417\"}.");
+            return cells_lost(cells, "this is no JSON: a comma or } is wanted",
+                              "A row is an object, as {\"number\":\"C00417\"}.");
     }
     next_byte(cells);
     return found;
@@ -364,6 +368,7 @@ enum row_found json_next(struct cells *cells)
     for (i = 0; i < cells->columns; i++)
         cells_new(cells)->form = CELL_MISSING;
     if (c != '{')
-        return cells_lost(cells, "this is no JSON: an object for each row is wanted", "Rows stand in one array, or one after the other.");
+        return cells_lost(cells, "this is no JSON: an object for each row is wanted",
+                          "Rows stand in one array, or one after the other.");
     return take_object(cells);
 }

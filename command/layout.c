@@ -106,7 +106,8 @@ static void promise_json(const char *key, const char *place_key, uint32_t place,
         json_number(out, place_key, place);
 }
 
-static void layout_json(const struct layout *layout, struct curlew_answer answer, struct promises promises, struct text *out)
+static void layout_json(const struct layout *layout, struct curlew_answer answer, struct promises promises,
+                        struct text *out)
 {
     size_t value = 0, i;
 
@@ -134,9 +135,11 @@ static void layout_json(const struct layout *layout, struct curlew_answer answer
 static void layout_notes(struct curlew_answer answer)
 {
     if (answer.first > CURLEW_MAX_SLOTS)
-        complain("note: it has %lu values, and packing and reading take at most %d", (unsigned long)answer.first, CURLEW_MAX_SLOTS);
+        complain("note: it has %lu values, and packing and reading take at most %d", (unsigned long)answer.first,
+                 CURLEW_MAX_SLOTS);
     if (answer.second > CURLEW_MAX_RECORD)
-        complain("note: it fills %lu bytes, and a record has at most %d", (unsigned long)answer.second, CURLEW_MAX_RECORD);
+        complain("note: it fills %lu bytes, and a record has at most %d", (unsigned long)answer.second,
+                 CURLEW_MAX_RECORD);
 }
 
 static void layout_summary(const struct layout *layout, struct curlew_answer answer, struct text *out)
@@ -165,7 +168,8 @@ static void promise_line(const struct layout *layout, const char *promise, uint3
 static void layout_table(const struct layout *layout, const struct options *options, struct curlew_answer answer,
                          struct promises promises, struct text *out)
 {
-    static const struct column plain[] = {{"field", 1}, {"type", 0}, {"in words", 0}, {"count", 1}, {"first byte", 1}, {"bytes", 1},
+    static const struct column plain[] = {{"field", 1},    {"type", 0},          {"in words", 0},
+                                          {"count", 1},    {"first byte", 1},    {"bytes", 1},
                                           {"may grow", 0}, {"loses nothing", 0}, {"may be joined", 0}};
     struct column columns[10] = {{"field", 1}, {"name", 0}};
     size_t named = layout->names.count > 0 ? 1 : 0;

@@ -47,7 +47,8 @@ static int names_split(struct names *names, const char *list)
         size_t length = strcspn(at, ",");
 
         if (length == 0 || names->count == CURLEW_MAX_SLOTS) {
-            complain("--names %s: %s", list, length == 0 ? "a name has one letter at least" : "no table has more than 64 columns");
+            complain("--names %s: %s", list,
+                     length == 0 ? "a name has one letter at least" : "no table has more than 64 columns");
             return 0;
         }
         if (name_index(names, at, length) < names->count) {
@@ -66,7 +67,8 @@ int names_given(struct names *names, const char *list, size_t wanted, const char
     if (!names_split(names, list))
         return TROUBLE;
     if (names->count != wanted) {
-        complain("--names %s: these are %lu names, and %s has %lu values", list, (unsigned long)names->count, what, (unsigned long)wanted);
+        complain("--names %s: these are %lu names, and %s has %lu values", list, (unsigned long)names->count, what,
+                 (unsigned long)wanted);
         advise("A name for each field that takes a value, in their order: curlew layout shows them.");
         return TROUBLE;
     }
@@ -183,11 +185,13 @@ static int take_line(struct layout *layout, const char *line, size_t length, siz
     if (*fields == CURLEW_MAX_LAYOUT)
         return bad_line(layout->file_name, number, "a layout has at most 256 bytes, and this is more", form);
     if (name == 0 && !moves(word, length))
-        return bad_line(layout->file_name, number, "there is no name before the field, or no field behind the name", form);
+        return bad_line(layout->file_name, number, "there is no name before the field, or no field behind the name",
+                        form);
     if (name > 0 && moves(word, length - (size_t)(word - line)))
         return bad_line(layout->file_name, number, "x, X and @ hold no value, and have no name", "Leave the name out.");
     if (name > 0 && name_index(&layout->names, line, name) < layout->names.count)
-        return bad_line(layout->file_name, number, "an earlier field has this name", "Each field has a name of its own.");
+        return bad_line(layout->file_name, number, "an earlier field has this name",
+                        "Each field has a name of its own.");
     if (name > 0)
         names_add(&layout->names, line, name);
     if (layout->file.length > 0)
@@ -234,7 +238,8 @@ static int one_field_a_line(const struct layout *layout)
 
             for (line = 0, k = 0; k < layout->fields[i].start; k++)
                 line += layout->text[k] == ' ';
-            return bad_line(layout->file_name, layout->lines[line], "there is more than one field", "Give each field a line and a name.");
+            return bad_line(layout->file_name, layout->lines[line], "there is more than one field",
+                            "Give each field a line and a name.");
         }
     return DONE;
 }

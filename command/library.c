@@ -66,18 +66,19 @@ struct curlew_answer call_pack(const struct layout *layout, const struct values 
 {
     uint8_t reply[CURLEW_PACK_REPLY];
 
-    curlew_pack(layout->text, layout->length, values->slots, values->count * CURLEW_SLOT_SIZE, values->area, values->used,
-                record, CURLEW_MAX_RECORD, reply, sizeof reply);
+    curlew_pack(layout->text, layout->length, values->slots, values->count * CURLEW_SLOT_SIZE, values->area,
+                values->used, record, CURLEW_MAX_RECORD, reply, sizeof reply);
     return curlew_get_answer(reply);
 }
 
-struct curlew_answer call_pack_one(const struct layout *layout, const struct values *values, size_t index, uint8_t *record)
+struct curlew_answer call_pack_one(const struct layout *layout, const struct values *values, size_t index,
+                                   uint8_t *record)
 {
     const struct field *field = &layout->value_fields[index];
     uint8_t reply[CURLEW_PACK_REPLY];
 
-    curlew_pack(layout->text + field->start, field->length, values->slots + index * CURLEW_SLOT_SIZE, CURLEW_SLOT_SIZE, values->area,
-                values->used, record, CURLEW_MAX_RECORD, reply, sizeof reply);
+    curlew_pack(layout->text + field->start, field->length, values->slots + index * CURLEW_SLOT_SIZE, CURLEW_SLOT_SIZE,
+                values->area, values->used, record, CURLEW_MAX_RECORD, reply, sizeof reply);
     return curlew_get_answer(reply);
 }
 
@@ -100,8 +101,8 @@ struct curlew_answer call_sheet_write(const struct values *values, uint8_t *shee
 {
     uint8_t reply[CURLEW_SHEET_REPLY];
 
-    curlew_sheet_write(values->slots, values->count * CURLEW_SLOT_SIZE, values->area, values->used, sheet, CURLEW_MAX_SHEET,
-                       reply, sizeof reply);
+    curlew_sheet_write(values->slots, values->count * CURLEW_SLOT_SIZE, values->area, values->used, sheet,
+                       CURLEW_MAX_SHEET, reply, sizeof reply);
     return curlew_get_answer(reply);
 }
 
@@ -111,7 +112,8 @@ struct curlew_answer call_sheet_read(const uint8_t *sheet, size_t length, struct
     struct curlew_answer answer;
 
     values_clear(values, CURLEW_MAX_SLOTS);
-    curlew_sheet_read(sheet, length, values->slots, sizeof values->slots, values->area, CURLEW_MAX_AREA, 0, reply, sizeof reply);
+    curlew_sheet_read(sheet, length, values->slots, sizeof values->slots, values->area, CURLEW_MAX_AREA, 0, reply,
+                      sizeof reply);
     answer = curlew_get_answer(reply);
     if (answer.number == CURLEW_OK) {
         values->count = answer.first;
@@ -159,9 +161,9 @@ struct curlew_answer call_compare(const struct layout *layout, const uint8_t *co
 
     values_clear(&values[0], layout->values);
     values_clear(&values[1], layout->values);
-    curlew_compare(layout->text, layout->length, records[0], lengths[0], records[1], lengths[1],
-                   values[0].slots, slots, values[0].area, CURLEW_MAX_AREA, values[1].slots, slots, values[1].area, CURLEW_MAX_AREA,
-                   report, layout->values * CURLEW_FINDING_SIZE, reply, sizeof reply);
+    curlew_compare(layout->text, layout->length, records[0], lengths[0], records[1], lengths[1], values[0].slots, slots,
+                   values[0].area, CURLEW_MAX_AREA, values[1].slots, slots, values[1].area, CURLEW_MAX_AREA, report,
+                   layout->values * CURLEW_FINDING_SIZE, reply, sizeof reply);
     return curlew_get_answer(reply);
 }
 

@@ -11,7 +11,7 @@
 struct result {
     const char *name;
     uint64_t number; /* which one of the file */
-    int numbered;    /* there may be several in it */
+    int numbered; /* there may be several in it */
     int status, marked; /* another status than DONE: there is no answer */
     double mean;
     size_t legs, not_marked;
@@ -19,9 +19,9 @@ struct result {
 
 struct means {
     struct options *options;
-    struct layout *layout;     /* NULL for sheets */
+    struct layout *layout; /* NULL for sheets */
     const struct names *names;
-    size_t length;             /* of a record */
+    size_t length; /* of a record */
     struct choice legs, columns; /* columns: the values that --fields shows beside the mean */
     int all_legs;
     struct values values, chosen;
@@ -34,7 +34,8 @@ struct means {
 
 /* ---- one candidate ---- */
 
-/* The legs that --legs names. An entry that a sheet does not have is not marked, unless it comes from A-, which ends with the sheet. */
+/* The legs that --legs names. An entry that a sheet does not have is not marked, unless it comes from A-, which ends
+ * with the sheet. */
 static void choose_legs(struct means *means)
 {
     struct values *chosen = &means->chosen;
@@ -46,7 +47,8 @@ static void choose_legs(struct means *means)
         size_t index = means->legs.index[k];
 
         if (index < values->count)
-            memcpy(chosen->slots + chosen->count++ * CURLEW_SLOT_SIZE, values->slots + index * CURLEW_SLOT_SIZE, CURLEW_SLOT_SIZE);
+            memcpy(chosen->slots + chosen->count++ * CURLEW_SLOT_SIZE, values->slots + index * CURLEW_SLOT_SIZE,
+                   CURLEW_SLOT_SIZE);
         else if (k < means->legs.open)
             value_unset(chosen);
     }
@@ -58,7 +60,10 @@ static void text_where(struct text *to, const struct means *means, const struct 
 {
     text_string(to, result->name);
     if (result->numbered)
-        text_format(to, ", %s %llu", means->layout == NULL ? "sheet" : has(means->options, OPTION_INPUT) ? "row" : "record",
+        text_format(to, ", %s %llu",
+                    means->layout == NULL               ? "sheet"
+                    : has(means->options, OPTION_INPUT) ? "row"
+                                                        : "record",
                     (unsigned long long)result->number);
 }
 
@@ -168,7 +173,8 @@ static void row_in_cells(const struct means *means, const struct result *result,
     if (result->status != DONE)
         text_format(out, "-%c-%c", between, between);
     else
-        text_format(out, "%lu%c%lu%c", (unsigned long)result->not_marked, between, (unsigned long)result->legs, between);
+        text_format(out, "%lu%c%lu%c", (unsigned long)result->not_marked, between, (unsigned long)result->legs,
+                    between);
     if (form == CSV)
         csv_cell(out, result->name, strlen(result->name), 0);
     else
@@ -231,7 +237,8 @@ static void heads(const struct means *means, struct text *out)
         ink_on(out, HEAD);
         text_format(out, "%-*s  legs not marked  %s", MEAN_WIDTH, "mean", means->layout == NULL ? "sheet" : "file");
     } else {
-        text_string(out, form == CSV ? "mean,legs not marked,legs,sheet,number" : "mean\tlegs not marked\tlegs\tsheet\tnumber");
+        text_string(out, form == CSV ? "mean,legs not marked,legs,sheet,number"
+                                     : "mean\tlegs not marked\tlegs\tsheet\tnumber");
     }
     for (k = 0; k < means->columns.count; k++) {
         text_string(out, form == PEOPLE ? "  " : form == CSV ? "," : "\t");
@@ -257,7 +264,7 @@ static void show_result(struct means *means, const struct result *result)
         row_for_people(means, result, out);
     else
         row_in_cells(means, result, out);
-    if (out->length > FLUSH_AT || (output_on_terminal() && !errors_on_terminal()))
+    if (out->length > FLUSH_AT || output_on_terminal())
         output_text(out);
     progress_step(&means->progress, means->rows, means->files);
 }
@@ -289,6 +296,8 @@ static void sheets_of_file(struct means *means, const char *name)
         else
             find_mean(means, &result);
         show_result(means, &result);
+        if (source_waits(&sheets.source) && input_size(&sheets.source.input) == 0)
+            output_text(&means->out);
     }
     sheets_close(&sheets);
 }
@@ -333,8 +342,8 @@ static void records_of_file(struct means *means, const char *name)
             result.status = one_record(means, record, have, &result);
         }
         if (!source.failed && have < means->length)
-            complain("note: %s ends inside record %llu, which has %lu of %lu bytes", source.input.name, (unsigned long long)number,
-                     (unsigned long)have, (unsigned long)means->length);
+            complain("note: %s ends inside record %llu, which has %lu of %lu bytes", source.input.name,
+                     (unsigned long long)number, (unsigned long)have, (unsigned long)means->length);
         show_result(means, &result);
         number++;
     }
@@ -417,7 +426,8 @@ static void end_of_all(const struct means *means)
     progress_clear();
     if (means->rows > MANY && errors_on_terminal())
         complain("%llu %s: %llu with a mean, %llu with no leg marked, %llu refused", (unsigned long long)means->rows,
-                 means->layout == NULL ? "sheets" : "candidates", (unsigned long long)(means->rows - means->without - means->refused),
+                 means->layout == NULL ? "sheets" : "candidates",
+                 (unsigned long long)(means->rows - means->without - means->refused),
                  (unsigned long long)means->without, (unsigned long long)means->refused);
 }
 
@@ -430,7 +440,8 @@ static int legs_chosen(struct means *means)
         choose(&means->legs, "--legs", means->options->legs, means->names, limit);
     for (i = 0; i < means->legs.count; i++)
         if (means->legs.index[i] >= limit) {
-            complain("--legs %s: the layout has no field %lu", means->options->legs, (unsigned long)means->legs.index[i]);
+            complain("--legs %s: the layout has no field %lu", means->options->legs,
+                     (unsigned long)means->legs.index[i]);
             return TROUBLE;
         }
     if (has(means->options, OPTION_FIELDS))

@@ -1,10 +1,12 @@
-/* What a record will not hold of a value. Packing cuts what is too long and keeps the low-order bits, as Tcl does; people want to hear of it. */
+/* What a record will not hold of a value. Packing cuts what is too long and keeps the low-order bits, as Tcl does;
+ * people want to hear of it. */
 #include <math.h>
 #include <string.h>
 
 #include "tool.h"
 
-/* Halfway from the largest single to what would be the next: from here on it is stored for something that is no neighbour of it. */
+/* Halfway from the largest single to what would be the next: from here on it is stored for something that is no
+ * neighbour of it. */
 #define TOO_LARGE 0x1.ffffffp127
 /* Half of the smallest single: up to here 0 is the nearest. */
 #define TOO_SMALL 0x1p-150
@@ -87,8 +89,9 @@ int values_noted(const struct layout *layout, const struct values *values, const
 
         for (loss = 0; loss < LOSSES; loss++)
             if (losses & 1u << loss) {
-                complain("%svalue %lu, for field %.*s%s: %s", strict ? "" : "note: ", (unsigned long)i, (int)field->length,
-                         layout->text + field->start, for_sheet ? ", as a record" : "", loss_words((enum loss)loss));
+                complain("%svalue %lu, for field %.*s%s: %s", strict ? "" : "note: ", (unsigned long)i,
+                         (int)field->length, layout->text + field->start, for_sheet ? ", as a record" : "",
+                         loss_words((enum loss)loss));
                 status = strict ? REFUSED : DONE;
             }
     }
@@ -133,7 +136,8 @@ void losses_told(const struct losses *losses, const struct layout *layout, int f
                 text_string(&line, ", ");
                 text_count(&line, losses->count[i][loss], "row", "rows");
                 text_format(&line, "%s row %llu%s: %s", losses->count[i][loss] == 1 ? "," : ", the first is",
-                            (unsigned long long)losses->first[i][loss], for_sheet ? ", as a record" : "", loss_words((enum loss)loss));
+                            (unsigned long long)losses->first[i][loss], for_sheet ? ", as a record" : "",
+                            loss_words((enum loss)loss));
                 complain("note: %.*s", (int)line.length, line.bytes);
                 text_free(&line);
             }

@@ -39,16 +39,36 @@ struct option {
 };
 
 static const struct option long_options[] = {
-    {"--json", OPTION_JSON, ALONE}, {"--tsv", OPTION_TSV, ALONE}, {"--csv", OPTION_CSV, ALONE}, {"--long", OPTION_LONG, ALONE},
-    {"--output", OPTION_OUTPUT, WITH_TEXT}, {"--records", OPTION_RECORDS, WITH_NUMBER}, {"--jobs", OPTION_JOBS, WITH_NUMBER},
-    {"--record", OPTION_RECORD, ALONE}, {"--legs", OPTION_LEGS, WITH_TEXT}, {"--help", OPTION_HELP, ALONE},
-    {"--version", OPTION_VERSION, ALONE}, {"--extends", OPTION_EXTENDS, ALONE}, {"--names", OPTION_NAMES, WITH_TEXT},
-    {"--layout", OPTION_LAYOUT, WITH_TEXT}, {"--fields", OPTION_FIELDS, WITH_TEXT}, {"--strict", OPTION_STRICT, ALONE},
-    {"--text", OPTION_TEXT, ALONE}, {"--keep-going", OPTION_KEEP_GOING, ALONE},
-    {"--for-spreadsheet", OPTION_FOR_SPREADSHEET, ALONE}, {"--from", OPTION_FROM, WITH_TEXT}, {"--count", OPTION_COUNT, WITH_TEXT},
-    {"--different", OPTION_DIFFERENT, ALONE}, {"--sheets", OPTION_SHEETS, ALONE}, {"--files-from", OPTION_FILES_FROM, WITH_TEXT},
-    {"--no-head", OPTION_NO_HEAD, ALONE}, {"--html", OPTION_HTML, ALONE}, {"--hex", OPTION_HEX, ALONE},
-    {"--input", OPTION_INPUT, WITH_TEXT}, {"-h", OPTION_HELP, ALONE}, {"-o", OPTION_OUTPUT, WITH_TEXT},
+    {"--json", OPTION_JSON, ALONE},
+    {"--tsv", OPTION_TSV, ALONE},
+    {"--csv", OPTION_CSV, ALONE},
+    {"--long", OPTION_LONG, ALONE},
+    {"--output", OPTION_OUTPUT, WITH_TEXT},
+    {"--records", OPTION_RECORDS, WITH_NUMBER},
+    {"--jobs", OPTION_JOBS, WITH_NUMBER},
+    {"--record", OPTION_RECORD, ALONE},
+    {"--legs", OPTION_LEGS, WITH_TEXT},
+    {"--help", OPTION_HELP, ALONE},
+    {"--version", OPTION_VERSION, ALONE},
+    {"--extends", OPTION_EXTENDS, ALONE},
+    {"--names", OPTION_NAMES, WITH_TEXT},
+    {"--layout", OPTION_LAYOUT, WITH_TEXT},
+    {"--fields", OPTION_FIELDS, WITH_TEXT},
+    {"--strict", OPTION_STRICT, ALONE},
+    {"--text", OPTION_TEXT, ALONE},
+    {"--keep-going", OPTION_KEEP_GOING, ALONE},
+    {"--for-spreadsheet", OPTION_FOR_SPREADSHEET, ALONE},
+    {"--from", OPTION_FROM, WITH_TEXT},
+    {"--count", OPTION_COUNT, WITH_TEXT},
+    {"--different", OPTION_DIFFERENT, ALONE},
+    {"--sheets", OPTION_SHEETS, ALONE},
+    {"--files-from", OPTION_FILES_FROM, WITH_TEXT},
+    {"--no-head", OPTION_NO_HEAD, ALONE},
+    {"--html", OPTION_HTML, ALONE},
+    {"--hex", OPTION_HEX, ALONE},
+    {"--input", OPTION_INPUT, WITH_TEXT},
+    {"-h", OPTION_HELP, ALONE},
+    {"-o", OPTION_OUTPUT, WITH_TEXT},
     {"-j", OPTION_JOBS, WITH_NUMBER},
 };
 
@@ -83,7 +103,8 @@ size_t distance(const char *one, const char *other)
             now[k] = before[k - 1] + (one[i - 1] != other[k - 1]);
             now[k] = before[k] + 1 < now[k] ? before[k] + 1 : now[k];
             now[k] = now[k - 1] + 1 < now[k] ? now[k - 1] + 1 : now[k];
-            if (i > 1 && k > 1 && one[i - 1] == other[k - 2] && one[i - 2] == other[k - 1] && earlier[k - 2] + 1 < now[k])
+            if (i > 1 && k > 1 && one[i - 1] == other[k - 2] && one[i - 2] == other[k - 1] &&
+                earlier[k - 2] + 1 < now[k])
                 now[k] = earlier[k - 2] + 1;
         }
     }
@@ -143,7 +164,8 @@ static const struct option *find_option(const char *argument, const char **joine
 }
 
 /* What stands behind an option: joined to it, or the next argument. A number may be missing: NULL then. */
-static const char *text_of(const struct option *option, const char *argument, const char *joined, char ***next, char **end)
+static const char *text_of(const struct option *option, const char *argument, const char *joined, char ***next,
+                           char **end)
 {
     if (option->takes == ALONE && joined != NULL)
         bad_option("this option takes nothing behind a =", argument);
@@ -189,7 +211,9 @@ static void set_option(struct options *options, unsigned bit, const char *text)
     case OPTION_INPUT: options->input = form_named(text); break;
     case OPTION_FROM: options->from = number_between("--from", text, 0, 1000000000000); break;
     case OPTION_COUNT: options->count_of = number_between("--count", text, 1, 1000000000000); break;
-    case OPTION_RECORDS: options->records = text == NULL ? 0 : number_between("--records", text, 1, CURLEW_MAX_RECORD); break;
+    case OPTION_RECORDS:
+        options->records = text == NULL ? 0 : number_between("--records", text, 1, CURLEW_MAX_RECORD);
+        break;
     case OPTION_JOBS: options->jobs = text == NULL ? all_cores() : number_between("-j", text, 1, 256); break;
     default: break;
     }

@@ -9,7 +9,8 @@
 struct packing {
     struct cells cells;
     struct layout *layout;
-    struct layout begin; /* the fields that every row has: all of them, or those before the columns that are empty in every row */
+    struct layout
+        begin; /* the fields that every row has: all of them, or those before the columns that are empty in every row */
     struct options *options;
     struct values values;
     uint8_t *record;
@@ -45,8 +46,10 @@ static void decide_columns(struct packing *packing)
 static int not_marked(struct packing *packing, size_t value, const char *why)
 {
     complain("%s: it is not marked, and %s", cells_where(&packing->cells, packing->cells.column_of[value]), why);
-    advise("Keep sheets, which have a place for it: curlew sheet write --%s.",
-           packing->options->form == CSV ? "csv" : packing->options->form == TSV ? "tsv" : "json");
+    advise("Keep sheets, which have a place for it: curlew sheet write --%s.", packing->options->form == CSV ? "csv"
+                                                                               : packing->options->form == TSV
+                                                                                   ? "tsv"
+                                                                                   : "json");
     return 0;
 }
 
@@ -56,8 +59,8 @@ static int first_not_marked(struct packing *packing, size_t value)
     uint64_t row = packing->cells.row, line = packing->cells.line;
     struct text why = {0};
 
-    text_format(&why, "in row %llu (line %llu) it is: records are all of one length%c", (unsigned long long)row, (unsigned long long)line,
-                '\0');
+    text_format(&why, "in row %llu (line %llu) it is: records are all of one length%c", (unsigned long long)row,
+                (unsigned long long)line, '\0');
     packing->cells.row = packing->first_row;
     packing->cells.line = packing->first_line;
     not_marked(packing, value, why.bytes);
@@ -106,7 +109,8 @@ static int length_suits(struct packing *packing, size_t length)
     if (length == packing->length)
         return 1;
     complain("%s: its record has %lu bytes, and those before it have %lu: records of a file are all of one length",
-             cells_where(&packing->cells, packing->cells.columns), (unsigned long)length, (unsigned long)packing->length);
+             cells_where(&packing->cells, packing->cells.columns), (unsigned long)length,
+             (unsigned long)packing->length);
     advise("Give the field with * a count, or keep sheets: curlew sheet write.");
     return 0;
 }
@@ -115,7 +119,8 @@ static int pack_refused(struct packing *packing, struct curlew_answer answer)
 {
     int cell = answer.number != CURLEW_NO_ROOM && answer.first < packing->layout->values;
 
-    cells_refused(&packing->cells, cell ? packing->cells.column_of[answer.first] : packing->cells.columns, answer.number);
+    cells_refused(&packing->cells, cell ? packing->cells.column_of[answer.first] : packing->cells.columns,
+                  answer.number);
     return 0;
 }
 
@@ -175,8 +180,8 @@ static void note_columns(const struct packing *packing)
         text_string(&names, i > packing->begin.values ? ", " : "");
         text_name(&names, &packing->layout->names, i);
     }
-    complain("note: not marked in every row: %.*s; all records are shorter by that, %lu bytes long", (int)names.length, names.bytes,
-             (unsigned long)packing->length);
+    complain("note: not marked in every row: %.*s; all records are shorter by that, %lu bytes long", (int)names.length,
+             names.bytes, (unsigned long)packing->length);
     advise("Read them with --records %lu.", (unsigned long)packing->length);
     text_free(&names);
 }
@@ -184,7 +189,8 @@ static void note_columns(const struct packing *packing)
 static int finish(struct packing *packing, struct sink *sink, int status)
 {
     progress_clear();
-    if (status != DONE && has(packing->options, OPTION_KEEP_GOING) && !cells_failed(&packing->cells) && packing->bad > 0)
+    if (status != DONE && has(packing->options, OPTION_KEEP_GOING) && !cells_failed(&packing->cells) &&
+        packing->bad > 0)
         complain("the rows behind this one cannot be read");
     if (status != DONE) {
         complain("nothing was written");
@@ -195,7 +201,8 @@ static int finish(struct packing *packing, struct sink *sink, int status)
     losses_told(&packing->losses, packing->layout, 0);
     note_columns(packing);
     if (packing->bad > 0)
-        complain("%llu of %llu rows were left out", (unsigned long long)packing->bad, (unsigned long long)packing->cells.rows);
+        complain("%llu of %llu rows were left out", (unsigned long long)packing->bad,
+                 (unsigned long long)packing->cells.rows);
     return packing->bad > 0 ? REFUSED : DONE;
 }
 
@@ -208,7 +215,8 @@ static int pack_table(struct options *options, struct layout *layout)
     packing.layout = layout;
     packing.begin = *layout;
     packing.options = options;
-    status = cells_open(&packing.cells, options, options->form, options->count > 0 ? options->operands[0] : NULL, layout);
+    status =
+        cells_open(&packing.cells, options, options->form, options->count > 0 ? options->operands[0] : NULL, layout);
     if (status == DONE) {
         values_start(&packing.values);
         packing.record = get_memory(CURLEW_MAX_RECORD);

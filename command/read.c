@@ -36,16 +36,21 @@ static int length_noted(const struct layout *layout, const struct options *optio
     if (length == 0 || layout->starred || length == own)
         return DONE;
     if (length > own)
-        complain("%s--records %lu: the layout's own length is %lu, so that %lu byte%s at the end of each record belong%s to no field",
-                 strict ? "" : "note: ", (unsigned long)length, (unsigned long)own, (unsigned long)(length - own),
-                 length - own == 1 ? "" : "s", length - own == 1 ? "s" : "");
+        complain(
+            "%s--records %lu: the layout's own length is %lu, so that %lu byte%s at the end of each record belong%s "
+            "to no field",
+            strict ? "" : "note: ", (unsigned long)length, (unsigned long)own, (unsigned long)(length - own),
+            length - own == 1 ? "" : "s", length - own == 1 ? "s" : "");
     else
-        complain("note: --records %lu: the layout's own length is %lu, so that fields at the end of each record are not marked",
-                 (unsigned long)length, (unsigned long)own);
+        complain(
+            "note: --records %lu: the layout's own length is %lu, so that fields at the end of each record are "
+            "not marked",
+            (unsigned long)length, (unsigned long)own);
     return strict ? REFUSED : DONE;
 }
 
-/* Without stars the same bytes of every record belong to no field: those that X and @ pass over. A record of zero bytes shows how many. */
+/* Without stars the same bytes of every record belong to no field: those that X and @ pass over. A record of zero bytes
+ * shows how many. */
 static int gaps_noted(struct desk *desk, size_t length)
 {
     int strict = has(desk->options, OPTION_STRICT);
@@ -61,8 +66,8 @@ static int gaps_noted(struct desk *desk, size_t length)
                                     call_read(desk->layout, zeros, length, &desk->values).answer.first, length, 1);
     free(zeros);
     if (over > 0)
-        complain("%sthe layout passes over %lu byte%s of each record, which belong%s to no field", strict ? "" : "note: ",
-                 (unsigned long)over, over == 1 ? "" : "s", over == 1 ? "s" : "");
+        complain("%sthe layout passes over %lu byte%s of each record, which belong%s to no field",
+                 strict ? "" : "note: ", (unsigned long)over, over == 1 ? "" : "s", over == 1 ? "s" : "");
     return over > 0 && strict ? REFUSED : DONE;
 }
 
@@ -107,7 +112,8 @@ static int read_by(const struct layout *layout, const struct options *options)
 int command_read(struct options *options)
 {
     static struct layout layout;
-    int status = needs(options, OPTION_JOBS | OPTION_FROM | OPTION_COUNT, OPTION_RECORDS | TABLE_FORMS, "--records, --csv, --tsv or --json");
+    int status = needs(options, OPTION_JOBS | OPTION_FROM | OPTION_COUNT, OPTION_RECORDS | TABLE_FORMS,
+                       "--records, --csv, --tsv or --json");
 
     if (status == DONE)
         status = needs(options, OPTION_FOR_SPREADSHEET, OPTION_CSV | OPTION_TSV, "--csv or --tsv");

@@ -71,7 +71,8 @@ void desk_head(struct desk *desk)
     if (is_row(desk))
         rows_head(&desk->rows, desk->options, &desk->out);
     else if (desk->options->form == TSV && !has(desk->options, OPTION_NO_HEAD))
-        text_string(&desk->out, named ? "record\tfield\tname\ttype\tbyte\tvalue\n" : "record\tfield\ttype\tbyte\tvalue\n");
+        text_string(&desk->out,
+                    named ? "record\tfield\tname\ttype\tbyte\tvalue\n" : "record\tfield\ttype\tbyte\tvalue\n");
     else if (desk->options->form == CSV && !has(desk->options, OPTION_NO_HEAD))
         text_string(&desk->out, named ? "record,field,name,type,byte,value\n" : "record,field,type,byte,value\n");
     if (desk->out.length > 0)
@@ -112,7 +113,8 @@ static size_t put_range(struct range *ranges, size_t count, struct range range)
     return count + 1;
 }
 
-/* The ranges of all fields up to the last that was set, in the order of their first bytes. Returns how many there are. */
+/* The ranges of all fields up to the last that was set, in the order of their first bytes. Returns how many there are.
+ */
 static size_t ranges_of(const struct layout *layout, const struct values *values, size_t set, size_t length, int moves,
                         struct range *ranges)
 {
@@ -197,7 +199,8 @@ static void line_value(struct desk *desk, size_t index)
     text_free(&value);
 }
 
-/* The same rows as lines, each with its record. They are what a long file is read for, so that all that can be made once is. */
+/* The same rows as lines, each with its record. They are what a long file is read for, so that all that can be made
+ * once is. */
 static void record_lines(struct desk *desk, const struct record *record)
 {
     struct text *out = &desk->out;
@@ -226,8 +229,8 @@ static void record_for_people(struct desk *desk, const struct record *record)
     struct text *out = &desk->out;
 
     if (desk->many)
-        text_format(out, "%srecord %llu, from byte %llu on\n", record->number > desk->options->from ? "\n" : "", (unsigned long long)record->number,
-                    (unsigned long long)record->first_byte);
+        text_format(out, "%srecord %llu, from byte %llu on\n", record->number > desk->options->from ? "\n" : "",
+                    (unsigned long long)record->number, (unsigned long long)record->first_byte);
     record_rows(desk);
     table_print(&desk->table, PEOPLE, !has(desk->options, OPTION_NO_HEAD), out);
     text_format(out, "%lu of ", (unsigned long)record->answer.answer.first);

@@ -1,4 +1,5 @@
-/* Refusals in words: what, where, and what to do. The number is the library's, so that a C programmer finds it in curlew.h. */
+/* Refusals in words: what, where, and what to do. The number is the library's, so that a C programmer finds it in
+ * curlew.h. */
 #include <stdio.h>
 
 #include "tool.h"
@@ -19,16 +20,21 @@ static struct words words_of(uint32_t number)
         {"something is larger than its limit", "curlew(1) lists the limits."},
         {"unknown type", "Types are " TYPES "; a flag u and a count stand directly behind their type."},
         {"the count is too large", "A count is at most " LIMIT(CURLEW_MAX_COUNT) "."},
-        {"an @ without a count, or an x* in packing", "Write the byte behind the @, a number behind the x; reading takes x*."},
-        {"more values than there are slots", "A layout has at most " LIMIT(CURLEW_MAX_SLOTS) " values: put marks of one kind together, as in Su5."},
-        {"it is not marked, and a record has no place for a value that is missing", "Keep it in a sheet: curlew sheet write."},
+        {"an @ without a count, or an x* in packing",
+         "Write the byte behind the @, a number behind the x; reading takes x*."},
+        {"more values than there are slots",
+         "A layout has at most " LIMIT(CURLEW_MAX_SLOTS) " values: put marks of one kind together, as in Su5."},
+        {"it is not marked, and a record has no place for a value that is missing",
+         "Keep it in a sheet: curlew sheet write."},
         {"the slot is damaged", NULL},
         {"it is of another kind than the field wants",
          "Text for a A, digits for b B h H, integers for c s S i I w W, reals for r R q Q."},
-        {"too few numbers for the count, or not exactly one where there is no count", "Give as many as the count says, as in 61,0,88."},
+        {"too few numbers for the count, or not exactly one where there is no count",
+         "Give as many as the count says, as in 61,0,88."},
         {"it has a character that is no digit", "Give 0 and 1 for b B, 0 to 9 and a to f for h H."},
         {"the result is too long",
-         "A record has at most " LIMIT(CURLEW_MAX_RECORD) " bytes, and the values read from one at most " LIMIT(CURLEW_MAX_AREA) "."},
+         "A record has at most " LIMIT(CURLEW_MAX_RECORD) " bytes, and the values read from one at most " LIMIT(
+             CURLEW_MAX_AREA) "."},
         {"the sheet was cut or damaged", "curlew sheet rescue LEGS keeps what is whole of it."},
         {"this is no sheet", "A sheet begins with the byte 1 or 2: is this a record? curlew read LAYOUT shows one."},
         {"the mark lies outside 0 to " LIMIT(CURLEW_MAX_MARK), "Choose the legs with --legs, as in --legs 2-4."},
@@ -62,7 +68,8 @@ static void refuse_at(const char *name, const char *text, size_t length, struct 
 {
     struct words words = words_of(answer.number);
 
-    complain("%s, byte %lu: %s (number %lu)", name, (unsigned long)answer.first, words.what, (unsigned long)answer.number);
+    complain("%s, byte %lu: %s (number %lu)", name, (unsigned long)answer.first, words.what,
+             (unsigned long)answer.number);
     caret(text, length, answer.first);
     advise("%s", words.advice);
 }
@@ -96,7 +103,8 @@ void refuse_layout(const struct layout *layout, const char *name, struct curlew_
         caret(text, length, answer.first);
         advise("Put a space there; --layout FILE takes a layout of several lines.");
     } else if (answer.number == CURLEW_BAD_SIZE) {
-        complain("%s: it has %lu bytes, and a layout has at most %d (number 1)", name, (unsigned long)length, CURLEW_MAX_LAYOUT);
+        complain("%s: it has %lu bytes, and a layout has at most %d (number 1)", name, (unsigned long)length,
+                 CURLEW_MAX_LAYOUT);
         advise("Leave out the spaces, or put fields of one type together, as in Su5.");
     } else if (answer.number >= CURLEW_BAD_TYPE && answer.number <= CURLEW_BAD_MOVE) {
         refuse_at(name, text, length, answer);
@@ -111,10 +119,12 @@ void refuse_template(const char *text, size_t length, struct curlew_answer answe
     if (answer.number == CURLEW_BAD_TEMPLATE) {
         refuse_at("template", text, length, answer);
     } else if (answer.number == CURLEW_BAD_SIZE) {
-        complain("template: it has %lu bytes, and a template has at most %d (number 1)", (unsigned long)length, CURLEW_MAX_TEMPLATE);
+        complain("template: it has %lu bytes, and a template has at most %d (number 1)", (unsigned long)length,
+                 CURLEW_MAX_TEMPLATE);
         advise("Write what repeats as a group, as in (n2a3)12.");
     } else {
-        complain("template: the layout would have more than %d bytes (number %lu)", CURLEW_MAX_LAYOUT, (unsigned long)answer.number);
+        complain("template: the layout would have more than %d bytes (number %lu)", CURLEW_MAX_LAYOUT,
+                 (unsigned long)answer.number);
         advise("Repeat a group less often, or describe the record by two layouts.");
     }
 }
@@ -141,7 +151,8 @@ void refuse_sheet(const char *name, struct curlew_answer answer)
     struct words words = words_of(answer.number);
 
     if (answer.number == CURLEW_BAD_SHEET) {
-        complain("%s, byte %lu: %s (number %lu)", name, (unsigned long)answer.first, words.what, (unsigned long)answer.number);
+        complain("%s, byte %lu: %s (number %lu)", name, (unsigned long)answer.first, words.what,
+                 (unsigned long)answer.number);
         advise("%s", words.advice);
     } else if (answer.number == CURLEW_BAD_SLOTS) {
         complain("%s: it has more than %d entries (number 5)", name, CURLEW_MAX_SLOTS);

@@ -19,7 +19,8 @@ static void show_rescue(const struct options *options, const struct values *valu
     } else {
         entry_rows(&entries, values, &out);
         if (options->form == PEOPLE) {
-            text_format(&out, "%lu kept, %lu lost, ", (unsigned long)answer.answer.first, (unsigned long)answer.answer.second);
+            text_format(&out, "%lu kept, %lu lost, ", (unsigned long)answer.answer.first,
+                        (unsigned long)answer.answer.second);
             text_count(&out, answer.dropped, "byte dropped\n", "bytes dropped\n");
         }
     }

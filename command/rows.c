@@ -1,6 +1,7 @@
 /*
- * A table written, a row a record: with commas (RFC 4180), with tabs, or an object a line. An empty cell is a value that is not marked,
- * and "" an empty one; JSON has null. Texts of `a` with a count are shown without the zero bytes at their end, which packing puts back.
+ * A table written, a row a record: with commas (RFC 4180), with tabs, or an object a line. An empty cell is a value
+ * that is not marked, and "" an empty one; JSON has null. Texts of `a` with a count are shown without the zero bytes at
+ * their end, which packing puts back.
  */
 #include <math.h>
 #include <stdlib.h>
@@ -69,7 +70,8 @@ static void tsv_cell(struct text *out, const uint8_t *bytes, size_t length, int 
     text_escaped(out, bytes, length);
 }
 
-static void number(struct text *out, const struct rows *rows, const struct field *field, uint32_t kind, const uint8_t *item)
+static void number(struct text *out, const struct rows *rows, const struct field *field, uint32_t kind,
+                   const uint8_t *item)
 {
     double real;
 
@@ -203,8 +205,8 @@ static void make_key(const struct rows *rows, const struct names *names, size_t 
     text_free(&name);
 }
 
-void rows_start(struct rows *rows, const struct options *options, const struct layout *layout, const struct names *names,
-                const struct choice *columns)
+void rows_start(struct rows *rows, const struct options *options, const struct layout *layout,
+                const struct names *names, const struct choice *columns)
 {
     size_t i;
 

@@ -24,8 +24,8 @@ static int wants_colour(int file)
 }
 
 /*
- * A file opened later must not become standard input, output or error because one of them was closed: such a one is filled with
- * /dev/null, opened the wrong way round, so that its first use fails and says so.
+ * A file opened later must not become standard input, output or error because one of them was closed: such a one is
+ * filled with /dev/null, opened the wrong way round, so that its first use fails and says so.
  */
 void streams_start(void)
 {
@@ -67,7 +67,8 @@ void progress_clear(void)
         progress_line("");
 }
 
-/* One line, whatever stands in the names that it shows. It goes out by one write, so that lines of several threads do not mix. */
+/* One line, whatever stands in the names that it shows. It goes out by one write, so that lines of several threads do
+ * not mix. */
 static void message(const char *lead, const char *format, va_list arguments)
 {
     struct text line = {0};
@@ -176,7 +177,8 @@ static void progress_draw(const struct progress *progress, int64_t passed)
     text_grouped(&line, progress->done);
     text_format(&line, " %s", progress->what);
     if (progress->all_bytes > 0 && progress->bytes > 0 && progress->bytes <= progress->all_bytes) {
-        uint64_t left = (uint64_t)((double)passed / (double)progress->bytes * (double)(progress->all_bytes - progress->bytes));
+        uint64_t left =
+            (uint64_t)((double)passed / (double)progress->bytes * (double)(progress->all_bytes - progress->bytes));
 
         text_format(&line, ", %lu %%, %lu s left", (unsigned long)(100 * progress->bytes / progress->all_bytes),
                     (unsigned long)((left + 999) / 1000));

@@ -22,7 +22,8 @@ int values_from_sheet(struct values *values, const char *name)
 
 /* ---- a row an entry ---- */
 
-static void sheet_json(const struct sheets *sheets, const struct entries *entries, const struct values *values, struct text *out)
+static void sheet_json(const struct sheets *sheets, const struct entries *entries, const struct values *values,
+                       struct text *out)
 {
     text_char(out, '{');
     if (sheets->several) {
@@ -36,11 +37,12 @@ static void sheet_json(const struct sheets *sheets, const struct entries *entrie
 }
 
 /* Of several sheets each has a line above it. */
-static void sheet_rows(const struct sheets *sheets, const struct entries *entries, const struct values *values, struct text *out)
+static void sheet_rows(const struct sheets *sheets, const struct entries *entries, const struct values *values,
+                       struct text *out)
 {
     if (sheets->several && entries->form == PEOPLE)
-        text_format(out, "%ssheet %llu, from byte %llu on\n", sheets->number > 1 ? "\n" : "", (unsigned long long)(sheets->number - 1),
-                    (unsigned long long)sheets->from);
+        text_format(out, "%ssheet %llu, from byte %llu on\n", sheets->number > 1 ? "\n" : "",
+                    (unsigned long long)(sheets->number - 1), (unsigned long long)sheets->from);
     entry_rows(entries, values, out);
     if (entries->form == PEOPLE) {
         text_count(out, values->count, "entry", "entries");
@@ -51,8 +53,13 @@ static void sheet_rows(const struct sheets *sheets, const struct entries *entrie
 static void show_entries(const struct options *options, const struct sheets *sheets, const struct names *names,
                          const struct values *values, struct text *out)
 {
-    struct entries entries = {options->form, names, !has(options, OPTION_NO_HEAD), options->form == TSV || options->form == CSV,
-                              sheets->number - 1, 0, 0};
+    struct entries entries = {options->form,
+                              names,
+                              !has(options, OPTION_NO_HEAD),
+                              options->form == TSV || options->form == CSV,
+                              sheets->number - 1,
+                              0,
+                              0};
 
     if (entries.numbered && sheets->number > 1)
         entries.head = 0;
@@ -85,13 +92,14 @@ static void table_begin(struct table_of_sheets *table, size_t entries, struct te
     table->started = 1;
 }
 
-static int table_row(struct table_of_sheets *table, struct sheets *sheets, const struct values *values, struct text *out)
+static int table_row(struct table_of_sheets *table, struct sheets *sheets, const struct values *values,
+                     struct text *out)
 {
     if (!table->started)
         table_begin(table, values->count, out);
     if (values->count > table->columns) {
-        complain("%s: it has %lu entries, and the table %lu column%s", sheets_where(sheets), (unsigned long)values->count,
-                 (unsigned long)table->columns, table->columns == 1 ? "" : "s");
+        complain("%s: it has %lu entries, and the table %lu column%s", sheets_where(sheets),
+                 (unsigned long)values->count, (unsigned long)table->columns, table->columns == 1 ? "" : "s");
         advise("Give a name for each entry: --names.");
         return REFUSED;
     }

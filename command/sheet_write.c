@@ -7,19 +7,21 @@
 /* ---- one sheet ---- */
 
 /* Bytes behind the last field are in no sheet. */
-static int over_noted(const struct options *options, const struct layout *layout, const struct values *values, size_t set, size_t length)
+static int over_noted(const struct options *options, const struct layout *layout, const struct values *values,
+                      size_t set, size_t length)
 {
     size_t over = set < layout->values ? 0 : length - bytes_of_fields(layout, values, set, length, 1);
     int strict = has(options, OPTION_STRICT);
 
     if (over > 0)
-        complain("%srecord: %lu of its %lu bytes belong to no field, and are not in the sheet", strict ? "" : "note: ", (unsigned long)over,
-                 (unsigned long)length);
+        complain("%srecord: %lu of its %lu bytes belong to no field, and are not in the sheet",
+                 strict ? "" : "note: ", (unsigned long)over, (unsigned long)length);
     return over > 0 && strict ? REFUSED : DONE;
 }
 
 /* The values that a record shows; those behind its end stay not marked. */
-static int values_from_record(struct values *values, const struct options *options, const struct layout *layout, const char *name)
+static int values_from_record(struct values *values, const struct options *options, const struct layout *layout,
+                              const char *name)
 {
     uint8_t *record = get_memory(CURLEW_MAX_RECORD + 1);
     size_t length;
@@ -39,7 +41,8 @@ static int values_from_record(struct values *values, const struct options *optio
     return status;
 }
 
-/* Each value is checked as packing would: alone, since a value that is not marked is no fault here. Returns the answer, with the value. */
+/* Each value is checked as packing would: alone, since a value that is not marked is no fault here. Returns the answer,
+ * with the value. */
 struct curlew_answer values_checked(const struct layout *layout, const struct values *values, uint8_t *record)
 {
     struct curlew_answer answer = {CURLEW_OK, 0, 0};
@@ -164,7 +167,8 @@ static int finish(struct writing *writing, struct sink *sink, int status)
     sink_keep(sink);
     losses_told(&writing->losses, writing->layout, 1);
     if (writing->bad > 0)
-        complain("%llu of %llu rows were left out", (unsigned long long)writing->bad, (unsigned long long)writing->cells.rows);
+        complain("%llu of %llu rows were left out", (unsigned long long)writing->bad,
+                 (unsigned long long)writing->cells.rows);
     return writing->bad > 0 ? REFUSED : DONE;
 }
 
@@ -176,7 +180,8 @@ static int write_table(const struct options *options, struct layout *layout)
 
     writing.layout = layout;
     writing.options = options;
-    status = cells_open(&writing.cells, options, options->form, options->count > 0 ? options->operands[0] : NULL, layout);
+    status =
+        cells_open(&writing.cells, options, options->form, options->count > 0 ? options->operands[0] : NULL, layout);
     if (status == DONE) {
         values_start(&writing.values);
         writing.record = get_memory(CURLEW_MAX_RECORD);
@@ -201,7 +206,8 @@ int command_sheet_write(struct options *options)
     int status = table_options(options);
 
     if (status == DONE && from_record && (table || has(options, OPTION_TEXT)))
-        status = bad_use(options, "--record is not taken with ", option_name(options->given & (TABLE_FORMS | OPTION_TEXT)));
+        status =
+            bad_use(options, "--record is not taken with ", option_name(options->given & (TABLE_FORMS | OPTION_TEXT)));
     if (status == DONE)
         status = layout_take(&layout, options, from_record ? TO_READ : TO_PACK);
     if (status == DONE && (from_record || table))

@@ -21,7 +21,8 @@ const char *sheets_where(struct sheets *sheets)
     where->length = 0;
     text_string(where, sheets->name);
     if (sheets->several)
-        text_format(where, ", sheet %llu, from byte %llu on", (unsigned long long)(sheets->number - 1), (unsigned long long)sheets->from);
+        text_format(where, ", sheet %llu, from byte %llu on", (unsigned long long)(sheets->number - 1),
+                    (unsigned long long)sheets->from);
     text_char(where, '\0');
     return where->bytes;
 }
@@ -33,7 +34,8 @@ static void take_up_to(struct sheets *sheets, size_t length)
         sheets->length += source_take(&sheets->source, sheets->bytes + sheets->length, length - sheets->length);
 }
 
-/* The length that the header tells: of version 1 in two bytes, of version 2 in four. What is no sheet is taken as far as a sheet goes. */
+/* The length that the header tells: of version 1 in two bytes, of version 2 in four. What is no sheet is taken as far
+ * as a sheet goes. */
 static size_t length_told(struct sheets *sheets)
 {
     const uint8_t *bytes = sheets->bytes;

@@ -1,6 +1,6 @@
 /*
- * curlew show: the bytes of a record in hex and text, each with its field. On a terminal a field has a colour of its own, elsewhere its
- * bytes stand in brackets. Two copies stand beside each other, with the bits that differ.
+ * curlew show: the bytes of a record in hex and text, each with its field. On a terminal a field has a colour of its
+ * own, elsewhere its bytes stand in brackets. Two copies stand beside each other, with the bits that differ.
  */
 #include <stdlib.h>
 #include <string.h>
@@ -34,7 +34,8 @@ static int load(struct showing *showing, size_t which, const char *name)
     record->set = answer.first;
     memset(record->owner, NO_FIELD, CURLEW_MAX_RECORD);
     for (i = 0; i < record->set; i++) {
-        struct range range = range_of(&showing->layout->value_fields[i], curlew_get_slot(record->values.slots, i), record->length);
+        struct range range =
+            range_of(&showing->layout->value_fields[i], curlew_get_slot(record->values.slots, i), record->length);
 
         for (k = range.from; k < range.to && k < record->length; k++)
             record->owner[k] = (uint8_t)i;
@@ -81,7 +82,8 @@ static void colour_end(struct text *out)
         text_string(out, "\033[m");
 }
 
-/* The sign before or behind a byte: a bracket where a field begins or ends, a star or bar where copies differ or the record ends. */
+/* The sign before or behind a byte: a bracket where a field begins or ends, a star or bar where copies differ or the
+ * record ends. */
 static char sign_before(const struct shown_record *record, size_t place)
 {
     size_t owner = record->owner[place];
@@ -102,7 +104,8 @@ static char sign_behind(const struct showing *showing, const struct shown_record
     return place + 1 == record->length || record->owner[place + 1] != owner ? ']' : ' ';
 }
 
-static void hex_part(const struct showing *showing, const struct shown_record *record, size_t from, size_t width, struct text *out)
+static void hex_part(const struct showing *showing, const struct shown_record *record, size_t from, size_t width,
+                     struct text *out)
 {
     size_t i;
 
@@ -119,7 +122,8 @@ static void hex_part(const struct showing *showing, const struct shown_record *r
     }
 }
 
-static void text_part(const struct showing *showing, const struct shown_record *record, size_t from, size_t width, struct text *out)
+static void text_part(const struct showing *showing, const struct shown_record *record, size_t from, size_t width,
+                      struct text *out)
 {
     size_t i;
 
@@ -150,7 +154,8 @@ void text_field(struct text *to, const struct layout *layout, size_t index)
 static void text_value(struct text *out, const struct showing *showing, size_t which, size_t index)
 {
     struct text value = {0};
-    int marked = value_cell(&value, PEOPLE, &showing->records[which].values, index, &showing->layout->value_fields[index]);
+    int marked =
+        value_cell(&value, PEOPLE, &showing->records[which].values, index, &showing->layout->value_fields[index]);
     size_t fits = text_fitting(value.bytes, value.length, 40);
 
     ink_on(out, marked ? PLAIN : MISSING);

@@ -1,4 +1,5 @@
-/* curlew show --html: one page by itself. What belongs together lights up by its style sheet alone; nothing is loaded, and no script runs. */
+/* curlew show --html: one page by itself. What belongs together lights up by its style sheet alone; nothing is loaded,
+ * and no script runs. */
 #include <string.h>
 
 #include "tool.h"
@@ -36,11 +37,13 @@ static void style(const struct showing *showing, struct text *out)
                      "main{display:flex;flex-wrap:wrap;gap:2em;align-items:flex-start}\n"
                      "table{border-collapse:collapse}td,th{padding:.1em .6em;text-align:left;vertical-align:top}\n"
                      ".bytes td{font-family:ui-monospace,monospace;padding:.1em .25em}.place{color:#888}\n"
-                     ".none{color:#999}.differs{outline:2px solid #c00}.end{color:#c00;font-weight:bold}\n"
+                     ".none{color:#999}.differs{outline:2px solid #c00}b{color:#c00}.end{color:#c00;font-weight:bold}\n"
                      ".missing{color:#a60;font-style:italic}.fields td,.fields th{border-bottom:1px solid #ddd}\n");
     for (i = 0; i < showing->layout->values; i++)
-        text_format(out, ".f%lu{background:hsl(%lu 70%% 90%%)}main:has(.f%lu:hover) .f%lu{background:hsl(%lu 80%% 65%%)}\n", (unsigned long)i,
-                    (unsigned long)(i * 137 % 360), (unsigned long)i, (unsigned long)i, (unsigned long)(i * 137 % 360));
+        text_format(out,
+                    ".f%lu{background:hsl(%lu 70%% 90%%)}main:has(.f%lu:hover) .f%lu{background:hsl(%lu 80%% 65%%)}\n",
+                    (unsigned long)i, (unsigned long)(i * 137 % 360), (unsigned long)i, (unsigned long)i,
+                    (unsigned long)(i * 137 % 360));
     text_string(out, "</style>\n");
 }
 
@@ -67,7 +70,8 @@ static void cell_title(struct text *out, const struct showing *showing, const st
     if (byte_differs(showing, place) && place < showing->records[0].length && place < showing->records[1].length) {
         text_string(&title, ", bits that differ: ");
         for (bit = 7; bit >= 0; bit--)
-            text_char(&title, (showing->records[0].bytes[place] ^ showing->records[1].bytes[place]) >> bit & 1 ? '1' : '0');
+            text_char(&title,
+                      (showing->records[0].bytes[place] ^ showing->records[1].bytes[place]) >> bit & 1 ? '1' : '0');
     }
     text_string(out, " title=\"");
     html_message(out, title.bytes, title.length);
@@ -75,7 +79,8 @@ static void cell_title(struct text *out, const struct showing *showing, const st
     text_free(&title);
 }
 
-static void byte_cells(struct text *out, const struct showing *showing, const struct shown_record *record, size_t from, int as_text)
+static void byte_cells(struct text *out, const struct showing *showing, const struct shown_record *record, size_t from,
+                       int as_text)
 {
     size_t i;
 
@@ -83,7 +88,9 @@ static void byte_cells(struct text *out, const struct showing *showing, const st
         char c;
 
         if (i >= record->length) {
-            text_string(out, i == record->length && !as_text && record->set < showing->layout->values ? "<td class=\"end\">|</td>" : "<td></td>");
+            text_string(out, i == record->length && !as_text && record->set < showing->layout->values
+                                 ? "<td class=\"end\">|</td>"
+                                 : "<td></td>");
             continue;
         }
         cell_class(out, showing, record, i);
@@ -121,7 +128,8 @@ static void value_cells(struct text *out, const struct showing *showing, size_t 
 
     for (which = 0; which < showing->count; which++) {
         struct text value = {0};
-        int marked = value_cell(&value, PEOPLE, &showing->records[which].values, index, &showing->layout->value_fields[index]);
+        int marked =
+            value_cell(&value, PEOPLE, &showing->records[which].values, index, &showing->layout->value_fields[index]);
 
         text_string(out, marked ? "<td>" : "<td class=\"missing\">");
         html(out, value.bytes, value.length);
@@ -136,10 +144,13 @@ static void field_table(struct text *out, const struct showing *showing)
 
     text_string(out, "<section>\n<h2>Fields</h2>\n<table class=\"fields\">\n<tr><th>field</th><th>byte</th>");
     for (which = 0; which < showing->count; which++)
-        text_string(out, showing->count == 1 ? "<th>value</th>" : which == 0 ? "<th>first copy</th>" : "<th>second copy</th>");
+        text_string(out, showing->count == 1 ? "<th>value</th>"
+                         : which == 0        ? "<th>first copy</th>"
+                                             : "<th>second copy</th>");
     text_string(out, "</tr>\n");
     for (i = 0; i < showing->layout->values; i++) {
-        struct curlew_slot slot = curlew_get_slot(showing->records[i < showing->records[0].set ? 0 : showing->count - 1].values.slots, i);
+        struct curlew_slot slot =
+            curlew_get_slot(showing->records[i < showing->records[0].set ? 0 : showing->count - 1].values.slots, i);
         struct text name = {0};
 
         text_field(&name, showing->layout, i);
@@ -153,6 +164,46 @@ static void field_table(struct text *out, const struct showing *showing)
         value_cells(out, showing, i);
         text_string(out, "</tr>\n");
     }
+    text_string(out, "</table>\n</section>\n");
+}
+
+/* The bits of a byte, those that differ marked. */
+static void bit_cells(struct text *out, const struct showing *showing, size_t which, size_t place)
+{
+    const struct shown_record *record = &showing->records[which], *other = &showing->records[1 - which];
+    int bit;
+
+    text_string(out, "<td>");
+    for (bit = 7; bit >= 0 && place < record->length; bit--) {
+        int one = record->bytes[place] >> bit & 1;
+        int differs = place >= other->length || one != (other->bytes[place] >> bit & 1);
+
+        text_format(out, differs ? "<b>%d</b>" : "%d", one);
+    }
+    text_string(out, place < record->length ? "</td>" : "not there</td>");
+}
+
+static void bit_table(struct text *out, const struct showing *showing)
+{
+    size_t i;
+
+    text_string(
+        out,
+        "<section>\n<h2>Bits that differ</h2>\n<table class=\"bytes\">\n"
+        "<tr><th>byte</th><th>first copy</th><th>second copy</th></tr>\n");
+    for (i = 0; i < showing->records[0].length || i < showing->records[1].length; i++)
+        if (byte_differs(showing, i)) {
+            size_t owner = i < showing->records[0].length ? showing->records[0].owner[i] : showing->records[1].owner[i];
+
+            if (owner == NO_FIELD)
+                text_string(out, "<tr class=\"none\">");
+            else
+                text_format(out, "<tr class=\"f%lu\">", (unsigned long)owner);
+            text_format(out, "<td>%lu</td>", (unsigned long)i);
+            bit_cells(out, showing, 0, i);
+            bit_cells(out, showing, 1, i);
+            text_string(out, "</tr>\n");
+        }
     text_string(out, "</table>\n</section>\n");
 }
 
@@ -170,5 +221,7 @@ void show_html(const struct showing *showing, struct text *out)
     for (which = 0; which < showing->count; which++)
         byte_table(out, showing, which);
     field_table(out, showing);
+    if (showing->count == 2)
+        bit_table(out, showing);
     text_string(out, "</main>\n</body>\n</html>\n");
 }

@@ -1,8 +1,8 @@
 /*
- * Files that are there whole or not at all. The new content is made beside the file, under another name, and takes its place when all
- * of it is on the disk. A file that has several names (hard links) is then written in place, so that all of them show the new content.
- * What goes to standard output, a device or a pipe is held until it is whole, in memory or, where there is much of it, in a file
- * without a name.
+ * Files that are there whole or not at all. The new content is made beside the file, under another name, and takes its
+ * place when all of it is on the disk. A file that has several names (hard links) is then written in place, so that all
+ * of them show the new content. What goes to standard output, a device or a pipe is held until it is whole, in memory
+ * or, where there is much of it, in a file without a name.
  */
 #define _XOPEN_SOURCE 700
 #include <errno.h>

@@ -1,9 +1,9 @@
 /*
  * A file of records, in threads.
  *
- * It is taken in runs of whole records. Whoever takes a run turns it into text, and the texts are written in the order in which the
- * runs were taken. With -j several threads do that; each holds one run, however long the file is. Where the file comes slowly, as
- * through a pipe, a run is what has come so far.
+ * It is taken in runs of whole records. Whoever takes a run turns it into text, and the texts are written in the order
+ * in which the runs were taken. With -j several threads do that; each holds one run, however long the file is. Where
+ * the file comes slowly, as through a pipe, a run is what has come so far.
  */
 #include <pthread.h>
 #include <stdlib.h>
@@ -17,7 +17,7 @@ struct stream {
     const struct layout *layout;
     const struct options *options;
     struct input input;
-    size_t length;    /* of a record */
+    size_t length; /* of a record */
     size_t run_bytes; /* of a run: whole records */
 
     pthread_mutex_t taking; /* guards the input and the next four */
@@ -41,7 +41,8 @@ struct run {
     int failed;
 };
 
-/* Takes the next run. Returns 0 where the file is at its end. Of a record that could not be read whole nothing is shown. */
+/* Takes the next run. Returns 0 where the file is at its end. Of a record that could not be read whole nothing is
+ * shown. */
 static int run_take(struct stream *stream, struct run *run)
 {
     size_t length = stream->length;
@@ -73,7 +74,8 @@ static void run_show(struct stream *stream, struct run *run, struct desk *desk)
     run->failed = 0;
     run->over_records = run->over_bytes = 0;
     for (at = 0; at < whole && !run->failed; at += length) {
-        struct record record = {run->bytes + at, run->length - at < length ? run->length - at : length, 0, 0, 0, {{0, 0, 0}, 0}};
+        struct record record = {run->bytes + at, run->length - at < length ? run->length - at : length, 0, 0, 0,
+                                {{0, 0, 0}, 0}};
 
         record.number = run->first_record + at / length;
         record.first_byte = record.number * length;
@@ -93,11 +95,13 @@ static int cut_record(const struct stream *stream, const struct run *run)
     if (left == 0)
         return DONE;
     complain("%s%s ends inside record %llu, which has %lu of %lu bytes", strict ? "" : "note: ", stream->input.name,
-             (unsigned long long)(run->first_record + run->length / stream->length), (unsigned long)left, (unsigned long)stream->length);
+             (unsigned long long)(run->first_record + run->length / stream->length), (unsigned long)left,
+             (unsigned long)stream->length);
     return strict ? REFUSED : DONE;
 }
 
-/* Writes the text of the run once those before it are written, and nothing behind a refusal. Returns 0 where there was one. */
+/* Writes the text of the run once those before it are written, and nothing behind a refusal. Returns 0 where there was
+ * one. */
 static int run_write(struct stream *stream, struct run *run, struct desk *desk)
 {
     int status;

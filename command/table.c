@@ -65,8 +65,8 @@ static size_t column_width(const struct table *table, size_t column)
 }
 
 /* The last column ends its line where its text ends. */
-static void add_cell(const struct table *table, size_t column, const char *bytes, size_t length, enum ink ink, size_t width,
-                     struct text *out)
+static void add_cell(const struct table *table, size_t column, const char *bytes, size_t length, enum ink ink,
+                     size_t width, struct text *out)
 {
     size_t gap = width - text_columns(bytes, length);
     int last = column + 1 == table->width;

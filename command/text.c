@@ -60,7 +60,7 @@ void text_signed(struct text *text, int64_t number)
 {
     if (number < 0) {
         text_char(text, '-');
-        text_unsigned(text, (uint64_t)-(number + 1) + 1);
+        text_unsigned(text, (uint64_t) - (number + 1) + 1);
     } else {
         text_unsigned(text, (uint64_t)number);
     }
@@ -135,7 +135,8 @@ void text_json_real(struct text *text, double value)
     size_t start = text->length;
 
     text_real(text, value);
-    if (memchr(text->bytes + start, '.', text->length - start) == NULL && memchr(text->bytes + start, 'e', text->length - start) == NULL)
+    if (memchr(text->bytes + start, '.', text->length - start) == NULL &&
+        memchr(text->bytes + start, 'e', text->length - start) == NULL)
         text_string(text, ".0");
 }
 

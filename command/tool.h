@@ -54,20 +54,22 @@ void text_unsigned(struct text *text, uint64_t number);
 void text_signed(struct text *text, int64_t number);
 void text_grouped(struct text *text, uint64_t number); /* 32,768 */
 void text_count(struct text *text, uint64_t number, const char *one, const char *more); /* 1 byte, 2 bytes */
-void text_real(struct text *text, double value);       /* the shortest text that reads back as the same double */
+void text_real(struct text *text, double value); /* the shortest text that reads back as the same double */
 void text_hex(struct text *text, const uint8_t *bytes, size_t length);
-void text_quoted(struct text *text, const uint8_t *bytes, size_t length);  /* for people, in double quotes */
+void text_quoted(struct text *text, const uint8_t *bytes, size_t length); /* for people, in double quotes */
 void text_escaped(struct text *text, const uint8_t *bytes, size_t length); /* for a cell of tab-separated text */
-void text_message(struct text *text, const char *bytes, size_t length);    /* for a message: what steers a terminal as \\xNN */
+void text_message(struct text *text, const char *bytes,
+                  size_t length); /* for a message: what steers a terminal as \\xNN */
 void text_format(struct text *text, const char *format, ...);
-void text_single(struct text *text, double value);     /* the same for a single */
-void text_json_real(struct text *text, double value);  /* with a point or an exponent, so that it stays a real */
+void text_single(struct text *text, double value); /* the same for a single */
+void text_json_real(struct text *text, double value); /* with a point or an exponent, so that it stays a real */
 void text_free(struct text *text);
 void *get_memory(size_t size);
 
 /* ---- width.c: what a terminal shows ---- */
 
-size_t text_columns(const char *bytes, size_t length); /* how wide it shows: a wide character takes two, an accent none */
+size_t text_columns(const char *bytes,
+                    size_t length); /* how wide it shows: a wide character takes two, an accent none */
 size_t text_fitting(const char *bytes, size_t length, size_t columns); /* the bytes of what fits that many columns */
 
 /* ---- json.c ---- */
@@ -100,7 +102,7 @@ int output_has_colours(void);
 struct progress {
     const char *what; /* records, rows, sheets */
     uint64_t done, bytes, all_bytes; /* all_bytes: 0 where nobody knows */
-    int64_t began, drawn;            /* milliseconds; began is 0 where no terminal looks on */
+    int64_t began, drawn; /* milliseconds; began is 0 where no terminal looks on */
 };
 
 void progress_start(struct progress *progress, const char *what, uint64_t all_bytes);
@@ -120,11 +122,11 @@ int input_read(struct input *input, uint8_t *to, size_t length, size_t *have); /
 /* the same, but it returns once it has a multiple of `unit` and nothing more is there yet */
 int input_some(struct input *input, uint8_t *to, size_t length, size_t unit, size_t *have);
 int input_skip(struct input *input, uint64_t bytes); /* 0 after a complaint; the end of the file is none */
-uint64_t input_size(const struct input *input);      /* 0 where it cannot be told */
+uint64_t input_size(const struct input *input); /* 0 where it cannot be told */
 void input_close(struct input *input);
 /*
- * Reads all of a file that may hold `limit` bytes into `to`, which has room for limit + 1. Returns DONE, or after a complaint
- * REFUSED where it holds more, TROUBLE where it cannot be read.
+ * Reads all of a file that may hold `limit` bytes into `to`, which has room for limit + 1. Returns DONE, or after a
+ * complaint REFUSED where it holds more, TROUBLE where it cannot be read.
  */
 int input_all(const char *name, uint8_t *to, size_t limit, const char *what, size_t *length);
 
@@ -138,7 +140,7 @@ struct source {
 };
 
 int source_open(struct source *source, const char *name); /* 0 after a complaint */
-int source_fill(struct source *source);                   /* 0 at the end, or where it failed */
+int source_fill(struct source *source); /* 0 at the end, or where it failed */
 size_t source_take(struct source *source, uint8_t *to, size_t length); /* fewer only at the end, or where it failed */
 void source_close(struct source *source);
 
@@ -157,7 +159,7 @@ static inline int source_peek(struct source *source)
 /* ---- output.c: text and bytes that are written ---- */
 
 void output_text(struct text *text); /* to standard output; the text is empty afterwards */
-void output_aside(void);             /* from now on text goes to standard error: bytes go to standard output */
+void output_aside(void); /* from now on text goes to standard error: bytes go to standard output */
 void output_end(void);
 void write_trouble(const char *name); /* complains of errno and exits */
 void write_all(int file, const char *name, const void *bytes, size_t length);
@@ -166,8 +168,8 @@ void write_all(int file, const char *name, const void *bytes, size_t length);
 
 struct sink {
     const char *name; /* NULL is standard output */
-    char *target;     /* the file behind the links, */
-    char *beside;     /* and the one that takes its place */
+    char *target; /* the file behind the links, */
+    char *beside; /* and the one that takes its place */
     int file, in_place;
     struct text held;
 };
@@ -182,13 +184,34 @@ void sink_drop(struct sink *sink); /* nothing was written */
 enum form { PEOPLE, JSON, TSV, CSV };
 
 enum option_bit {
-    OPTION_JSON = 1 << 0, OPTION_TSV = 1 << 1, OPTION_CSV = 1 << 2, OPTION_LONG = 1 << 3, OPTION_OUTPUT = 1 << 4,
-    OPTION_RECORDS = 1 << 5, OPTION_JOBS = 1 << 6, OPTION_RECORD = 1 << 7, OPTION_LEGS = 1 << 8, OPTION_HELP = 1 << 9,
-    OPTION_VERSION = 1 << 10, OPTION_EXTENDS = 1 << 11, OPTION_NAMES = 1 << 12, OPTION_LAYOUT = 1 << 13,
-    OPTION_FIELDS = 1 << 14, OPTION_STRICT = 1 << 15, OPTION_TEXT = 1 << 16, OPTION_KEEP_GOING = 1 << 17,
-    OPTION_FOR_SPREADSHEET = 1 << 18, OPTION_FROM = 1 << 19, OPTION_COUNT = 1 << 20, OPTION_DIFFERENT = 1 << 21,
-    OPTION_SHEETS = 1 << 22, OPTION_FILES_FROM = 1 << 23, OPTION_NO_HEAD = 1 << 24, OPTION_HTML = 1 << 25,
-    OPTION_HEX = 1 << 26, OPTION_INPUT = 1 << 27
+    OPTION_JSON = 1 << 0,
+    OPTION_TSV = 1 << 1,
+    OPTION_CSV = 1 << 2,
+    OPTION_LONG = 1 << 3,
+    OPTION_OUTPUT = 1 << 4,
+    OPTION_RECORDS = 1 << 5,
+    OPTION_JOBS = 1 << 6,
+    OPTION_RECORD = 1 << 7,
+    OPTION_LEGS = 1 << 8,
+    OPTION_HELP = 1 << 9,
+    OPTION_VERSION = 1 << 10,
+    OPTION_EXTENDS = 1 << 11,
+    OPTION_NAMES = 1 << 12,
+    OPTION_LAYOUT = 1 << 13,
+    OPTION_FIELDS = 1 << 14,
+    OPTION_STRICT = 1 << 15,
+    OPTION_TEXT = 1 << 16,
+    OPTION_KEEP_GOING = 1 << 17,
+    OPTION_FOR_SPREADSHEET = 1 << 18,
+    OPTION_FROM = 1 << 19,
+    OPTION_COUNT = 1 << 20,
+    OPTION_DIFFERENT = 1 << 21,
+    OPTION_SHEETS = 1 << 22,
+    OPTION_FILES_FROM = 1 << 23,
+    OPTION_NO_HEAD = 1 << 24,
+    OPTION_HTML = 1 << 25,
+    OPTION_HEX = 1 << 26,
+    OPTION_INPUT = 1 << 27
 };
 
 #define TABLE_FORMS ((unsigned)(OPTION_JSON | OPTION_TSV | OPTION_CSV))
@@ -292,7 +315,8 @@ struct choice {
 };
 
 void choose_all(struct choice *choice, size_t limit);
-void choose(struct choice *choice, const char *option, const char *list, const struct names *names, size_t limit); /* or bad use */
+void choose(struct choice *choice, const char *option, const char *list, const struct names *names,
+            size_t limit); /* or bad use */
 void choose_fields(struct choice *choice, const struct options *options, const struct names *names, size_t limit);
 
 /* ---- library.c: the calls ---- */
@@ -333,7 +357,8 @@ struct promises call_promises(const struct layout *layout); /* of a layout for p
 struct extends_answer call_extends(const char *older, const char *newer);
 struct curlew_answer call_pack(const struct layout *layout, const struct values *values, uint8_t *record);
 /* Packs one value by its field alone: what packing has to say of it. */
-struct curlew_answer call_pack_one(const struct layout *layout, const struct values *values, size_t index, uint8_t *record);
+struct curlew_answer call_pack_one(const struct layout *layout, const struct values *values, size_t index,
+                                   uint8_t *record);
 struct read_answer call_read(const struct layout *layout, const uint8_t *record, size_t length, struct values *values);
 struct curlew_answer call_sheet_write(const struct values *values, uint8_t *sheet);
 struct curlew_answer call_sheet_read(const uint8_t *sheet, size_t length, struct values *values);
@@ -353,11 +378,13 @@ struct fault {
 };
 
 /* Puts a value behind the values, as the field wants it. Returns 1, or 0 with the fault. */
-int value_put(struct values *values, const struct field *field, const uint8_t *bytes, size_t length, struct fault *fault);
+int value_put(struct values *values, const struct field *field, const uint8_t *bytes, size_t length,
+              struct fault *fault);
 void value_unset(struct values *values);
 void text_fault(struct text *to, const struct fault *fault); /* "6x" is not an integer of 64 bits */
 /* Puts arguments behind the values, one for each field. Returns DONE, or another status after a complaint. */
-int values_from_arguments(struct values *values, const struct layout *layout, const struct options *options, int for_sheet);
+int values_from_arguments(struct values *values, const struct layout *layout, const struct options *options,
+                          int for_sheet);
 
 /* ---- notes.c: what a record will not hold of a value ---- */
 
@@ -366,7 +393,8 @@ enum loss { LOSS_END, LOSS_BITS, LOSS_LARGE, LOSS_SMALL, LOSS_DIGITS, LOSS_BLANK
 unsigned value_losses(const struct field *field, const struct values *values, size_t index); /* bits 1 << loss */
 const char *loss_words(enum loss loss);
 /* A note for each loss; where --strict asks for it a refusal. Returns the status. */
-int values_noted(const struct layout *layout, const struct values *values, const struct options *options, int for_sheet);
+int values_noted(const struct layout *layout, const struct values *values, const struct options *options,
+                 int for_sheet);
 
 /* ---- shown.c: values shown ---- */
 
@@ -384,12 +412,13 @@ struct rows {
     struct text *keys; /* the names as they stand in the head or before a value of JSON */
 };
 
-void rows_start(struct rows *rows, const struct options *options, const struct layout *layout, const struct names *names,
-                const struct choice *columns);
+void rows_start(struct rows *rows, const struct options *options, const struct layout *layout,
+                const struct names *names, const struct choice *columns);
 void rows_head(const struct rows *rows, const struct options *options, struct text *out);
 void rows_add(const struct rows *rows, const struct values *values, struct text *out);
 void rows_end(struct rows *rows);
-void csv_cell(struct text *out, const void *bytes, size_t length, int for_spreadsheet); /* a text, quoted where it must be */
+void csv_cell(struct text *out, const void *bytes, size_t length,
+              int for_spreadsheet); /* a text, quoted where it must be */
 
 /* ---- cells.c: a table read, row by row; csv.c and json_read.c take a row apart ---- */
 
@@ -400,31 +429,40 @@ struct cell_in {
     enum cell_form form;
 };
 
-enum row_found { ROW_END, ROW_TAKEN, ROW_BAD, ROW_LOST }; /* the last two after a complaint; behind a lost one nothing can be read */
+enum row_found {
+    ROW_END,
+    ROW_TAKEN,
+    ROW_BAD,
+    ROW_LOST
+}; /* the last two after a complaint; behind a lost one nothing can be read */
 
 struct cells {
     struct source source;
     enum form form;
     int for_spreadsheet, headed; /* headed: the columns have names */
-    int array, pending;          /* JSON: inside [ ]; the first row is taken for its names already */
-    uint64_t row, rows;          /* the number of the row that was taken last, and how many there were */
-    uint64_t line, next_line;    /* the line at which it begins, from 1 on */
+    int array, pending; /* JSON: inside [ ]; the first row is taken for its names already */
+    uint64_t row, rows; /* the number of the row that was taken last, and how many there were */
+    uint64_t line, next_line; /* the line at which it begins, from 1 on */
     struct text bytes;
     struct cell_in *cells;
     size_t count, room;
     struct names head;
     size_t columns;
     size_t column_of[CURLEW_MAX_SLOTS]; /* of each value; columns where it has none */
-    size_t field_of[CURLEW_MAX_SLOTS];  /* of each column */
-    struct text where;                  /* for messages */
+    size_t field_of[CURLEW_MAX_SLOTS]; /* of each column */
+    struct text where; /* for messages */
 };
 
-/* Opens the table and finds the value of each column. Names that the layout has not are those of the head. Returns the status. */
-int cells_open(struct cells *cells, const struct options *options, enum form form, const char *name, struct layout *layout);
+/* Opens the table and finds the value of each column. Names that the layout has not are those of the head. Returns the
+ * status. */
+int cells_open(struct cells *cells, const struct options *options, enum form form, const char *name,
+               struct layout *layout);
 enum row_found cells_next(struct cells *cells);
-const char *cells_where(struct cells *cells, size_t column); /* row and column in words; without the column where it is none */
+const char *cells_where(struct cells *cells,
+                        size_t column); /* row and column in words; without the column where it is none */
 const char *cells_source(const struct cells *cells);
-void cells_complain(struct cells *cells, size_t column, const char *what); /* with row, column, name and text of the cell */
+void cells_complain(struct cells *cells, size_t column,
+                    const char *what); /* with row, column, name and text of the cell */
 /* Puts the row into the values. Returns 1, or 0 after a complaint. */
 int cells_values(struct cells *cells, const struct layout *layout, struct values *values);
 void cells_refused(struct cells *cells, size_t column, uint32_t number); /* by the library */
@@ -432,7 +470,8 @@ int cells_failed(const struct cells *cells); /* the file could not be read */
 void cells_close(struct cells *cells);
 void cells_show_row(const struct cells *cells); /* the row in full, as advice */
 struct cell_in *cells_new(struct cells *cells);
-enum row_found cells_lost(struct cells *cells, const char *what, const char *advice); /* after a complaint about the row */
+enum row_found cells_lost(struct cells *cells, const char *what,
+                          const char *advice); /* after a complaint about the row */
 enum row_found csv_next(struct cells *cells);
 enum row_found json_next(struct cells *cells);
 
@@ -500,9 +539,9 @@ struct desk {
     int many; /* records, and not one */
     struct choice columns;
     struct values values;
-    struct table table;                   /* for people */
-    struct rows rows;                     /* a row a record */
-    struct text number;                   /* for tab-separated lines: the record, */
+    struct table table; /* for people */
+    struct rows rows; /* a row a record */
+    struct text number; /* for tab-separated lines: the record, */
     struct text labels[CURLEW_MAX_SLOTS]; /* and what stands between it and the byte */
     struct text out;
 };
@@ -512,7 +551,8 @@ void desk_end(struct desk *desk);
 void desk_head(struct desk *desk);
 int record_show(struct desk *desk, struct record *record); /* 0 where the library refuses it */
 void record_refused(const struct record *record);
-void note_over(const struct options *options, uint64_t records, uint64_t bytes); /* bytes that belong to no field, in so many records */
+void note_over(const struct options *options, uint64_t records,
+               uint64_t bytes); /* bytes that belong to no field, in so many records */
 
 struct range {
     size_t from, to;
@@ -531,19 +571,20 @@ struct sheets {
     struct source source;
     const char *name;
     uint8_t *bytes;
-    size_t length;   /* of the sheet that was taken last */
+    size_t length; /* of the sheet that was taken last */
     uint64_t number; /* how many were taken */
-    uint64_t from;   /* the byte of the file at which the last one began */
+    uint64_t from; /* the byte of the file at which the last one began */
     int none_is_fine; /* a file of no bytes is no sheet that was cut, but no sheet at all */
-    int several;     /* something stands behind the first */
-    int lost;        /* nobody knows where the next one begins */
+    int several; /* something stands behind the first */
+    int lost; /* nobody knows where the next one begins */
     struct text where;
 };
 
-int sheets_open(struct sheets *sheets, const char *name);                /* status */
-int sheets_next(struct sheets *sheets, struct values *values);           /* 1, 0 at the end, -1 after a complaint; it may go on then */
-const char *sheets_where(struct sheets *sheets);                         /* the file, and which sheet of it where it has several */
-int sheets_failed(const struct sheets *sheets);                          /* the file could not be read */
+int sheets_open(struct sheets *sheets, const char *name); /* status */
+int sheets_next(struct sheets *sheets,
+                struct values *values); /* 1, 0 at the end, -1 after a complaint; it may go on then */
+const char *sheets_where(struct sheets *sheets); /* the file, and which sheet of it where it has several */
+int sheets_failed(const struct sheets *sheets); /* the file could not be read */
 void sheets_close(struct sheets *sheets);
 
 /* ---- entries.c: the entries of a sheet, a row each ---- */

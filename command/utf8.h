@@ -25,12 +25,14 @@ static inline size_t utf8_character(const uint8_t *bytes, size_t length)
     if (first >= 0xc2 && first < 0xe0)
         return length >= 2 && utf8_tail(bytes, 1) ? 2 : 0;
     if (first >= 0xe0 && first < 0xf0) {
-        if (length < 3 || !utf8_tail(bytes, 2) || (first == 0xe0 && bytes[1] < 0xa0) || (first == 0xed && bytes[1] >= 0xa0))
+        if (length < 3 || !utf8_tail(bytes, 2) || (first == 0xe0 && bytes[1] < 0xa0) ||
+            (first == 0xed && bytes[1] >= 0xa0))
             return 0;
         return 3;
     }
     if (first >= 0xf0 && first < 0xf5) {
-        if (length < 4 || !utf8_tail(bytes, 3) || (first == 0xf0 && bytes[1] < 0x90) || (first == 0xf4 && bytes[1] >= 0x90))
+        if (length < 4 || !utf8_tail(bytes, 3) || (first == 0xf0 && bytes[1] < 0x90) ||
+            (first == 0xf4 && bytes[1] >= 0x90))
             return 0;
         return 4;
     }
