@@ -7,6 +7,9 @@
  *
  *   curlew_pack           turns values into the bytes of a record
  *   curlew_read           turns the bytes of a record back into values
+ *   curlew_prepare        reads a layout once, for packing and reading by a plan
+ *   curlew_pack_plan      packs as curlew_pack does, by a plan
+ *   curlew_read_plan      reads as curlew_read does, by a plan
  *   curlew_compare        reads two copies of one record and says what differs
  *   curlew_sheet_write    writes a table of values as a sheet
  *   curlew_sheet_read     reads a sheet back into a table
@@ -332,6 +335,7 @@
 #define CURLEW_ITEM_SIZE 8
 #define CURLEW_PACK_REPLY 12
 #define CURLEW_READ_REPLY 16
+#define CURLEW_PREPARE_REPLY 12
 #define CURLEW_SHEET_REPLY 12
 #define CURLEW_RESCUE_REPLY 16
 #define CURLEW_COMPARE_REPLY 12
@@ -346,6 +350,7 @@
 
 /* Limits. */
 #define CURLEW_MAX_LAYOUT 256
+#define CURLEW_MAX_PLAN 256 /* numbers: a layout has no more fields than bytes */
 #define CURLEW_MAX_SLOTS 64
 #define CURLEW_MAX_RECORD 32768
 #define CURLEW_MAX_AREA 524288
@@ -505,6 +510,109 @@ uint32_t curlew_read(const void *layout, size_t layout_len,
                      uint8_t *area, size_t area_len,
                      size_t start_mark,
                      uint8_t *reply, size_t reply_len);
+
+/*
+ * curlew_prepare - reads a layout once, for packing and reading by a plan
+ *
+ * A program that packs or reads many records by one layout has it read once. A plan is a run of 32-bit numbers that you
+ * own, one for each field of the layout and nothing else; lengths of plans count numbers and not bytes. A plan of
+ * CURLEW_MAX_PLAN (256) numbers has room for every layout. Numbers behind the plan stay as they were. Threads may share
+ * a plan that none of them writes.
+ *
+ * By the plan of a layout curlew_pack_plan and curlew_read_plan leave and answer all that curlew_pack and curlew_read
+ * do by the layout, byte for byte. One place differs: `x*` is good for reading and so in a plan, and packing refuses it
+ * with CURLEW_BAD_MOVE, by a layout at its byte, by a plan at the number of its field.
+ *
+ * A plan is no file format. Its numbers mean something to the library that made them, and another version may number
+ * types otherwise: keep the layout, and prepare it where the program starts.
+ *
+ * RUNS
+ *
+ * Reads layout. Writes plan and reply.
+ *
+ * REPLY
+ *
+ * CURLEW_PREPARE_REPLY (12) bytes: CURLEW_OK, the numbers of the plan, the slots that the layout takes.
+ *
+ * REFUSALS
+ *
+ * Those of a layout that is read, at the same bytes: CURLEW_BAD_SIZE; CURLEW_BAD_TYPE, CURLEW_BAD_COUNT and
+ * CURLEW_BAD_MOVE for each field in turn. Then CURLEW_NO_ROOM where the run has fewer numbers than the layout has
+ * fields.
+ *
+ * EXAMPLES
+ *
+ *   uint32_t plan[CURLEW_MAX_PLAN];
+ *   number = curlew_prepare(layout, strlen(layout), plan, CURLEW_MAX_PLAN, reply, CURLEW_PREPARE_REPLY);
+ *   fields = curlew_get_answer(reply).first;
+ */
+uint32_t curlew_prepare(const void *layout, size_t layout_len,
+                        uint32_t *plan, size_t plan_len,
+                        uint8_t *reply, size_t reply_len);
+
+/*
+ * curlew_pack_plan - packs values into a record by a plan
+ *
+ * Does what curlew_pack does, by a plan in the place of the layout. Every run of numbers gets an answer, also one that
+ * no layout gave.
+ *
+ * RUNS
+ *
+ * Reads plan, slots and area. Writes out and reply.
+ *
+ * REPLY
+ *
+ * CURLEW_PACK_REPLY (12) bytes: CURLEW_OK, the length of the record, 0.
+ *
+ * REFUSALS
+ *
+ * CURLEW_BAD_SIZE, also for a plan of more than CURLEW_MAX_PLAN numbers; for each number of the plan in turn
+ * CURLEW_BAD_TYPE where it has no type, CURLEW_BAD_COUNT where its count is over the limit, CURLEW_BAD_MOVE for an `@`
+ * without a count and for an `x*`, with the number of the field, counted from 0, as the place; then those of
+ * curlew_pack.
+ *
+ * EXAMPLES
+ *
+ *   number = curlew_pack_plan(plan, fields, table.slots, table.slots_used, table.area, table.area_used,
+ *                             record, sizeof record, reply, CURLEW_PACK_REPLY);
+ */
+uint32_t curlew_pack_plan(const uint32_t *plan, size_t plan_len,
+                          const uint8_t *slots, size_t slots_len,
+                          const uint8_t *area, size_t area_len,
+                          uint8_t *out, size_t out_len,
+                          uint8_t *reply, size_t reply_len);
+
+/*
+ * curlew_read_plan - reads the values out of a record by a plan
+ *
+ * Does what curlew_read does, by a plan in the place of the layout. Every run of numbers gets an answer, also one that
+ * no layout gave.
+ *
+ * RUNS
+ *
+ * Reads plan and record. Writes slots, area and reply.
+ *
+ * REPLY
+ *
+ * CURLEW_READ_REPLY (16) bytes, as for curlew_read.
+ *
+ * REFUSALS
+ *
+ * CURLEW_BAD_SIZE, also for a plan of more than CURLEW_MAX_PLAN numbers; for each number of the plan in turn
+ * CURLEW_BAD_TYPE, CURLEW_BAD_COUNT and CURLEW_BAD_MOVE as for curlew_pack_plan, but `x*` is taken; then those of
+ * curlew_read.
+ *
+ * EXAMPLES
+ *
+ *   number = curlew_read_plan(plan, fields, record, length, table.slots, table.slots_room,
+ *                             table.area, table.area_room, 0, reply, CURLEW_READ_REPLY);
+ */
+uint32_t curlew_read_plan(const uint32_t *plan, size_t plan_len,
+                          const uint8_t *record, size_t record_len,
+                          uint8_t *slots, size_t slots_len,
+                          uint8_t *area, size_t area_len,
+                          size_t start_mark,
+                          uint8_t *reply, size_t reply_len);
 
 /*
  * curlew_compare - says what differs between two copies of a record

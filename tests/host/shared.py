@@ -6,6 +6,7 @@ import sys
 BYTES, SIZE = ctypes.c_char_p, ctypes.c_size_t
 RUN = [BYTES, SIZE]
 OWN = [ctypes.c_void_p, SIZE]
+PLAN = [ctypes.POINTER(ctypes.c_uint32), SIZE]
 ITEMS = {2: "q", 3: "Q", 4: "d"}
 SLOT = struct.Struct(">4I")
 THREE, FOUR = struct.Struct(">3I"), struct.Struct(">4I")
@@ -16,6 +17,9 @@ def load(path):
     lib = ctypes.CDLL(path)
     lib.curlew_pack.argtypes = RUN + RUN + RUN + OWN + OWN
     lib.curlew_read.argtypes = RUN + RUN + OWN + OWN + [SIZE] + OWN
+    lib.curlew_prepare.argtypes = RUN + PLAN + OWN
+    lib.curlew_pack_plan.argtypes = PLAN + RUN + RUN + OWN + OWN
+    lib.curlew_read_plan.argtypes = PLAN + RUN + OWN + OWN + [SIZE] + OWN
     lib.curlew_sheet_write.argtypes = RUN + RUN + OWN + OWN
     lib.curlew_sheet_read.argtypes = RUN + OWN + OWN + [SIZE] + OWN
     lib.curlew_sheet_rescue.argtypes = RUN + [SIZE] + OWN + OWN + [SIZE] + OWN
@@ -27,7 +31,7 @@ def load(path):
     lib.curlew_extends.argtypes = RUN + RUN + OWN
     lib.curlew_fields.argtypes = RUN + OWN + OWN
     for name in ("pack", "read", "sheet_write", "sheet_read", "sheet_rescue", "compare", "mean", "from_perl", "layout",
-                 "promises", "extends", "fields"):
+                 "promises", "extends", "fields", "prepare", "pack_plan", "read_plan"):
         getattr(lib, "curlew_" + name).restype = ctypes.c_uint32
     return lib
 
@@ -59,6 +63,29 @@ def pack(lib, layout, values, room=32768):
     answer = struct.unpack(">3I", reply.raw)
     assert number == answer[0]
     return answer, out.raw[:answer[1]] if number == 0 else None
+
+
+def prepare(lib, layout, room=256):
+    plan, (reply, reply_run) = (ctypes.c_uint32 * room)(), own(THREE.size)
+    number = lib.curlew_prepare(*lent(layout), plan, room, *reply_run)
+    answer = THREE.unpack(reply.raw)
+    assert number == answer[0]
+    return answer, (plan, answer[1] if number == 0 else 0)
+
+
+def pack_plan(lib, plan, values, room=32768):
+    slots, area = table(values)
+    (out, out_run), (reply, reply_run) = own(room), own(THREE.size)
+    number = lib.curlew_pack_plan(*plan, *lent(slots), *lent(area), *out_run, *reply_run)
+    answer = THREE.unpack(reply.raw)
+    assert number == answer[0]
+    return answer, out.raw[:answer[1]] if number == 0 else None
+
+
+def read_plan(lib, plan, record, count):
+    (slots, slots_run), (area, area_run), (reply, reply_run) = own(SLOT.size * count), own(524288), own(FOUR.size)
+    lib.curlew_read_plan(*plan, *lent(record), *slots_run, *area_run, 0, *reply_run)
+    return FOUR.unpack(reply.raw), [shown(slot, area.raw) for slot in SLOT.iter_unpack(slots.raw)]
 
 
 def shown(slot, area):
@@ -218,6 +245,14 @@ def main():
         (9, 1, ord("X"), 0, none, none, none, 0), (11, 3, ord("@"), 0, 16, none, none, 0), (15, 1, ord("c"), 0, none, 3, 16, 1)]))
     equal(fields(lib, b"A8 x* t", 64), ((2, 6, 0), bytes(64)))
     equal(fields(lib, b"A8 x*", 63), ((11, 0, 0), bytes(63)))
+    answer, plan = prepare(lib, b"A5 Su2 x c")
+    equal(answer, (0, 4, 3))
+    answer, packed = pack_plan(lib, plan, [b"Ada", [7, 600], [-2]])
+    equal((answer, packed), pack(lib, b"A5 Su2 x c", [b"Ada", [7, 600], [-2]]))
+    equal(read_plan(lib, plan, packed[:9], 3), read(lib, b"A5 Su2 x c", packed[:9], 3))
+    equal(prepare(lib, b"A5 x* t")[0], (2, 6, 0))
+    equal(prepare(lib, b"A5 x* c", 2)[0], (11, 0, 0))
+    equal(pack_plan(lib, prepare(lib, b"A5 x* c")[1], [b"Ada", [-2]])[0], (4, 1, 0))
     equal(lib.curlew_pack(None, 0, None, 0, None, 0, None, 0, None, 0), 1)
 
 

@@ -59,6 +59,36 @@ static uint32_t read_record(void)
                        area, sizeof area, 0, reply, sizeof reply);
 }
 
+/* The plan of EVERY_TYPE, which the two calls after it go by. */
+static uint32_t plan[CURLEW_MAX_PLAN];
+static size_t plan_len;
+
+static uint32_t prepare(void)
+{
+    uint8_t reply[CURLEW_PREPARE_REPLY];
+    uint32_t number = curlew_prepare(EVERY_TYPE, sizeof EVERY_TYPE - 1, plan, CURLEW_MAX_PLAN, reply, sizeof reply);
+
+    plan_len = curlew_get_answer(reply).first;
+    return number;
+}
+
+static uint32_t pack_plan(void)
+{
+    uint8_t reply[CURLEW_PACK_REPLY];
+
+    fill_table();
+    return curlew_pack_plan(plan, plan_len, slots, sizeof slots, area, sizeof area, record, sizeof record,
+                            reply, sizeof reply);
+}
+
+static uint32_t read_plan(void)
+{
+    uint8_t reply[CURLEW_READ_REPLY];
+
+    return curlew_read_plan(plan, plan_len, record, record_len, slots, sizeof slots, area, sizeof area, 0,
+                            reply, sizeof reply);
+}
+
 static uint32_t sheet_write(void)
 {
     uint8_t reply[CURLEW_SHEET_REPLY];
@@ -151,7 +181,8 @@ struct call {
 };
 
 static const struct call calls[] = {
-    {"curlew_pack", pack}, {"curlew_read", read_record}, {"curlew_sheet_write", sheet_write},
+    {"curlew_pack", pack}, {"curlew_read", read_record}, {"curlew_prepare", prepare},
+    {"curlew_pack_plan", pack_plan}, {"curlew_read_plan", read_plan}, {"curlew_sheet_write", sheet_write},
     {"curlew_sheet_read", sheet_read}, {"curlew_sheet_rescue", sheet_rescue}, {"curlew_compare", compare},
     {"curlew_mean", mean}, {"curlew_from_perl", from_perl}, {"curlew_layout", layout},
     {"curlew_fields", fields}, {"curlew_promises", promises}, {"curlew_extends", extends},

@@ -9,6 +9,7 @@ ghost use Rattle.host_mean.specs.Calls.{HostMeans};
 ghost use Rattle.host_perl.specs.Calls.{HostConverts};
 ghost use Rattle.host_describe.specs.Calls.{HostDescribes};
 ghost use Rattle.host_fields.specs.Calls.{HostLists};
+ghost use Rattle.host_plans.specs.Calls.{HostPrepares, HostPacksPlan, HostReadsPlan};
 ghost use Rattle.host_promises.specs.Calls.{HostPromises, HostExtends};
 ghost use Rattle.curlew.specs.Version.{version};
 ghost use mathlib.Core.Path.{_≡_};
@@ -40,6 +41,43 @@ pub extern "C" fn curlew_read(
     ensures { λ r. ⌜ HostReads layout bytes slots area mark reply r ⌝ }
 {
     host_read::read(layout, bytes, slots, area, mark, reply)
+}
+
+// Reads a layout once, into a plan for many records.
+#[no_mangle]
+pub extern "C" fn curlew_prepare(layout: &[u8], plan: &mut [u32], reply: &mut [u8]) -> u32
+    ensures { λ r. ⌜ HostPrepares layout plan reply r ⌝ }
+{
+    host_plans::prepare(layout, plan, reply)
+}
+
+// Packs the arguments into `out` by a plan.
+#[no_mangle]
+pub extern "C" fn curlew_pack_plan(
+    plan: &[u32],
+    slots: &[u8],
+    area: &[u8],
+    out: &mut [u8],
+    reply: &mut [u8],
+) -> u32
+    ensures { λ r. ⌜ HostPacksPlan plan slots area out reply r ⌝ }
+{
+    host_plans::pack(plan, slots, area, out, reply)
+}
+
+// Reads a record by a plan, and sets slots and area.
+#[no_mangle]
+pub extern "C" fn curlew_read_plan(
+    plan: &[u32],
+    bytes: &[u8],
+    slots: &mut [u8],
+    area: &mut [u8],
+    mark: usize,
+    reply: &mut [u8],
+) -> u32
+    ensures { λ r. ⌜ HostReadsPlan plan bytes slots area mark reply r ⌝ }
+{
+    host_plans::read(plan, bytes, slots, area, mark, reply)
 }
 
 // Writes a table of slots as a sheet at the front of the buffer.

@@ -1,3 +1,3 @@
 -- Laws of reading for a C host.
-mod Calls
+pub mod Calls
 pub mod Theorems

@@ -11,7 +11,7 @@ use record::Answer;
 use record::ReadAnswer;
 
 // Writes a reading's answer into the reply, and back into the slots those that an accepted reading set; the rest stays as lent.
-fn read_back(slots: &mut [u8], reply: &mut [u8], room: &[u32], r: ReadAnswer) -> u32
+pub fn read_back(slots: &mut [u8], reply: &mut [u8], room: &[u32], r: ReadAnswer) -> u32
     requires { ⌜ (length (now reply) ≡ longReplySize) × (length (now slots) ≡ length (now room) * numberSize)
         × (r .answer .number ≡ 0 → r .answer .first * slotWidth ≤ length (now room)) ⌝ }
     ensures { λ n. ⌜ (n ≡ r .answer .number) × (now (reply .exit) ≡ longReply (r .answer) (r .steps))

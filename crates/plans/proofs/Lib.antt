@@ -1,4 +1,4 @@
 -- Laws of the numbers of a plan, of the loop that judges them, and of the whole calls.
 pub mod Fields
 mod Judging
-mod Calls
+pub mod Calls

@@ -1,0 +1,2 @@
+-- Laws of plans for a C host.
+mod Calls

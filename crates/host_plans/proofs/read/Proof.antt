@@ -1,0 +1,121 @@
+-- Each way out is one law of the definition; what was tested on the way is its premise.
+use Prim.Native.Nat.{_/_}
+use mathlib.Core.Path.{_≡_, sym, _∙_}
+use mathlib.Core.Bool.{true}
+use borrow.Author.Tests.{not-true, not-false, eqb-true}
+use lib.Dec.{eqb}
+use lib.ListN.{length}
+use Rattle.checking.specs.Sizes.{lentFits}
+use Rattle.checking.proofs.Calls.{Fit as Lent, fit as lent}
+use Rattle.host_numbers.specs.Numbers.{numberSize}
+use Rattle.host.specs.Host.{longReplySize}
+use Rattle.host.proofs.Guards.{Fit, fit}
+use Rattle.host_plans.proofs.Calls.{read-unwritten, read-refused, read-unfit, read-served}
+use borrow.Author.Needs.{needs}
+use Rattle.host_plans.proofs.read.Statement.{statement}
+use Rattle.host_plans.proofs.read.Tie as tie
+
+right : (c : tie.Else1) → eqb (length (c .before .before .before .before .before .before .before .args .reply .now)) longReplySize ≡ true
+right c = sym (c .before .long-reply-fits .ensures) ∙ not-false _ (c .if1 .left)
+
+served : (c : tie.Else2) → Fit (length (c .before .before .before .before .before .before .before .before .before .args .slots .now))
+served c = fit _ (sym (c .before .slots-fit .ensures) ∙ not-false _ (c .if2 .left))
+
+fine : (c : tie.Else3) → lentFits (length (c .before .before .before .before .before .before .before .before .before .before .before .args .plan .now)) (length (c .before .before .before .before .before .before .before .before .before .before .before .args .slots .now) / numberSize) (length (c .before .before .before .before .before .before .before .before .before .before .before .args .bytes .now)) (length (c .before .before .before .before .before .before .before .before .before .before .before .args .area .now)) (c .before .before .before .before .before .before .before .before .before .before .before .args .mark) ≡ true
+fine c = sym (c .before .sizes-fit .ensures) ∙ not-false _ (c .if3 .left)
+
+limits : (c : tie.Else3) → Lent (length (c .before .before .before .before .before .before .before .before .before .before .before .args .plan .now)) (length (c .before .before .before .before .before .before .before .before .before .before .before .args .slots .now) / numberSize) (length (c .before .before .before .before .before .before .before .before .before .before .before .args .bytes .now)) (length (c .before .before .before .before .before .before .before .before .before .before .before .args .area .now)) (c .before .before .before .before .before .before .before .before .before .before .before .args .mark)
+limits c = lent (fine c)
+
+long-reply-fits-requires : tie.Need-long-reply-fits-requires
+long-reply-fits-requires c κs = search needs
+
+returns : tie.Need-returns
+returns c = read-unwritten _ _ _ _ _ _ (sym (c .before .long-reply-fits .ensures) ∙ not-true _ (c .if1 .taken))
+
+slots-fit-requires : tie.Need-slots-fit-requires
+slots-fit-requires c κs = search needs
+
+refused-requires : tie.Need-refused-requires
+refused-requires c κs = search needs
+
+reply-long-requires : tie.Need-reply-long-requires
+reply-long-requires c κs = eqb-true _ _ (right (c .before .before .before .before))
+
+same-length : tie.Need-same-length
+same-length c = search needs
+
+returns-2 : tie.Need-returns-2
+returns-2 c =
+    let replied = c .before .before in
+    let tested = replied .before .before .before in
+    read-refused _ _ _ _ _ _ (right (tested .before .before)) (sym (tested .before .slots-fit .ensures) ∙ not-true _ (tested .if2 .taken)) (replied .before .refused .ensures) (replied .reply-long .ensures)
+
+sizes-fit-requires : tie.Need-sizes-fit-requires
+sizes-fit-requires c κs = search needs
+
+refused-requires-2 : tie.Need-refused-requires-2
+refused-requires-2 c κs = search needs
+
+reply-long-requires-2 : tie.Need-reply-long-requires-2
+reply-long-requires-2 c κs = eqb-true _ _ (right (c .before .before .before .before .before .before))
+
+same-length-2 : tie.Need-same-length-2
+same-length-2 c = search needs
+
+returns-3 : tie.Need-returns-3
+returns-3 c =
+    let replied = c .before .before in
+    let tested = replied .before .before .before in
+    read-unfit _ _ _ _ _ _ (right (tested .before .before .before .before)) (served (tested .before .before)) (sym (tested .before .sizes-fit .ensures) ∙ not-true _ (tested .if3 .taken)) (replied .before .refused2 .ensures) (replied .reply-long2 .ensures)
+
+judge-requires : tie.Need-judge-requires
+judge-requires c κs = limits c .text
+
+read-judged-requires : tie.Need-read-judged-requires
+read-judged-requires c κs =
+    let judged = c .before .before .before in
+    record {
+      sized = eqb-true _ _ (right (judged .before .before .before .before .before));
+      whole = served (judged .before .before .before) .whole;
+      fine = fine (judged .before);
+      parsed = judged .judge .ensures;
+    }
+
+same-length-3 : tie.Need-same-length-3
+same-length-3 c = search needs
+
+same-length-4 : tie.Need-same-length-4
+same-length-4 c = search needs
+
+same-length-5 : tie.Need-same-length-5
+same-length-5 c = search needs
+
+returns-4 : tie.Need-returns-4
+returns-4 c =
+    let called = c .before .before .before .before .before .before in
+    let tested = called .before .before .before .before .before in
+    read-served _ _ _ _ _ _ (right (tested .before .before .before .before)) (served (tested .before .before)) (called .read-judged .ensures)
+
+pub read-spec : {M : Type 1} → statement M
+read-spec =
+    tie.close
+    (tie.spec
+    long-reply-fits-requires
+    returns
+    slots-fit-requires
+    refused-requires
+    reply-long-requires
+    same-length
+    returns-2
+    sizes-fit-requires
+    refused-requires-2
+    reply-long-requires-2
+    same-length-2
+    returns-3
+    judge-requires
+    read-judged-requires
+    same-length-3
+    same-length-4
+    same-length-5
+    returns-4)
