@@ -6,15 +6,21 @@ failed=0
 scratch=$(mktemp -d) || exit 2
 trap 'rm -rf "$scratch"' EXIT
 
-# report NAME COMMAND..: runs the command in a shell of its own and counts it; where it fails, shows what it said.
+# report NAME COMMAND..: runs the command in a shell of its own and counts it, or the tests that it counted itself in a last
+# line 'N passed, M failed'; where it fails, shows what it said.
 report() {
     reported=$1
     shift
-    if ("$@") > "$scratch/log" 2>&1; then
-        passed=$((passed + 1))
+    ("$@") > "$scratch/log" 2>&1
+    status=$?
+    sum=$(sed -n '$s/^\([0-9]*\) passed, \([0-9]*\) failed$/\1 \2/p' "$scratch/log")
+    : "${sum:=$((status == 0)) 0}"
+    [ $status -eq 0 ] || [ "${sum#* }" -gt 0 ] || sum="${sum% *} 1"
+    passed=$((passed + ${sum% *}))
+    failed=$((failed + ${sum#* }))
+    if [ "${sum#* }" -eq 0 ]; then
         echo "passed   $reported"
     else
-        failed=$((failed + 1))
         echo "FAILED   $reported"
         sed 's/^/         /' "$scratch/log" | tail -40
     fi
