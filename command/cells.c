@@ -228,33 +228,19 @@ static int take_first(struct cells *cells, const struct layout *layout)
     return found == ROW_TAKEN ? DONE : cells->source.failed ? TROUBLE : REFUSED;
 }
 
-/* A name that ends in _hex could not be told from a text in hex. */
-static int names_for_json(const struct cells *cells, const struct layout *layout)
-{
-    size_t i;
-
-    for (i = 0; i < layout->names.count; i++) {
-        size_t length = strlen(layout->names.text[i]);
-
-        if (cells->form == JSON && length >= 4 && strcmp(layout->names.text[i] + length - 4, "_hex") == 0) {
-            complain("%s: in JSON a name that ends in _hex stands for a text in hex", layout->names.text[i]);
-            return REFUSED;
-        }
-    }
-    return DONE;
-}
-
 static int find_columns(struct cells *cells, struct layout *layout, int head)
 {
     int by_name = layout->names.count > 0 && head;
-    int status = names_for_json(cells, layout);
+    int status = DONE;
 
-    if (status == DONE && cells->form == JSON)
+    if (cells->form == JSON) {
+        no_name_in_hex(&layout->names);
         status = take_first(cells, layout);
-    else if (status == DONE && head)
+    } else if (head) {
         status = take_head(cells);
-    else
+    } else {
         cells->columns = layout->values;
+    }
     cells->headed = 1;
     if (!head && cells->form != JSON)
         use_names(&cells->head, &layout->names);
@@ -367,10 +353,12 @@ static int put_cell(struct cells *cells, const struct field *field, const struct
         return 1;
     }
     if (text && cell->form == CELL_NUMBERS) {
-        fault->text = (const uint8_t *)bytes;
-        fault->length = cell->length;
-        fault->what = "is a number, and a text is wanted";
-        fault->advice = "Put it in quotes.";
+        *fault = (struct fault){(const uint8_t *)bytes, cell->length, "is a number, and a text is wanted", "Put it in quotes."};
+        return 0;
+    }
+    if (!text && cell->length > 0 && memchr(bytes, ',', cell->length) != NULL) {
+        *fault = (struct fault){(const uint8_t *)bytes, cell->length, "has a comma, and numbers in a cell have none",
+                                "Write a list with spaces, as in 61 0 88, and a real with a point."};
         return 0;
     }
     return value_put(values, field, (const uint8_t *)bytes + guard, cell->length - guard, fault);

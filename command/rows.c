@@ -205,6 +205,21 @@ static void make_key(const struct rows *rows, const struct names *names, size_t 
     text_free(&name);
 }
 
+/* In JSON a name that ends in _hex could not be told from a text in hex. */
+void no_name_in_hex(const struct names *names)
+{
+    size_t i;
+
+    for (i = 0; i < names->count; i++) {
+        size_t length = strlen(names->text[i]);
+
+        if (length >= 4 && strcmp(names->text[i] + length - 4, "_hex") == 0) {
+            complain("%s: in JSON a name that ends in _hex stands for a text in hex", names->text[i]);
+            exit(TROUBLE);
+        }
+    }
+}
+
 void rows_start(struct rows *rows, const struct options *options, const struct layout *layout,
                 const struct names *names, const struct choice *columns)
 {
@@ -219,6 +234,8 @@ void rows_start(struct rows *rows, const struct options *options, const struct l
     memset(rows->keys, 0, columns->count * sizeof *rows->keys);
     for (i = 0; i < columns->count; i++)
         make_key(rows, names, columns->index[i], &rows->keys[i]);
+    if (rows->form == JSON && !has(options, OPTION_LONG))
+        no_name_in_hex(names);
 }
 
 static void line_end(const struct rows *rows, struct text *out)

@@ -417,6 +417,7 @@ void rows_start(struct rows *rows, const struct options *options, const struct l
 void rows_head(const struct rows *rows, const struct options *options, struct text *out);
 void rows_add(const struct rows *rows, const struct values *values, struct text *out);
 void rows_end(struct rows *rows);
+void no_name_in_hex(const struct names *names); /* or bad use */
 void csv_cell(struct text *out, const void *bytes, size_t length,
               int for_spreadsheet); /* a text, quoted where it must be */
 
