@@ -11,10 +11,9 @@ int values_suit(const struct layout *layout, size_t count)
         return DONE;
     complain("values: the layout wants %lu, and it got %lu (number %d)", (unsigned long)layout->values,
              (unsigned long)count, CURLEW_BAD_SLOTS);
-    advise(
-        "curlew layout shows the fields. A field with a count takes one list, as 61,0,88 for Su3; "
+    advise("curlew layout shows the fields. A field with a count takes one list, as 61,0,88 for Su3; "
            "no layout takes more than %d.",
-        CURLEW_MAX_SLOTS);
+           CURLEW_MAX_SLOTS);
     return REFUSED;
 }
 

@@ -353,7 +353,8 @@ static int put_cell(struct cells *cells, const struct field *field, const struct
         return 1;
     }
     if (text && cell->form == CELL_NUMBERS) {
-        *fault = (struct fault){(const uint8_t *)bytes, cell->length, "is a number, and a text is wanted", "Put it in quotes."};
+        *fault = (struct fault){(const uint8_t *)bytes, cell->length, "is a number, and a text is wanted",
+                                "Put it in quotes."};
         return 0;
     }
     if (!text && cell->length > 0 && memchr(bytes, ',', cell->length) != NULL) {

@@ -42,10 +42,9 @@ static int length_noted(const struct layout *layout, const struct options *optio
             strict ? "" : "note: ", (unsigned long)length, (unsigned long)own, (unsigned long)(length - own),
             length - own == 1 ? "" : "s", length - own == 1 ? "s" : "");
     else
-        complain(
-            "note: --records %lu: the layout's own length is %lu, so that fields at the end of each record are "
-            "not marked",
-            (unsigned long)length, (unsigned long)own);
+        complain("note: --records %lu: the layout's own length is %lu, so that fields at the end of each record are "
+                 "not marked",
+                 (unsigned long)length, (unsigned long)own);
     return strict ? REFUSED : DONE;
 }
 

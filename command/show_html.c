@@ -187,10 +187,8 @@ static void bit_table(struct text *out, const struct showing *showing)
 {
     size_t i;
 
-    text_string(
-        out,
-        "<section>\n<h2>Bits that differ</h2>\n<table class=\"bytes\">\n"
-        "<tr><th>byte</th><th>first copy</th><th>second copy</th></tr>\n");
+    text_string(out, "<section>\n<h2>Bits that differ</h2>\n<table class=\"bytes\">\n"
+                     "<tr><th>byte</th><th>first copy</th><th>second copy</th></tr>\n");
     for (i = 0; i < showing->records[0].length || i < showing->records[1].length; i++)
         if (byte_differs(showing, i)) {
             size_t owner = i < showing->records[0].length ? showing->records[0].owner[i] : showing->records[1].owner[i];

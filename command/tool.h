@@ -646,6 +646,37 @@ int byte_differs(const struct showing *showing, size_t place);
 void text_field(struct text *to, const struct layout *layout, size_t index); /* its name, and its text in the layout */
 void show_html(const struct showing *showing, struct text *out);
 
+/* ---- mean_rows.c: a row a candidate ---- */
+
+struct result {
+    const char *name;
+    uint64_t number; /* which one of the file */
+    int numbered; /* there may be several in it */
+    int status, marked; /* another status than DONE: there is no answer */
+    double mean;
+    size_t legs, not_marked;
+};
+
+struct means {
+    struct options *options;
+    struct layout *layout; /* NULL for sheets */
+    const struct names *names;
+    size_t length; /* of a record */
+    struct choice legs, columns; /* columns: the values that --fields shows beside the mean */
+    int all_legs, ready; /* ready: the legs are chosen, and the head is written */
+    struct values values, chosen;
+    uint64_t rows, without, refused;
+    size_t files, all_files;
+    int status;
+    struct progress progress;
+    struct text out;
+};
+
+void mean_where(struct text *to, const struct means *means,
+                const struct result *result); /* the file, and which one of it */
+void mean_ready(struct means *means); /* chooses the legs, once their names are known, and writes the head */
+void mean_show(struct means *means, const struct result *result);
+
 /* ---- what several subcommands use ---- */
 
 /* The length of a record in a file of them, 0 where all of the file is one record. Returns the status. */
