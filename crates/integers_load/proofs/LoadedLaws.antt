@@ -5,18 +5,17 @@ use native.Mathlib.Omega.{arith}
 use mathlib.Core.Path.{_≡_, refl, sym, ap, _∙_}
 use mathlib.Core.Bool.{Bool, true, false, not}
 use mathlib.Core.List.{List, [], _∷_, _++_, reverse, reverse-cons, reverse-append, reverse-reverse}
-use lib.ListN.{length, drop, getD, replicate, length-reverse, length-replicate}
+use lib.ListN.{length, drop, getD, replicate, length-reverse}
 use Rattle.layout.specs.declared.Shape.the-variants.{Integers}
-use Rattle.record.specs.Bytes.{part, storeAt, digits, number, ordered, numberBytes, bigEndian}
+use Rattle.record.specs.Bytes.{part, digits, number, ordered, numberBytes, bigEndian}
 use Rattle.record.specs.Table.{integerBytes}
 use Rattle.record.specs.Reading.{loaded, widened}
 use Rattle.record.proofs.Bytes.{All, all-ordered, length-digits, length-ordered, part-at}
 use Rattle.record.proofs.Stores.{runs, length-part}
 use Rattle.record.proofs.Widening.{filler, widened-digits, sign-test}
 use Rattle.integers.specs.Eights.{eights}
-use Rattle.integers_load.specs.Items.{itemBytes, fillerOf}
+use Rattle.integers_load.specs.Items.{Narrow, itemBytes, fillerOf}
 use Rattle.integers.proofs.IntegerLaws.{part-bytes, runs-same, joined, pieces-take, eightAt, eights-runs}
-use Rattle.byte_runs.proofs.ByteLaws.{store-both}
 
 -- ---- order and parts
 
@@ -85,23 +84,23 @@ item-digits w big unsigned bs fill x long some narrow all field small filled =
     let top : x % 256 ≡ getD (ordered (not big) bs) 0 0 = sym (first-digit w x some) ∙ ap (λ (l : List ℕ). getD l 0 0) field in
     ap (λ (k : ℕ). digits 256 k (fill + 256 ^ (8 - w) * x)) eight ∙ digits-above (8 - w) w fill x small ∙ rw (filled, field, top) (loaded-item w big unsigned bs long some narrow all)
 
--- the same of a record's bytes, stored in two steps
-pub store-widened : (d : List ℕ) (to : ℕ) (input : List ℕ) (at w : ℕ) (big unsigned : Bool) (top fill : ℕ) {d₁ d₂ : List ℕ}
-    → ((i : ℕ) → getD input i 0 < 256) → 0 < w → w ≤ 8 → to + 8 ≤ length d → at + w ≤ length input
-    → ((xs : List ℕ) → length xs ≡ w → getD (ordered (not big) xs) 0 0 ≡ getD xs top 0) → top < w → fill ≡ fillerOf unsigned (getD input (at + top) 0)
-    → d₁ ≡ storeAt d to (replicate (8 - w) fill) → d₂ ≡ storeAt d₁ (to + (8 - w)) (ordered (not big) (part input at w))
-    → d₂ ≡ storeAt d to (itemBytes w big unsigned (part input at w))
-store-widened d to input at w big unsigned top fill small some narrow room inside first lower is one two =
-    let bs : List ℕ = part input at w in
-    let long : length bs ≡ w = length-part w at input inside in
-    let highest : fill ≡ fillerOf unsigned (getD (ordered (not big) bs) 0 0) = is ∙ ap (fillerOf unsigned) (sym (first bs long ∙ part-at input at w top lower)) in
-    let size : length (ordered (not big) bs) ≡ w = length-ordered (not big) bs ∙ long in
-    store-both d to (8 - w) (replicate (8 - w) fill) (ordered (not big) bs) (length-replicate (8 - w) fill) (omega arith) one two
-    ∙ ap (storeAt d to) (rw highest (loaded-item w big unsigned bs long some narrow (part-bytes input at w small)))
-
 pub length-itemBytes : (w : ℕ) (big unsigned : Bool) (bs : List ℕ) → length (itemBytes w big unsigned bs) ≡ 8
 unfolding itemBytes
 length-itemBytes w big unsigned bs = simp (length-reverse, length-digits)
+
+-- what has neither two bytes nor four has one
+pub one-byte : (w : ℕ) → Narrow w → (w ≡ 2 → ⊥) → (w ≡ 4 → ⊥) → w ≡ 1
+one-byte zero h two four = absurd (omega arith)
+one-byte (suc zero) h two four = refl
+one-byte (suc (suc zero)) h two four = absurd (two refl)
+one-byte (suc (suc (suc zero))) h two four = absurd (omega arith)
+one-byte (suc (suc (suc (suc zero)))) h two four = absurd (four refl)
+one-byte (suc (suc (suc (suc (suc zero))))) h two four = absurd (omega arith)
+one-byte (suc (suc (suc (suc (suc (suc zero)))))) h two four = absurd (omega arith)
+one-byte (suc (suc (suc (suc (suc (suc (suc w))))))) h two four =
+    let none : w ≡ 0 = omega arith in
+    let rest : 8 % suc (suc (suc (suc (suc (suc (suc 0)))))) ≡ 0 = rw none at (h .2) in
+    absurd (omega arith)
 
 -- ---- n integers
 
@@ -114,6 +113,13 @@ pub loaded-runs : (input : List ℕ) (at w : ℕ) (big unsigned : Bool) (n : ℕ
 unfolding bigEndian numberBytes loaded itemBytes
 loaded-runs input at w big unsigned n =
     rw (pieces-take w n (drop at input)) (sym (joined (λ x. reverse (digits 256 8 x)) (λ p. widened w unsigned (number 256 (ordered big p))) w input n at))
+
+-- one integer alone
+pub loaded-one : (input : List ℕ) (at w : ℕ) (big unsigned : Bool) → itemBytes w big unsigned (part input at w) ≡ integerBytes (loaded (Integers w big) unsigned 1 (part input at (1 * w)) .items)
+unfolding runs
+loaded-one input at w big unsigned =
+    let here : at ≡ at + 0 * w = omega arith in
+    ap (λ (p : ℕ). itemBytes w big unsigned (part input p w)) here ∙ loaded-runs input at w big unsigned 1
 
 -- runs of eight bytes, as integers that are read
 pub eights-loaded : (input : List ℕ) (at : ℕ) (big unsigned : Bool) (n : ℕ) → ((i : ℕ) → getD input i 0 < 256) → at + n * 8 ≤ length input

@@ -1,44 +1,15 @@
 // `c s S i I w W`, read: from fields of 1 to 8 bytes into integers of eight big-endian bytes in the area. A field's bytes are the last ones of an
 // item, in their order where the field is big-endian, else turned round.
 ghost use mathlib.Core.Path.{_≡_};
-ghost use mathlib.Core.Bool.{Bool};
-ghost use Prim.Native.Nat.{_+_, _*_, _≤_, _<_};
+ghost use mathlib.Core.Bool.{Bool, true};
+ghost use Prim.Native.Nat.{_+_, _*_, _≤_};
 ghost use lib.ListN.{length, replicate};
 ghost use Rattle.layout.specs.declared.Shape.the-variants.{Integers};
 ghost use Rattle.layout.specs.Lent.{before, after};
 ghost use Rattle.record.specs.Bytes.{part, storeAt, digits, number, ordered};
 ghost use Rattle.record.specs.Table.{integerBytes};
 ghost use Rattle.record.specs.Reading.{loaded, widened};
-ghost use Rattle.integers_load.specs.Items.{itemBytes, fillerOf};
-
-// The byte that widens an integer whose highest byte is `top`.
-fn filler(unsigned: bool, top: u8) -> u8
-    ensures { λ r. ⌜ r ≡ fillerOf unsigned top ⌝ }
-{
-    if unsigned {
-        return 0;
-    }
-    if top < 128 { 0 } else { 255 }
-}
-
-// Reads one integer of w bytes.
-fn load_item(
-    area: &mut [u8],
-    to: usize,
-    input: &[u8],
-    at: usize,
-    w: usize,
-    big: bool,
-    unsigned: bool,
-)
-    requires { ⌜ (0 < w) × (w ≤ 8) × (to + 8 ≤ length (now area)) × (at + w ≤ length (now input)) ⌝ }
-    ensures { λ _. ⌜ after area ≡ storeAt (before area) to (itemBytes w big unsigned (part (before input) at w)) ⌝ }
-{
-    let top = integers::place(!big, w, 0);
-    let fill = filler(unsigned, input[at + top]);
-    byte_runs::fill(area, to, 8 - w, fill);
-    integers::copy_ordered(area, to + (8 - w), input, at, w, !big);
-}
+ghost use Rattle.integers_load.specs.Items.{Width, Narrow, itemBytes, fillerOf};
 
 // An integer of one byte with eight: its sign goes on.
 fn widen_one(v: u8, unsigned: bool) -> u64
@@ -62,18 +33,6 @@ fn load_one(area: &mut [u8], to: usize, input: &[u8], at: usize, unsigned: bool)
         record::INTEGER_SIZE,
         widen_one(input[at], unsigned),
     );
-}
-
-// Reads n integers of one byte each.
-fn load_ones(area: &mut [u8], to: usize, input: &[u8], at: usize, n: usize, unsigned: bool)
-    requires { ⌜ (to + n * 8 ≤ length (now area)) × (at + n ≤ length (now input)) ⌝ }
-    ensures { λ _. ⌜ ((big : Bool) → after area ≡ storeAt (before area) to (integerBytes (loaded (Integers 1 big) unsigned n (part (before input) at (n * 1)) .items))) ⌝ }
-{
-    let mut i = 0;
-    while i < n {
-        load_one(area, to + i * 8, input, at + i, unsigned);
-        i += 1;
-    }
 }
 
 // The number that two bytes make, the low one first or, where `big` says so, last.
@@ -110,26 +69,6 @@ fn load_pair(area: &mut [u8], to: usize, input: &[u8], at: usize, big: bool, uns
     big_endian::put_number(area, to, record::INTEGER_SIZE, widen_pair(x, unsigned));
 }
 
-// Reads n integers of two bytes each.
-fn load_pairs(
-    area: &mut [u8],
-    to: usize,
-    input: &[u8],
-    at: usize,
-    n: usize,
-    big: bool,
-    unsigned: bool,
-)
-    requires { ⌜ (to + n * 8 ≤ length (now area)) × (at + n * 2 ≤ length (now input)) ⌝ }
-    ensures { λ _. ⌜ after area ≡ storeAt (before area) to (integerBytes (loaded (Integers 2 big) unsigned n (part (before input) at (n * 2)) .items)) ⌝ }
-{
-    let mut i = 0;
-    while i < n {
-        load_pair(area, to + i * 8, input, at + i * 2, big, unsigned);
-        i += 1;
-    }
-}
-
 // What stands before the four bytes of a field in the eight of its item, as a number.
 fn fill_four(unsigned: bool, top: u8) -> u32
     ensures { λ r. ⌜ digits 256 4 r ≡ replicate 4 (fillerOf unsigned top) ⌝ }
@@ -150,27 +89,29 @@ fn load_four(area: &mut [u8], to: usize, input: &[u8], at: usize, big: bool, uns
     integers::put_low_first(area, to, fill as u64 + 4294967296 * x as u64);
 }
 
-// Reads n integers of four bytes each.
-fn load_fours(
+// Reads one integer of a width below eight: four bytes with what stands before them, two and one as a number.
+fn load_item(
     area: &mut [u8],
     to: usize,
     input: &[u8],
     at: usize,
-    n: usize,
+    w: usize,
     big: bool,
     unsigned: bool,
 )
-    requires { ⌜ (to + n * 8 ≤ length (now area)) × (at + n * 4 ≤ length (now input)) ⌝ }
-    ensures { λ _. ⌜ after area ≡ storeAt (before area) to (integerBytes (loaded (Integers 4 big) unsigned n (part (before input) at (n * 4)) .items)) ⌝ }
+    requires { ⌜ Narrow w × (to + 8 ≤ length (now area)) × (at + w ≤ length (now input)) ⌝ }
+    ensures { λ _. ⌜ after area ≡ storeAt (before area) to (itemBytes w big unsigned (part (before input) at w)) ⌝ }
 {
-    let mut i = 0;
-    while i < n {
-        load_four(area, to + i * 8, input, at + i * 4, big, unsigned);
-        i += 1;
+    if w == 2 {
+        return load_pair(area, to, input, at, big, unsigned);
     }
+    if w == 4 {
+        return load_four(area, to, input, at, big, unsigned);
+    }
+    load_one(area, to, input, at, unsigned)
 }
 
-// Reads n integers of w bytes each, by their bytes.
+// Reads n integers of a width below eight. Callers have constants for the width and the order, so that the turn of each becomes a loop of its own.
 fn load_each(
     area: &mut [u8],
     to: usize,
@@ -181,17 +122,29 @@ fn load_each(
     big: bool,
     unsigned: bool,
 )
-    requires { ⌜ (0 < w) × (w ≤ 8) × (to + n * 8 ≤ length (now area)) × (at + n * w ≤ length (now input)) ⌝ }
+    requires { ⌜ Narrow w × (to + n * 8 ≤ length (now area)) × (at + n * w ≤ length (now input)) ⌝ }
     ensures { λ _. ⌜ after area ≡ storeAt (before area) to (integerBytes (loaded (Integers w big) unsigned n (part (before input) at (n * w)) .items)) ⌝ }
 {
     let mut i = 0;
+    let mut from = at;
+    let mut place = to;
     while i < n {
-        load_item(area, to + i * 8, input, at + i * w, w, big, unsigned);
+        load_item(area, place, input, from, w, big, unsigned);
         i += 1;
+        from += w;
+        place += 8;
     }
 }
 
-// Reads n integers of w bytes each.
+// The same with the flag. (Where both calls are of one function the compiler joins them again, and the loop then tests the flag.)
+fn load_unsigned(area: &mut [u8], to: usize, input: &[u8], at: usize, n: usize, w: usize, big: bool)
+    requires { ⌜ Narrow w × (to + n * 8 ≤ length (now area)) × (at + n * w ≤ length (now input)) ⌝ }
+    ensures { λ _. ⌜ after area ≡ storeAt (before area) to (integerBytes (loaded (Integers w big) true n (part (before input) at (n * w)) .items)) ⌝ }
+{
+    load_each(area, to, input, at, n, w, big, true)
+}
+
+// Reads n integers of w bytes each. One alone is spared the loop.
 pub fn load(
     area: &mut [u8],
     to: usize,
@@ -202,20 +155,17 @@ pub fn load(
     big: bool,
     unsigned: bool,
 )
-    requires { ⌜ (0 < w) × (w ≤ 8) × (to + n * 8 ≤ length (now area)) × (at + n * w ≤ length (now input)) ⌝ }
+    requires { ⌜ Width w × (to + n * 8 ≤ length (now area)) × (at + n * w ≤ length (now input)) ⌝ }
     ensures { λ _. ⌜ after area ≡ storeAt (before area) to (integerBytes (loaded (Integers w big) unsigned n (part (before input) at (n * w)) .items)) ⌝ }
 {
-    if w == 2 {
-        return load_pairs(area, to, input, at, n, big, unsigned);
-    }
-    if w == 4 {
-        return load_fours(area, to, input, at, n, big, unsigned);
-    }
     if w == 8 {
         return integers::copy_eights(area, to, input, at, n, !big);
     }
-    if w == 1 {
-        return load_ones(area, to, input, at, n, unsigned);
+    if n == 1 {
+        return load_item(area, to, input, at, w, big, unsigned);
     }
-    load_each(area, to, input, at, n, w, big, unsigned)
+    if unsigned {
+        return load_unsigned(area, to, input, at, n, w, big);
+    }
+    load_each(area, to, input, at, n, w, big, false)
 }

@@ -1,5 +1,5 @@
 -- Laws of a field's value: how many items it has, and how many bytes of the area it takes.
-use Prim.Native.Nat.{ℕ, _+_, _*_, _≤_, _<_}
+use Prim.Native.Nat.{ℕ, _+_, _*_, _%_, _≤_, _<_}
 use native.Mathlib.Nat.{mul-le-mul, le-refl}
 use native.Mathlib.Omega.{arith}
 use mathlib.Core.Path.{_≡_, refl, sym, ap, _∙_}
@@ -183,8 +183,8 @@ module _ {bs : List ℕ} {at n : ℕ} where
         let k : to + length (areaBytes (valueAt bs at t u n)) ≤ m = rw e at h in
         (inside-as e i, rw (size-eights x (inside-as e i) .size u) k)
 
-    pub integers-asked : {w : ℕ} {big : Bool} → s ≡ Integers w big → Inside bs at (Integers w big) n × (to + n * 8 ≤ m)
-    integers-asked {w} {big} e = eights-asked (integers-eight w big (inside-as e i .form)) e
+    pub integers-asked : {w : ℕ} {big : Bool} → s ≡ Integers w big → 8 % w ≡ 0 → Inside bs at (Integers w big) n × ((to + n * 8 ≤ m) × (8 % w ≡ 0))
+    integers-asked {w} {big} e whole = let asked = eights-asked (integers-eight w big (inside-as e i .form)) e in (asked .0, (asked .1, whole))
 
     pub reals-asked : {single big : Bool} → s ≡ Reals single big → Inside bs at (Reals single big) n × (to + n * 8 ≤ m)
     reals-asked {single} {big} e = eights-asked (reals-eight single big) e

@@ -1,7 +1,7 @@
 // The value of a field that was found: how many bytes of the area it takes, and its way there.
 ghost use mathlib.Core.Path.{_≡_};
 ghost use mathlib.Core.Bool.{Bool, false};
-ghost use Prim.Native.Nat.{_+_, _*_, _≤_};
+ghost use Prim.Native.Nat.{_+_, _*_, _%_, _≤_};
 ghost use lib.ListN.{length};
 ghost use Rattle.layout.specs.declared.Shape.the-variants.{Text, Digits, Integers, Reals};
 ghost use Rattle.layout.specs.Words.{lastData, shapeNumbered};
@@ -105,6 +105,7 @@ fn integers(
 ) -> Loaded
     requires { ⌜ Inside (now bytes) at (Integers w big) n ⌝ }
     requires { ⌜ to + n * 8 ≤ length (now area) ⌝ }
+    requires { ⌜ 8 % w ≡ 0 ⌝ }
     ensures { λ r. ⌜ LoadedAs (valueAt (now (bytes .entry)) at (Integers w big) u n) (now (area .entry)) to r (now (area .exit)) ⌝ }
 {
     integers_load::load(area, to, bytes, at, n, w, big, u);

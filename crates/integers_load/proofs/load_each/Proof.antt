@@ -1,39 +1,37 @@
 -- Turn i reads integer i: the loop keeps `Wrote`, with each integer's eight bytes as a run.
-use Prim.Native.Nat.{_-_, _≤_}
+use Prim.Native.Nat.{ℕ, _+_, _-_, _*_, _≤_}
 use native.Mathlib.Omega.{arith}
-use mathlib.Core.Path.{refl, ap, _∙_}
-use Rattle.record.specs.Bytes.{storeAt}
+use mathlib.Core.Path.{_≡_, ap, _∙_}
+use Rattle.record.specs.Bytes.{part, storeAt}
 use Rattle.record.proofs.Stores.{Wrote, wrote-none, wrote-more, wrote-done, next-run}
+use Rattle.integers_load.specs.Items.{itemBytes}
 use Rattle.integers_load.proofs.LoadedLaws.{loadedAt, length-itemBytes, loaded-runs}
 use Rattle.integers_load.proofs.load_each.Statement.{statement}
 use Rattle.integers_load.proofs.load_each.Tie as tie
 
 abbrev Inv-loop : tie.InvT-loop
-Inv-loop area₀ to input at n w big unsigned i₀ area i = (i ≤ n) × Wrote area₀ to (loadedAt input at w big unsigned) area i
+Inv-loop area₀ to input at n w big unsigned i₀ from₀ place₀ area i from place = (i ≤ n) × Wrote area₀ to (loadedAt input at w big unsigned) area i × (from ≡ at + i * w) × (place ≡ to + i * 8)
 
 abbrev μ-loop : tie.MeasureT-loop
-μ-loop area₀ to input at n w big unsigned i₀ area i = n - i
+μ-loop area₀ to input at n w big unsigned i₀ from₀ place₀ area i from place = n - i
 
 loop-holds : tie.Need-loop-holds Inv-loop μ-loop
-loop-holds c = (omega arith, wrote-none)
-
-mul-load-item : tie.Need-mul-load-item Inv-loop μ-loop
-mul-load-item c = omega arith
-
-add-load-item : tie.Need-add-load-item Inv-loop μ-loop
-add-load-item c = omega arith
-
-mul-load-item-2 : tie.Need-mul-load-item-2 Inv-loop μ-loop
-mul-load-item-2 c = omega (arith, next-run (c .before .before .before .before .before .args .w) (c .before .loop-test .taken))
-
-add-load-item-2 : tie.Need-add-load-item-2 Inv-loop μ-loop
-add-load-item-2 c = omega (arith, next-run (c .before .before .before .before .before .args .w) (c .before .loop-test .taken))
+loop-holds c = (omega arith, wrote-none, omega arith, omega arith)
 
 load-item-requires : tie.Need-load-item-requires Inv-loop μ-loop
-load-item-requires c κs = omega (arith, next-run (c .before .before .before .before .before .args .w) (c .before .loop-test .taken))
+load-item-requires c κs =
+    let loop = c .before .before .loop in
+    let start = c .before .before .before .before .before in
+    (start .pre .0, omega (arith, loop .inv .1 .long), omega (arith, next-run (start .args .w) (c .before .loop-test .taken)))
 
 add-i : tie.Need-add-i Inv-loop μ-loop
 add-i c = omega arith
+
+add-from : tie.Need-add-from Inv-loop μ-loop
+add-from c = omega (arith, next-run (c .before .before .before .before .before .before .before .before .args .w) (c .before .before .before .before .loop-test .taken))
+
+add-place : tie.Need-add-place Inv-loop μ-loop
+add-place c = omega arith
 
 loop-less : tie.Need-loop-less Inv-loop μ-loop
 loop-less c = omega arith
@@ -41,8 +39,14 @@ loop-less c = omega arith
 loop-again : tie.Need-loop-again Inv-loop μ-loop
 loop-again c =
     let turn = c .before .before .before .before in
+    let loop = turn .before .loop in
     let a = turn .before .before .before .before .args in
-    (omega arith, wrote-more 8 (λ k. length-itemBytes (a .w) (a .big) (a .unsigned) _) (turn .before .loop .inv .1) refl (omega arith) (c .before .before .load-item .ensures))
+    let item = ap (λ (p : ℕ). storeAt (loop .area) (loop .place) (itemBytes (a .w) (a .big) (a .unsigned) (part (a .input .now) p (a .w)))) (loop .inv .2) in (
+      omega arith,
+      wrote-more 8 (λ k. length-itemBytes (a .w) (a .big) (a .unsigned) _) (loop .inv .1) (loop .inv .3) (omega arith) (c .before .before .load-item .ensures ∙ item),
+      omega (arith, loop .inv .2),
+      omega (arith, loop .inv .3),
+    )
 
 same-length : tie.Need-same-length Inv-loop μ-loop
 same-length c = c .before .loop .inv .1 .long
@@ -60,12 +64,10 @@ load-each-spec =
     Inv-loop
     μ-loop
     loop-holds
-    mul-load-item
-    add-load-item
-    mul-load-item-2
-    add-load-item-2
     load-item-requires
     add-i
+    add-from
+    add-place
     loop-less
     loop-again
     same-length

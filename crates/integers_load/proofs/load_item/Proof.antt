@@ -1,63 +1,49 @@
--- The filler, and then the field's bytes with the highest first, are the item's eight bytes.
+-- Each width has its own way, and its law is that of every width.
+use Rattle.integers_load.proofs.LoadedLaws.{one-byte}
 use borrow.Author.Needs.{needs}
-use Rattle.integers_load.proofs.LoadedLaws.{store-widened}
 use Rattle.integers_load.proofs.load_item.Statement.{statement}
 use Rattle.integers_load.proofs.load_item.Tie as tie
 
-place-requires : tie.Need-place-requires
-place-requires c κs = search needs
-
-add-filler : tie.Need-add-filler
-add-filler c = search needs
-
-shared-slice-read-filler : tie.Need-shared-slice-read-filler
-shared-slice-read-filler c = search needs
-
-filler-requires : tie.Need-filler-requires
-filler-requires c κs = search needs
-
-sub-fill : tie.Need-sub-fill
-sub-fill c = search needs
-
-fill-requires : tie.Need-fill-requires
-fill-requires c κs = search needs
-
-sub-copy-ordered : tie.Need-sub-copy-ordered
-sub-copy-ordered c = search needs
-
-add-copy-ordered : tie.Need-add-copy-ordered
-add-copy-ordered c = search needs
-
-copy-ordered-requires : tie.Need-copy-ordered-requires
-copy-ordered-requires c κs = search needs
+load-pair-requires : tie.Need-load-pair-requires
+load-pair-requires c κs = search needs
 
 same-length : tie.Need-same-length
 same-length c = search needs
 
 returns : tie.Need-returns
-returns c =
-    let copied = c .before .before in
-    let filled = copied .before .before .before .before in
-    let known = filled .before .before .before in
-    let placed = known .before in
-    let start = placed .before .before .before in
-    let a = start .args in
-    store-widened (a .area .now) (a .to) (a .input .now) (a .at) (a .w) (a .big) (a .unsigned) (placed .place .result) (filled .before .before .filler .result)
-    (λ i. known .shared-slice-known2 .given i .fits) (start .pre .0) (start .pre .1) (start .pre .2) (start .pre .3)
-    (placed .place .ensures .1) (placed .place .ensures .0) (filled .before .before .filler .ensures) (filled .fill .ensures) (copied .copy-ordered .ensures)
+returns c = rw (c .before .before .before .before .if1 .taken) (c .before .before .load-pair .ensures)
+
+load-four-requires : tie.Need-load-four-requires
+load-four-requires c κs = search needs
+
+same-length-2 : tie.Need-same-length-2
+same-length-2 c = search needs
+
+returns-2 : tie.Need-returns-2
+returns-2 c = rw (c .before .before .before .before .if2 .taken) (c .before .before .load-four .ensures)
+
+load-one-requires : tie.Need-load-one-requires
+load-one-requires c κs = search needs
+
+same-length-3 : tie.Need-same-length-3
+same-length-3 c = search needs
+
+returns-3 : tie.Need-returns-3
+returns-3 c =
+    let four = c .before .before .before .before in
+    let start = four .before .before .before .before in
+    rw (one-byte (start .args .w) (start .pre .0) (four .before .if1 .left) (four .if2 .left)) (c .before .before .load-one .ensures (start .args .big))
 
 pub load-item-spec : {M : Type 1} → statement M
 load-item-spec =
     tie.close
     (tie.spec
-    place-requires
-    add-filler
-    shared-slice-read-filler
-    filler-requires
-    sub-fill
-    fill-requires
-    sub-copy-ordered
-    add-copy-ordered
-    copy-ordered-requires
+    load-pair-requires
     same-length
-    returns)
+    returns
+    load-four-requires
+    same-length-2
+    returns-2
+    load-one-requires
+    same-length-3
+    returns-3)

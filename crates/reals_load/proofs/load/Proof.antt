@@ -1,5 +1,6 @@
 -- Singles have a loop of their own; doubles are read as unsigned integers of eight bytes.
 use native.Mathlib.Omega.{arith}
+use mathlib.Core.Path.{refl}
 use Rattle.reals_load.proofs.LoadLaws.{loaded-doubles}
 use borrow.Author.Needs.{needs}
 use Rattle.reals_load.proofs.load.Statement.{statement}
@@ -15,7 +16,7 @@ returns : tie.Need-returns
 returns c = rw (c .before .before .before .before .if1 .taken) (c .before .before .load-singles .ensures)
 
 load-requires : tie.Need-load-requires
-load-requires c κs = let pre = rw (c .before .if1 .left) at (c .before .before .before .before .pre) in (omega arith, omega arith, pre .0, pre .1)
+load-requires c κs = let pre = rw (c .before .if1 .left) at (c .before .before .before .before .pre) in ((omega arith, omega arith, refl), pre .0, pre .1)
 
 same-length-2 : tie.Need-same-length-2
 same-length-2 c = search needs

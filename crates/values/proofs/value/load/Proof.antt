@@ -2,7 +2,7 @@
 use native.Mathlib.Nat.{le-antisymm}
 use native.Mathlib.Omega.{arith}
 use Prim.Native.Nat.{_≤_}
-use mathlib.Core.Path.{_≡_, ap}
+use mathlib.Core.Path.{_≡_, refl, ap}
 use Rattle.layout.specs.Words.{lastData, typeNumbered, shapeNumbered}
 use Rattle.layout.proofs.Numbered.{past}
 use Rattle.values.proofs.Loads.{text-asked, digits-asked, integers-asked, reals-asked}
@@ -57,49 +57,49 @@ integers-requires : tie.Need-integers-requires
 unfolding shapeNumbered typeNumbered
 integers-requires c κs =
     let s = c .before .before .before .before in
-    integers-asked (s .args .u) _ _ (s .pre .0 .1) (s .pre .1) (ap shapeNumbered (c .before .match .keys7))
+    integers-asked (s .args .u) _ _ (s .pre .0 .1) (s .pre .1) (ap shapeNumbered (c .before .match .keys7)) refl
 
 integers-requires-2 : tie.Need-integers-requires-2
 unfolding shapeNumbered typeNumbered
 integers-requires-2 c κs =
     let s = c .before .before .before .before in
-    integers-asked (s .args .u) _ _ (s .pre .0 .1) (s .pre .1) (ap shapeNumbered (c .before .match .keys8))
+    integers-asked (s .args .u) _ _ (s .pre .0 .1) (s .pre .1) (ap shapeNumbered (c .before .match .keys8)) refl
 
 integers-requires-3 : tie.Need-integers-requires-3
 unfolding shapeNumbered typeNumbered
 integers-requires-3 c κs =
     let s = c .before .before .before .before in
-    integers-asked (s .args .u) _ _ (s .pre .0 .1) (s .pre .1) (ap shapeNumbered (c .before .match .keys9))
+    integers-asked (s .args .u) _ _ (s .pre .0 .1) (s .pre .1) (ap shapeNumbered (c .before .match .keys9)) refl
 
 integers-requires-4 : tie.Need-integers-requires-4
 unfolding shapeNumbered typeNumbered
 integers-requires-4 c κs =
     let s = c .before .before .before .before in
-    integers-asked (s .args .u) _ _ (s .pre .0 .1) (s .pre .1) (ap shapeNumbered (c .before .match .keys10))
+    integers-asked (s .args .u) _ _ (s .pre .0 .1) (s .pre .1) (ap shapeNumbered (c .before .match .keys10)) refl
 
 integers-requires-5 : tie.Need-integers-requires-5
 unfolding shapeNumbered typeNumbered
 integers-requires-5 c κs =
     let s = c .before .before .before .before in
-    integers-asked (s .args .u) _ _ (s .pre .0 .1) (s .pre .1) (ap shapeNumbered (c .before .match .keys11))
+    integers-asked (s .args .u) _ _ (s .pre .0 .1) (s .pre .1) (ap shapeNumbered (c .before .match .keys11)) refl
 
 integers-requires-6 : tie.Need-integers-requires-6
 unfolding shapeNumbered typeNumbered
 integers-requires-6 c κs =
     let s = c .before .before .before .before in
-    integers-asked (s .args .u) _ _ (s .pre .0 .1) (s .pre .1) (ap shapeNumbered (c .before .match .keys12))
+    integers-asked (s .args .u) _ _ (s .pre .0 .1) (s .pre .1) (ap shapeNumbered (c .before .match .keys12)) refl
 
 integers-requires-7 : tie.Need-integers-requires-7
 unfolding shapeNumbered typeNumbered
 integers-requires-7 c κs =
     let s = c .before .before .before .before in
-    integers-asked (s .args .u) _ _ (s .pre .0 .1) (s .pre .1) (ap shapeNumbered (c .before .match .keys13))
+    integers-asked (s .args .u) _ _ (s .pre .0 .1) (s .pre .1) (ap shapeNumbered (c .before .match .keys13)) refl
 
 integers-requires-8 : tie.Need-integers-requires-8
 unfolding shapeNumbered typeNumbered
 integers-requires-8 c κs =
     let s = c .before .before .before .before in
-    integers-asked (s .args .u) _ _ (s .pre .0 .1) (s .pre .1) (ap shapeNumbered (c .before .match .keys14))
+    integers-asked (s .args .u) _ _ (s .pre .0 .1) (s .pre .1) (ap shapeNumbered (c .before .match .keys14)) refl
 
 reals-requires : tie.Need-reals-requires
 unfolding shapeNumbered typeNumbered
