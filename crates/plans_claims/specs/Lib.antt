@@ -1,0 +1,3 @@
+-- What is claimed of plans, and worked examples.
+pub mod Claim
+pub mod Examples
