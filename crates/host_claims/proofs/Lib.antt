@@ -2,9 +2,9 @@
 mod Laws
 mod Agreeing
 mod OldShown
-mod ReadBack
-mod GivenBack
+pub mod ReadBack
+pub mod GivenBack
 mod Sheets
 mod Rescues
-mod Joined
+pub mod Joined
 mod Instance

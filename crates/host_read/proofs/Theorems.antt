@@ -28,7 +28,7 @@ unfolding numberBytes
 number-back x h = rw (reverse-reverse (digits 256 4 x), number-digits 256 4 x (omega arith)) (mod-eq-of-lt h)
 
 -- the second of a reply's numbers
-second-number : (x y : ℕ) (rest : List ℕ) → y < 4294967296 → numberAt numberSize (bytesOf (x ∷ y ∷ rest)) numberSize ≡ y
+pub second-number : (x y : ℕ) (rest : List ℕ) → y < 4294967296 → numberAt numberSize (bytesOf (x ∷ y ∷ rest)) numberSize ≡ y
 unfolding numberAt bytesOf bigEndian join
 second-number x y rest h =
     let front : drop numberSize (bytesOf (x ∷ y ∷ rest)) ≡ bytesOf (y ∷ rest) = drop-at (numberBytes numberSize x) (bytesOf (y ∷ rest)) numberSize (length-numberBytes numberSize x) in

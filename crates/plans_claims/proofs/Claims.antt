@@ -1,5 +1,5 @@
 -- The claims of specs/Claim.antt.
-use Prim.Native.Nat.{ℕ, _≤_}
+use Prim.Native.Nat.{ℕ, _≤_, _<_}
 use native.Mathlib.Omega.{arith}
 use mathlib.Core.Path.{_≡_, refl, sym, ap, _∙_}
 use mathlib.Core.Bool.{Bool, true, false}
@@ -46,6 +46,19 @@ made layout run z = go (prepares layout (length run)) refl z
           short = leb-true (length layout) maxLayout short;
           is = take-at (planOf fs) (drop (length fs) run) (length fs) (length-map fs wordFor);
         }
+    go (refused why place) e z = no-number-zero why z
+
+-- how many numbers it has fits a reply
+pub made-few : (layout run : List ℕ) → prepare layout run .answer .number ≡ 0 → prepare layout run .answer .first < 4294967296
+unfolding prepare prepares
+made-few layout run z = go (prepares layout (length run)) refl z
+  where
+    go : (o : Result (List Field)) → prepares layout (length run) ≡ o → prepareEffect run o .answer .number ≡ 0 → prepareEffect run o .answer .first < 4294967296
+    go (ok fs) e z =
+        let (short, e₁) = demanded (leb (length layout) maxLayout) BadSize 0 _ fs e in
+        let (gs, are, e₂) = bound (fieldsOf false layout) _ fs e₁ in
+        let (_, e₃) = demanded (leb (length gs) (length run)) NoRoom 0 (λ _. ok gs) fs e₂ in
+        omega (arith, leb-true (length layout) maxLayout short, fields-few false layout fs (are ∙ e₃))
     go (refused why place) e z = no-number-zero why z
 
 -- ---- the size counts only where it is over the limit

@@ -1,0 +1,3 @@
+-- The claims proved.
+pub mod Stands
+pub mod Later
