@@ -320,7 +320,7 @@ pub fn reading(
     call
 }
 
-fn random_read(dice: &mut Dice, scratch: &mut Scratch) -> Call {
+pub fn random_read(dice: &mut Dice, scratch: &mut Scratch) -> Call {
     let mut specs = random_specs(dice, false);
     let layout = spelled(dice, &mut specs);
     let mut record = random_record(dice, &specs, scratch);

@@ -122,6 +122,39 @@ extern "C" {
         reply: *mut u8,
         reply_len: usize,
     ) -> u32;
+    fn curlew_prepare(
+        layout: *const u8,
+        layout_len: usize,
+        plan: *mut u32,
+        plan_len: usize,
+        reply: *mut u8,
+        reply_len: usize,
+    ) -> u32;
+    fn curlew_pack_plan(
+        plan: *const u32,
+        plan_len: usize,
+        slots: *const u8,
+        slots_len: usize,
+        area: *const u8,
+        area_len: usize,
+        out: *mut u8,
+        out_len: usize,
+        reply: *mut u8,
+        reply_len: usize,
+    ) -> u32;
+    fn curlew_read_plan(
+        plan: *const u32,
+        plan_len: usize,
+        record: *const u8,
+        record_len: usize,
+        slots: *mut u8,
+        slots_len: usize,
+        area: *mut u8,
+        area_len: usize,
+        mark: usize,
+        reply: *mut u8,
+        reply_len: usize,
+    ) -> u32;
 }
 
 const GUARD: usize = 40;
@@ -221,4 +254,59 @@ pub fn by_library(call: &Call) -> (After, Vec<&'static str>) {
         }
     }
     (after, broken)
+}
+
+const GUARD_NUMBER: u32 = 0x5ac3_a53c;
+
+/// Lends a run of numbers between guard numbers; None where one of those changed.
+fn lend_numbers(run: &mut [u32], call: impl FnOnce(*mut u32, usize) -> u32) -> Option<u32> {
+    let mut all = vec![GUARD_NUMBER; GUARD];
+    all.extend_from_slice(run);
+    all.resize(run.len() + 2 * GUARD, GUARD_NUMBER);
+    let returned = call(all[GUARD..].as_mut_ptr(), run.len());
+    let (before, rest) = all.split_at(GUARD);
+    let (inside, behind) = rest.split_at(run.len());
+    run.copy_from_slice(inside);
+    let intact = before.iter().chain(behind).all(|&n| n == GUARD_NUMBER);
+    intact.then_some(returned)
+}
+
+/// Prepares a layout into the run; None where a guard changed.
+pub fn prepare(layout: &[u8], run: &mut [u32], reply: &mut Vec<u8>) -> Option<u32> {
+    let mut text = Lent::new(layout, run.len(), true);
+    let mut answer = Lent::new(reply, layout.len(), false);
+    let (at, len, to, to_len) = (text.pointer(), text.len, answer.pointer(), answer.len);
+    let returned = lend_numbers(run, |plan, plan_len| unsafe {
+        curlew_prepare(at, len, plan, plan_len, to, to_len)
+    })?;
+    *reply = answer.content();
+    (text.guarded() && text.content() == layout && answer.guarded()).then_some(returned)
+}
+
+/// Runs a packing or a reading by a plan in the place of its layout; None where a guard changed.
+pub fn by_plan(call: &Call, plan: &[u32]) -> Option<After> {
+    let mut after = call.untouched(0);
+    let runs = after.runs.lent(call.which).into_iter().skip(1);
+    let lend = |(nth, (_, run)): (usize, (&str, &mut Vec<u8>))| Lent::new(run, 5 * nth, call.null);
+    let mut lent: Vec<Lent> = runs.enumerate().map(lend).collect();
+    let at: Vec<*mut u8> = lent.iter_mut().map(Lent::pointer).collect();
+    let len: Vec<usize> = lent.iter().map(|run| run.len).collect();
+    let mut own = plan.to_vec();
+    after.returned = lend_numbers(&mut own, |plan, plan_len| unsafe {
+        if call.which == Which::Pack {
+            curlew_pack_plan(
+                plan, plan_len, at[0], len[0], at[1], len[1], at[2], len[2], at[3], len[3],
+            )
+        } else {
+            curlew_read_plan(
+                plan, plan_len, at[0], len[0], at[1], len[1], at[2], len[2], call.mark, at[3],
+                len[3],
+            )
+        }
+    })?;
+    let runs = after.runs.lent(call.which).into_iter().skip(1);
+    for ((_, run), lent) in runs.zip(&lent) {
+        *run = lent.content();
+    }
+    (own == plan && lent.iter().all(Lent::guarded)).then_some(after)
 }

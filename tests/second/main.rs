@@ -23,6 +23,7 @@ mod nearest;
 mod packer;
 mod perl;
 mod perl_calls;
+mod plan_calls;
 mod promises;
 mod promises_calls;
 mod reader;
@@ -61,6 +62,7 @@ fn roll(seed: u64, rounds: u64, tally: &mut Tally) {
         layout_calls::round(&mut dice, &mut scratch, tally);
         promises_calls::round(&mut dice, tally);
         row_calls::round(&mut dice, &mut scratch, tally);
+        plan_calls::round(&mut dice, &mut scratch, tally);
         lossless::round(&mut dice, tally);
         glue_calls::round(&mut dice, tally);
         real_calls::round(&mut dice, tally);
