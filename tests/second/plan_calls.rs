@@ -5,9 +5,7 @@ use crate::calls::{damage_text, random_pack, random_read, Scratch};
 use crate::dice::Dice;
 use crate::layouts::{random_specs, spelled};
 use crate::library::{by_plan, prepare};
-use crate::limits::{
-    FIELDS_REPLY_BYTES, LAYOUT_MAX, READ_REPLY_BYTES, REPLY_BYTES, ROW_BYTES,
-};
+use crate::limits::{FIELDS_REPLY_BYTES, LAYOUT_MAX, READ_REPLY_BYTES, REPLY_BYTES, ROW_BYTES};
 use crate::rows::{Row, NO_SLOT, STAR};
 
 const OLD: u32 = 0x6d6d_6d6d;
@@ -28,7 +26,11 @@ fn judged(layout: &[u8], room: usize) -> Result<Vec<Row>, [u32; 3]> {
     }
     let all = numbers(&after.report);
     let row = |r: &[u32]| [r[0], r[1], r[2], r[3], r[4], r[5], r[6], r[7]];
-    Ok(all.chunks_exact(8).take(answer[1] as usize).map(row).collect())
+    Ok(all
+        .chunks_exact(8)
+        .take(answer[1] as usize)
+        .map(row)
+        .collect())
 }
 
 /// Prepares the layout into so many numbers; gives the plan and its rows where it is accepted.
