@@ -544,7 +544,7 @@ uint32_t curlew_read(const void *layout, size_t layout_len,
  *
  *   uint32_t plan[CURLEW_MAX_PLAN];
  *   number = curlew_prepare(layout, strlen(layout), plan, CURLEW_MAX_PLAN, reply, CURLEW_PREPARE_REPLY);
- *   fields = curlew_get_answer(reply).first;
+ *   planned = number == CURLEW_OK ? curlew_get_answer(reply).first : 0;
  */
 uint32_t curlew_prepare(const void *layout, size_t layout_len,
                         uint32_t *plan, size_t plan_len,
@@ -573,7 +573,7 @@ uint32_t curlew_prepare(const void *layout, size_t layout_len,
  *
  * EXAMPLES
  *
- *   number = curlew_pack_plan(plan, fields, table.slots, table.slots_used, table.area, table.area_used,
+ *   number = curlew_pack_plan(plan, planned, table.slots, table.slots_used, table.area, table.area_used,
  *                             record, sizeof record, reply, CURLEW_PACK_REPLY);
  */
 uint32_t curlew_pack_plan(const uint32_t *plan, size_t plan_len,
@@ -604,7 +604,7 @@ uint32_t curlew_pack_plan(const uint32_t *plan, size_t plan_len,
  *
  * EXAMPLES
  *
- *   number = curlew_read_plan(plan, fields, record, length, table.slots, table.slots_room,
+ *   number = curlew_read_plan(plan, planned, record, length, table.slots, table.slots_room,
  *                             table.area, table.area_room, 0, reply, CURLEW_READ_REPLY);
  */
 uint32_t curlew_read_plan(const uint32_t *plan, size_t plan_len,

@@ -16,7 +16,7 @@ int main(void)
     uint8_t report[3 * CURLEW_FINDING_SIZE], fields[CURLEW_MAX_LAYOUT * CURLEW_FIELD_SIZE];
     struct curlew_table table = curlew_table_over(slots, sizeof slots, area, sizeof area);
     char made[CURLEW_MAX_LAYOUT];
-    size_t length = 0, copy_length = sizeof copy, added = 0, i;
+    size_t length = 0, copy_length = sizeof copy, planned = 0, added = 0, i;
     int marked = 0, same = 0, grows = 0, served = 0;
     uint32_t number = CURLEW_OK;
     int64_t mark = 0;
@@ -27,6 +27,7 @@ int main(void)
     curlew_table_add_int(&table, 5);
 #include "lines.h"
     check(mark == 5 && marked, "curlew_read", "the third mark");
+    check(planned == 3, "curlew_prepare", "a number for each field");
     check(curlew_table_count(&table) == 3 && same, "curlew_compare", "the name");
     check(mean == 5.0, "curlew_mean", "the mean of the third leg");
     check(grows && added == 1, "curlew_extends", "one field added");
