@@ -62,6 +62,7 @@ $(ARCHIVE): $(CRATES)
 	@echo "proving and building $(ARCHIVE) (about five minutes from nothing on two cores)"
 	@tools/progress target/staticlib.out rt check curlew
 	@rt staticlib curlew >> target/staticlib.out 2>&1 || { tail -n 40 target/staticlib.out; exit 1; }
+	@sha256sum $(ARCHIVE) > target/staticlib.sum
 
 target/man3/%.3: include/curlew.h docs/CHANGES.md tools/man.awk
 	@mkdir -p target/man3

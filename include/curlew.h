@@ -217,7 +217,7 @@
  *                            the report does not hold the findings; a layout
  *                            from Perl is longer than its run or
  *                            CURLEW_MAX_LAYOUT; the run does not hold the rows
- *                            of the fields;
+ *                            of the fields, or the plan;
  *                            extends: the record of the new layout is longer        extends: byte of the first
  *                            than CURLEW_MAX_RECORD                                 field that ends past it
  *   12   CURLEW_BAD_SHEET    the sheet is too short or its header's length is       0
@@ -233,6 +233,8 @@
  *   18   CURLEW_NOT_PLAIN    extends: the new layout has a field that keeps it      byte of that field
  *                            from growing
  *
+ * Where packing or reading goes by a plan, the place of 2, 3 and 4 is the number of the field.
+ *
  * The checks are made in the order that each call says. No byte is written before the last of them: a refusal writes
  * the reply and nothing else. A reply of a wrong size makes the call return 1 and write nothing at all.
  *
@@ -247,20 +249,22 @@
  *   count in a layout       at most CURLEW_MAX_COUNT        32,768 (from Perl: 4,096)
  *   template of Perl        at most CURLEW_MAX_TEMPLATE        256 bytes
  *   legs of a rescue        at most CURLEW_MAX_SLOTS            64
- *   reply                   exactly CURLEW_PACK_REPLY, CURLEW_READ_REPLY, CURLEW_SHEET_REPLY, CURLEW_RESCUE_REPLY,
- *                           CURLEW_COMPARE_REPLY, CURLEW_MEAN_REPLY, CURLEW_PERL_REPLY,
+ *   plan                    at most CURLEW_MAX_PLAN            256 numbers of 32 bits
+ *   reply                   exactly CURLEW_PACK_REPLY, CURLEW_READ_REPLY, CURLEW_PREPARE_REPLY, CURLEW_SHEET_REPLY,
+ *                           CURLEW_RESCUE_REPLY, CURLEW_COMPARE_REPLY, CURLEW_MEAN_REPLY, CURLEW_PERL_REPLY,
  *                           CURLEW_LAYOUT_REPLY, CURLEW_FIELDS_REPLY, CURLEW_PROMISES_REPLY or
  *                           CURLEW_EXTENDS_REPLY bytes
  *
  * Number 1 compares the lengths that you give to a call with these limits. The output run must be no larger than a
- * record may be, even where the result is short, and so must the run for a sheet. The report of curlew_compare, the
- * run for a layout from Perl and the run for a layout's fields may have any length. A run of length 0 may be a null
- * pointer.
+ * record may be, even where the result is short, and so must the run for a sheet. The report of curlew_compare and
+ * the runs for a layout from Perl, for a layout's fields and for a plan may have any length. A run of length 0 may be
+ * a null pointer.
  *
  *
  * YOUR DUTY
  *
- * - Every pointer leads to as many bytes as the length beside it says.
+ * - Every pointer leads to as many bytes as the length beside it says, that of a plan to as many numbers of type
+ *   uint32_t.
  * - No run that a call writes (each is said at the call's declaration) overlaps any other run given to the same
  *   call. Runs that are only read may overlap one another.
  * - Nobody else writes any of these runs until the call returns.
