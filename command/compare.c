@@ -126,9 +126,8 @@ static int compare_records(struct pair *pair)
 
         while (set < pair->fields && curlew_get_slot(pair->values[side].slots, set).kind != CURLEW_UNSET)
             set++;
-        pair->over[side] = set < pair->fields ? 0
-                                              : pair->lengths[side] - bytes_of_fields(pair->layout, &pair->values[side],
-                                                                                      set, pair->lengths[side], 1);
+        pair->over[side] =
+            pair->lengths[side] - bytes_of_fields(pair->layout, &pair->values[side], set, pair->lengths[side], 1);
     }
     return DONE;
 }

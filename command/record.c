@@ -274,12 +274,11 @@ static void record_json(struct desk *desk, const struct record *record)
     text_string(out, "]}\n");
 }
 
-/* How many of its bytes belong to no field. Of a record that ends inside a field these are none of them. */
+/* How many of its bytes belong to no field that is set. */
 static size_t bytes_of_no_field(const struct desk *desk, const struct record *record)
 {
-    if (record->answer.answer.first < desk->layout->values)
-        return 0;
-    return record->length - bytes_of_fields(desk->layout, &desk->values, desk->layout->values, record->length, 1);
+    return record->length -
+           bytes_of_fields(desk->layout, &desk->values, record->answer.answer.first, record->length, 1);
 }
 
 void note_over(const struct options *options, uint64_t records, uint64_t bytes)

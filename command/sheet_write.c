@@ -10,7 +10,7 @@
 static int over_noted(const struct options *options, const struct layout *layout, const struct values *values,
                       size_t set, size_t length)
 {
-    size_t over = set < layout->values ? 0 : length - bytes_of_fields(layout, values, set, length, 1);
+    size_t over = length - bytes_of_fields(layout, values, set, length, 1);
     int strict = has(options, OPTION_STRICT);
 
     if (over > 0)

@@ -677,10 +677,12 @@ void mean_where(struct text *to, const struct means *means,
 void mean_ready(struct means *means); /* chooses the legs, once their names are known, and writes the head */
 void mean_show(struct means *means, const struct result *result);
 
-/* ---- what several subcommands use ---- */
+/* ---- lengths.c ---- */
 
 /* The length of a record in a file of them, 0 where all of the file is one record. Returns the status. */
 int record_length(const struct layout *layout, const struct options *options, size_t *length);
+
+/* ---- what several subcommands use ---- */
 
 int values_suit(const struct layout *layout, size_t count); /* status */
 struct curlew_answer values_checked(const struct layout *layout, const struct values *values, uint8_t *record);
