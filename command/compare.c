@@ -282,6 +282,7 @@ static int compare_sheets(struct comparing *comparing)
     struct pair *pair = &comparing->pair;
     int status = DONE, side, found[2] = {1, 1};
 
+    pair->many = comparing->options->form != PEOPLE;
     for (side = 0; side < 2; side++)
         if (sheets_open(&comparing->sheets[side], pair->files[side]) != DONE)
             status = TROUBLE;
