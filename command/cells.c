@@ -118,12 +118,23 @@ static size_t guard_of(const struct cells *cells, const char *bytes, size_t leng
 
 /* ---- the head ---- */
 
+/* A table of one column may be one whose cells something else parts. */
+static void advise_separator(const struct cells *cells)
+{
+    const char *head = cells->columns == 1 && cells->head.count == 1 ? cells->head.text[0] : "";
+
+    if (cells->form == CSV && strchr(head, ';') != NULL)
+        advise("It looks as if semicolons stood between the cells: save the table with commas.");
+    else if (cells->form == CSV && strchr(head, '\t') != NULL)
+        advise("It looks as if tabs stood between the cells: --tsv takes such a table.");
+    else if (cells->form == TSV && strchr(head, ',') != NULL)
+        advise("It looks as if commas stood between the cells: --csv takes such a table.");
+}
+
 static int no_column(struct cells *cells, size_t column, const char *what)
 {
     complain("%s: column %lu, \"%s\": %s", cells_source(cells), (unsigned long)column, cells->head.text[column], what);
-    if (cells->columns == 1 && strchr(cells->head.text[0], cells->form == CSV ? ';' : ',') != NULL)
-        advise("It looks as if %s stood between the cells: save the table with %s.",
-               cells->form == CSV ? "semicolons" : "commas", cells->form == CSV ? "commas" : "tabs");
+    advise_separator(cells);
     return REFUSED;
 }
 
@@ -162,10 +173,12 @@ static int missing_columns(struct cells *cells, const struct layout *layout, int
         complain("note: %s: there is no column for %.*s: not marked in every row", cells_source(cells),
                  (int)without.length, without.bytes);
     else if (count > 0)
-        complain("%s: it has %lu columns, and the layout %lu values", cells_source(cells),
-                 (unsigned long)cells->columns, (unsigned long)layout->values);
-    if (count > 0 && !by_name)
+        complain("%s: it has %lu column%s, and the layout %lu values", cells_source(cells), (unsigned long)cells->columns,
+                 cells->columns == 1 ? "" : "s", (unsigned long)layout->values);
+    if (count > 0 && !by_name) {
+        advise_separator(cells);
         advise("Give the names of the fields (--names, --layout): then a column may be missing.");
+    }
     text_free(&without);
     return count > 0 && !by_name ? REFUSED : DONE;
 }
