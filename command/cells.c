@@ -173,8 +173,8 @@ static int missing_columns(struct cells *cells, const struct layout *layout, int
         complain("note: %s: there is no column for %.*s: not marked in every row", cells_source(cells),
                  (int)without.length, without.bytes);
     else if (count > 0)
-        complain("%s: it has %lu column%s, and the layout %lu values", cells_source(cells), (unsigned long)cells->columns,
-                 cells->columns == 1 ? "" : "s", (unsigned long)layout->values);
+        complain("%s: it has %lu column%s, and the layout %lu values", cells_source(cells),
+                 (unsigned long)cells->columns, cells->columns == 1 ? "" : "s", (unsigned long)layout->values);
     if (count > 0 && !by_name) {
         advise_separator(cells);
         advise("Give the names of the fields (--names, --layout): then a column may be missing.");

@@ -189,8 +189,12 @@ static void show_counts(struct comparing *comparing)
         else
             text_count(out, comparing->fields, "entry differs\n", "entries differ\n");
     }
+    if ((comparing->options->form == TSV || comparing->options->form == CSV) && !comparing->headed) {
+        comparing->pair.fields = 0;
+        pair_rows(&comparing->pair, comparing->options->form, !has(comparing->options, OPTION_NO_HEAD), out);
+    }
     output_text(out);
-    if (comparing->options->form != PEOPLE && comparing->options->form != JSON && comparing->remarks > 0)
+    if (comparing->options->form != PEOPLE && comparing->remarks > 0)
         complain("note: lengths differ, or bytes belong to no field, in %llu of %llu records",
                  (unsigned long long)comparing->remarks, (unsigned long long)comparing->pairs);
 }
@@ -343,10 +347,7 @@ static int run(struct options *options, const struct layout *layout, const struc
     if (status != DONE)
         return status;
     comparing.options = options;
-    choose_fields(&columns, options, names,
-                  layout != NULL     ? layout->values
-                  : names->count > 0 ? names->count
-                                     : CURLEW_MAX_SLOTS);
+    choose_fields(&columns, options, names, layout != NULL ? layout->values : CURLEW_MAX_SLOTS);
     pair_start(&comparing.pair, options, layout, names, &columns);
     status = compare(&comparing, length);
     pair_end(&comparing.pair);

@@ -104,6 +104,12 @@ static int stays_unmarked(struct packing *packing, size_t length)
 
 static int length_suits(struct packing *packing, size_t length)
 {
+    if (length == 0) {
+        complain("%s: its record has no bytes, and a file of such records cannot tell how many there are",
+                 cells_where(&packing->cells, packing->cells.columns));
+        advise("Keep sheets: curlew sheet write.");
+        return 0;
+    }
     if (packing->packed == 0)
         packing->length = length;
     if (length == packing->length)
