@@ -11,9 +11,9 @@ use Rattle.layout.specs.Refusals.{if_then_else_, numberOf}
 use Rattle.layout.specs.Layout.{maxLayout}
 use Rattle.layout.proofs.Laws.{no-number-zero}
 use Rattle.record.specs.declared.Answer.{Answer}
-use Rattle.record.specs.Packing.{Packed}
-use Rattle.record.specs.Reading.{ReadAll, read, readSteps}
-use Rattle.host.specs.Host.{slotSize, replySize, longReplySize, replyOf, PackCall, packCall, readCall}
+use Rattle.record.specs.Packing.{Packed, refusal}
+use Rattle.record.specs.Reading.{ReadAll}
+use Rattle.host.specs.Host.{slotSize, replySize, longReplySize, replyOf, PackCall, packCall, guarded}
 use Rattle.host_numbers.specs.Numbers.{numbersIn, bytesOf}
 use Rattle.host_pack.specs.Calls.{curlewPack}
 use Rattle.host_read.specs.Calls.{stepsCall, curlewRead}
@@ -38,19 +38,25 @@ alike-call h = record {
 alike-same : {p q : PackCall} → p ≡ q → HostAlike p q
 alike-same e = rw e (record { returned = refl; output = refl; reply = λ h. refl })
 
-guarded-alike : (a b : Bool) {x y p q : PackCall} → HostAlike p q → HostAlike (if a then (if b then p else y) else x) (if a then (if b then q else y) else x)
-guarded-alike true true h = h
-guarded-alike true false h = alike-same refl
-guarded-alike false b h = alike-same refl
+guarded-alike : (a b : Bool) (x y : PackCall) {p q : PackCall} → HostAlike p q → HostAlike (if a then (if b then p else y) else x) (if a then (if b then q else y) else x)
+guarded-alike true true x y h = h
+guarded-alike true false x y h = alike-same refl
+guarded-alike false b x y h = alike-same refl
 
 stands : (layout plan : List ℕ) → StandsFor layout plan → HostStandsFor layout plan
 unfolding curlewPackPlan curlewPack curlewReadPlan curlewRead
 stands layout plan s = record {
   packs =
       λ slots area output reply.
-      guarded-alike (eqb (length reply) replySize) (eqb (length slots % slotSize) 0) (alike-call (s .packs (numbersIn slots) area output));
+      guarded-alike (eqb (length reply) replySize) (eqb (length slots % slotSize) 0) (record { returned = numberOf BadSize; output = output; reply = reply })
+      (packCall (record { answer = refusal BadSize 0; output = output })) (alike-call (s .packs (numbersIn slots) area output));
   packs-same = λ fs e slots area output reply. rw (s .packs-same fs e (numbersIn slots) area output);
-  reads = λ bytes slots area mark reply. rw (s .reads bytes (numbersIn slots) area mark);
+  reads =
+      λ bytes slots area mark reply.
+      ap
+      (λ (x : ReadAll). guarded longReplySize reply slots (record { returned = numberOf BadSize; slots = slots; area = area; reply = reply })
+      (stepsCall slots (record { answer = record { answer = refusal BadSize 0; steps = 0 }; slots = numbersIn slots; area = area })) (stepsCall slots x))
+      (s .reads bytes (numbersIn slots) area mark);
 }
 
 -- ---- the plan that the reply tells of
