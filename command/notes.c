@@ -73,6 +73,7 @@ const char *loss_words(enum loss loss)
     case LOSS_LARGE: return "a real is beyond the largest single, which is stored in its place";
     case LOSS_SMALL: return "a real is too small for a single, and 0 is stored in its place";
     case LOSS_DIGITS: return "it has fewer digits than the field, and 0 is stored for those that are missing";
+    case LOSS_SPELLING: return "a number has a zero or a + in front, and only the number is kept";
     default: return "it ends with a blank or a zero byte, which reading A takes off";
     }
 }
@@ -100,6 +101,23 @@ int values_noted(const struct layout *layout, const struct values *values, const
 
 /* ---- the same over a table: a million rows have no note each ---- */
 
+/* Whether a number of the cell is written otherwise than it will be shown: 00417 should stand in a text. */
+static int spelled_otherwise(const struct cells *cells, const struct field *field, size_t column)
+{
+    const struct cell_in *cell = column < cells->columns ? &cells->cells[column] : NULL;
+    const char *bytes;
+    size_t i;
+
+    if (cell == NULL || cell->length < 2 || field_value(field) != INTEGERS)
+        return 0;
+    bytes = cells->bytes.bytes + cell->start;
+    for (i = 0; i + 1 < cell->length; i++)
+        if ((i == 0 || bytes[i - 1] == ' ' || bytes[i - 1] == '-') &&
+            (bytes[i] == '+' || (bytes[i] == '0' && bytes[i + 1] >= '0' && bytes[i + 1] <= '9')))
+            return 1;
+    return 0;
+}
+
 int losses_counted(struct losses *losses, const struct layout *layout, const struct values *values, struct cells *cells,
                    const struct options *options)
 {
@@ -109,6 +127,8 @@ int losses_counted(struct losses *losses, const struct layout *layout, const str
     for (i = 0; i < layout->values; i++) {
         unsigned found = value_losses(&layout->value_fields[i], values, i);
 
+        if (spelled_otherwise(cells, &layout->value_fields[i], cells->column_of[i]))
+            found |= 1u << LOSS_SPELLING;
         for (loss = 0; found != 0 && loss < LOSSES; loss++)
             if (found & 1u << loss) {
                 if (has(options, OPTION_STRICT)) {

@@ -104,6 +104,8 @@ static int stays_unmarked(struct packing *packing, size_t length)
 
 static int length_suits(struct packing *packing, size_t length)
 {
+    if (length == 0 && packing->begin.values < packing->layout->values)
+        return not_marked(packing, packing->begin.values, "a record without a value has no bytes");
     if (length == 0) {
         complain("%s: its record has no bytes, and a file of such records cannot tell how many there are",
                  cells_where(&packing->cells, packing->cells.columns));

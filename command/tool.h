@@ -388,7 +388,7 @@ int values_from_arguments(struct values *values, const struct layout *layout, co
 
 /* ---- notes.c: what a record will not hold of a value ---- */
 
-enum loss { LOSS_END, LOSS_BITS, LOSS_LARGE, LOSS_SMALL, LOSS_DIGITS, LOSS_BLANKS, LOSSES };
+enum loss { LOSS_END, LOSS_BITS, LOSS_LARGE, LOSS_SMALL, LOSS_DIGITS, LOSS_BLANKS, LOSS_SPELLING, LOSSES };
 
 unsigned value_losses(const struct field *field, const struct values *values, size_t index); /* bits 1 << loss */
 const char *loss_words(enum loss loss);
