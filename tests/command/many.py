@@ -1,8 +1,8 @@
 """Random candidates, many at once: means beside Python's own division, and what compare finds beside what was changed, over records and over sheets.
 many.py [rounds]; the last line says 'N passed, M failed'."""
-import csv, io, random, subprocess, sys
+import csv, io, os, random, subprocess, sys
 
-SEED = 3737
+SEED = int(os.environ.get("CURLEW_SEED") or 3737)
 ROUNDS = int(sys.argv[1]) if len(sys.argv) > 1 else 40
 NAMES = ["number", "name", "written", "oral", "steno", "strip"]
 LAYOUT = "a6 A12 Su Su I b10"
@@ -41,7 +41,7 @@ def value(index):
     if index == 0:
         return "C%05d" % dice.randint(0, 99999)
     if index == 1:
-        return "".join(dice.choice("abc XYZ,'\"é") for _ in range(dice.randint(1, 10))).strip() or "n"
+        return "".join(dice.choice("abc XYZ,'\"é") for _ in range(dice.randint(1, 6))).strip() or "n"
     if index == 5:
         return "".join(dice.choice("01") for _ in range(10))
     return mark(index)

@@ -1,8 +1,8 @@
 """Random tables: packed and read, kept as sheets and read, with commas, with tabs and as JSON, the cells are the same; Python's csv and json
 make and read them. tables.py [rounds]; the last line says 'N passed, M failed'."""
-import csv, io, json, random, struct, subprocess, sys
+import csv, io, json, os, random, struct, subprocess, sys
 
-SEED = 37
+SEED = int(os.environ.get("CURLEW_SEED") or 37)
 ROUNDS = int(sys.argv[1]) if len(sys.argv) > 1 else 150
 dice = random.Random(SEED)
 wrong = []

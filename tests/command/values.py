@@ -1,7 +1,7 @@
 """Random layouts and values: pack, read, layout, sheets and compare beside Python's struct. values.py [rounds]; the last line says 'N passed, M failed'."""
-import json, math, random, struct, subprocess, sys
+import json, math, os, random, struct, subprocess, sys
 
-SEED = 26
+SEED = int(os.environ.get("CURLEW_SEED") or 26)
 ROUNDS = int(sys.argv[1]) if len(sys.argv) > 1 else 250
 NUMBERS = {"c": "<b", "s": "<h", "S": ">h", "i": "<i", "I": ">i", "w": "<q", "W": ">q", "r": "<f", "R": ">f", "q": "<d", "Q": ">d"}
 dice = random.Random(SEED)
