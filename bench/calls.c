@@ -1,11 +1,11 @@
 /*
- * The calls of our library, of the twin, of plain C and of the layout written out by hand, made once, timed and shown;
- * and memcpy and memcmp beside them.
+ * The calls of our library, by layouts and by plans, of the twin, of plain C, also with its fields kept, and of the
+ * layout written out by hand, made once, timed and shown; and memcpy and memcmp beside them.
  */
 #include "peers.h"
 
-pack_call plain_pack, hand_pack;
-read_call plain_read, hand_read;
+pack_call plain_pack, kept_pack, hand_pack;
+read_call plain_read, kept_read, hand_read;
 #ifndef NO_TWIN
 pack_call twin_pack;
 read_call twin_read;
@@ -14,14 +14,32 @@ sheet_read_call twin_sheet_read;
 compare_call twin_compare;
 #endif
 
+static uint32_t plan_pack(const void *plan, size_t plan_len, const uint8_t *slots, size_t slots_len,
+                          const uint8_t *area, size_t area_len, uint8_t *out, size_t out_len,
+                          uint8_t *reply, size_t reply_len)
+{
+    return curlew_pack_plan((const uint32_t *)plan, plan_len, slots, slots_len, area, area_len, out, out_len,
+                            reply, reply_len);
+}
+
+static uint32_t plan_read(const void *plan, size_t plan_len, const uint8_t *record, size_t record_len,
+                          uint8_t *slots, size_t slots_len, uint8_t *area, size_t area_len, size_t mark,
+                          uint8_t *reply, size_t reply_len)
+{
+    return curlew_read_plan((const uint32_t *)plan, plan_len, record, record_len, slots, slots_len, area, area_len,
+                            mark, reply, reply_len);
+}
+
 const struct library libraries[] = {
-    {"ours", curlew_pack, curlew_read, curlew_sheet_write, curlew_sheet_read, curlew_compare},
+    {"ours", TEXT, curlew_pack, curlew_read, curlew_sheet_write, curlew_sheet_read, curlew_compare},
+    {"plan", PLAN, plan_pack, plan_read, NULL, NULL, NULL},
 #ifndef NO_TWIN
-    {"twin", twin_pack, twin_read, twin_sheet_write, twin_sheet_read, twin_compare},
+    {"twin", TEXT, twin_pack, twin_read, twin_sheet_write, twin_sheet_read, twin_compare},
 #endif
-    {"plain", plain_pack, plain_read, NULL, NULL, NULL},
-    {"hand", hand_pack, hand_read, NULL, NULL, NULL},
-    {NULL, NULL, NULL, NULL, NULL, NULL},
+    {"plain", TEXT, plain_pack, plain_read, NULL, NULL, NULL},
+    {"kept", KEPT, kept_pack, kept_read, NULL, NULL, NULL},
+    {"hand", TEXT, hand_pack, hand_read, NULL, NULL, NULL},
+    {NULL, TEXT, NULL, NULL, NULL, NULL, NULL},
 };
 
 const struct library *find_library(const char *name)
@@ -105,7 +123,7 @@ static void show_table(size_t count)
 
 static uint32_t pack_once(const struct library *lib, const struct work *w)
 {
-    return lib->pack(w->pack_layout.text, w->pack_layout.length, w->slots,
+    return lib->pack(w->pack_layout.as[lib->form].at, w->pack_layout.as[lib->form].length, w->slots,
                      w->count * CURLEW_SLOT_SIZE, w->area, w->used, out.bytes, CURLEW_MAX_RECORD,
                      packed, sizeof packed);
 }
@@ -113,8 +131,8 @@ static uint32_t pack_once(const struct library *lib, const struct work *w)
 static uint32_t read_into(struct table *t, const struct library *lib, const struct work *w,
                           const uint8_t *record, size_t record_len)
 {
-    return lib->read(w->read_layout.text, w->read_layout.length, record, record_len,
-                     t->slots, w->count * CURLEW_SLOT_SIZE, t->area, sizeof t->area, 0, reply, sizeof reply);
+    return lib->read(w->read_layout.as[lib->form].at, w->read_layout.as[lib->form].length, record, record_len,
+                     t->slots, w->count * CURLEW_SLOT_SIZE, t->area, w->room, 0, reply, sizeof reply);
 }
 
 static uint32_t read_once(const struct library *lib, const struct work *w)

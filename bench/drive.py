@@ -12,7 +12,7 @@ import sys
 from statistics import median, quantiles
 
 import count
-from workloads import (BYTE_COUNTS, CALLS, DIGIT_COUNTS, FIELD_COUNTS, PAIR_CALLS, SHEET_CALLS, crowd_sum,
+from workloads import (BYTE_COUNTS, CALLS, DIGIT_COUNTS, FIELD_COUNTS, PAIR_CALLS, SHEET_CALLS, USUAL, crowd_sum,
                        long_workloads, main_workloads, pairs, step_bound, tables, workloads)
 
 ROUNDS = int(os.environ.get("BENCH_ROUNDS", "15"))
@@ -20,17 +20,22 @@ SLICE = int(float(os.environ.get("BENCH_MILLISECONDS", "3")) * 1e6)
 CROWD = int(os.environ.get("BENCH_RECORDS", "1000000"))
 CROWD_ROUNDS = int(os.environ.get("BENCH_CROWD_ROUNDS", "9"))
 NAMES = {"ours": "ours", "plain": "plain C", "twin": "Rust twin", "tcl": "Tcl", "perl": "Perl", "python": "Python"}
-TITLES = {"w1": "w1 small mark record", "w2": "w2 b4096; b*, 4096 bytes", "w3": "w3 s2000", "w4": "w4 a4096",
-          "w5": "w5 64 fields of c", "i1000": "i1000", "I1000": "I1000", "c1000": "c1000", "q500": "500 doubles",
+TITLES = {"w1": "w1 small mark record", USUAL: "w1, area of 256 bytes", "w2": "w2 b4096; b*, 4096 bytes",
+          "w3": "w3 s2000", "w4": "w4 a4096", "w5": "w5 64 fields of c", "i1000": "i1000", "I1000": "I1000", "c1000": "c1000", "q500": "500 doubles",
           "r1000": "1,000 singles", "a32768": "a32768", "b262144": "b32768; b*, 32,768 bytes", "s16000": "s16000",
           "b4096": "b4096, 512 bytes",
           "t8": "table of 8 slots", "t60000": "value of 60,000 bytes", "t500000": "value of 500,000 bytes",
           "same-w1": "w1 twice", "other-a4096": "a4096, one byte differs", "same-a4096": "a4096 twice"}
 LIBRARIES = ("ours", "twin")
 IN_C = (*LIBRARIES, "plain")
-PLAIN_GOAL = 1.2
+PLANS = ("plan", "kept")
+PREPARED = ("w1", "w4", "w5")
+PLAIN_GOAL = 1.1
+KEPT_GOAL = 1.25
 HAND_GOAL = 5.0
-TWIN_GOAL = 1.5
+HAND_GOALS = {"pack": 4.6, "read": 1.25}
+PLAN_TCL_GOALS = {("w5", "pack"): 2.3}
+TWIN_GOAL = 1.0
 COPY_GOAL = 2.0
 MEMCMP_GOAL = 4.0
 CROWD_GOAL = 0.9
@@ -41,7 +46,7 @@ STRIP_TCL_GOAL = 8.0
 READ_TCL_GOAL = 8.0
 TCL_GOAL = 2.0
 LONG_STRINGS = ("w4", "a32768")
-PLAIN_GOALS = {"q500": 1.3, "r1000": 3.0}
+PLAIN_GOALS = {"r1000": 1.25}
 
 
 def tcl_goal(name, call):
@@ -56,9 +61,9 @@ def plain_goal(name):
 
 
 def main_rows():
-    """The calls in the main table. Of b4096, w2 has the packing already."""
+    """The calls in the main table. Of b4096, w2 has the packing already, and of the area of usual size w1."""
     for work in main_workloads() + long_workloads():
-        for call in CALLS:
+        for call in CALLS if work.name != USUAL else CALLS[1:]:
             yield work.name, call
         if work.name == "w2":
             yield "b4096", "read"
@@ -112,12 +117,17 @@ def library_cases():
         yield pair, PAIR_CALLS, "memcmp" if pair.name == "same-a4096" else None
 
 
+def knows(peer, name):
+    """Whether a peer packs and reads a workload."""
+    return peer in NAMES or (peer, name) == ("hand", "w1") or (peer in PLANS and name in PREPARED)
+
+
 def cases(peers):
     """What is timed: peer, workload, call."""
     for work in workloads():
         for call in CALLS:
             for peer in peers:
-                if peer in NAMES or (peer, work.name) in (("memcpy", "w4"), ("hand", "w1")):
+                if knows(peer, work.name) or (peer, work.name) == ("memcpy", "w4"):
                     yield peer, work.name, call
     for work, calls, beside in library_cases():
         for call in calls:
@@ -132,8 +142,7 @@ def check_same(serving):
         for call in CALLS:
             expected = serving["ours"].ask(f"show ours {work.name} {call}")
             for peer, process in serving.items():
-                known = peer in NAMES or (peer, work.name) == ("hand", "w1")
-                if known and process.ask(f"show {peer} {work.name} {call}") != expected:
+                if knows(peer, work.name) and process.ask(f"show {peer} {work.name} {call}") != expected:
                     sys.exit(f"{NAMES.get(peer, peer)} and ours differ on {work.name} {call}")
     for work, calls, beside in library_cases():
         for call in calls:
@@ -192,14 +201,14 @@ def run_crowd(serving):
     return rates
 
 
-def ratios(times, peer, name, call):
+def ratios(times, peer, name, call, own="ours"):
     """The peer's time over ours, one entry a round; empty where the peer is missing."""
-    return [theirs / own for theirs, own in zip(times.get((peer, name, call), []), times["ours", name, call])]
+    return [theirs / mine for theirs, mine in zip(times.get((peer, name, call), []), times[own, name, call])]
 
 
-def ratio(times, peer, name, call):
+def ratio(times, peer, name, call, own="ours"):
     """Median over the rounds of the peer's time over ours; None where the peer is missing."""
-    found = ratios(times, peer, name, call)
+    found = ratios(times, peer, name, call, own)
     return median(found) if found else None
 
 
@@ -244,13 +253,30 @@ def print_main(times):
               f" {goal_text(ratios(times, 'hand', 'w1', call), 1 / HAND_GOAL)}")
     for call in CALLS:
         print(f"memcpy of the 4,096 bytes of w4 beside {call}: {text(ratio(times, 'memcpy', 'w4', call))} of our time")
-    print("Goals: Tcl's time at least 2 times ours, in reading and for strips of digits 8 times, but for one long string;")
-    print(f"our time at most {PLAIN_GOAL} times plain C's (its at least {1 / PLAIN_GOAL:.2f} of ours), 1.3 times for doubles and 3"
-          " times for singles, which")
-    print(f"the hardware converts for plain C; for w1 at most"
-          f" {HAND_GOAL:.0f} times that of the")
-    print("layout written out by hand.")
+    print("Goals: Tcl's time at least 2 times ours, in reading and for strips of digits 8 times, but for one long")
+    print(f"string; our time at most {PLAIN_GOAL} times plain C's (its at least {1 / PLAIN_GOAL:.2f} of ours), 1.25 times for"
+          " singles, which the")
+    print(f"hardware converts for plain C; for w1 at most {HAND_GOAL:.0f} times that of the layout written out by hand.")
     print("Python's struct has no digit fields: w1, w2 and b4096 add the usual conversions by int, format and fromhex.")
+
+
+def print_plans(times):
+    print("\nLayouts prepared once (curlew_prepare). Each one's time over ours by the plan: ours by the layout, plain C")
+    print("that keeps its fields and looks at them no more, the layout written out by hand, Tcl.")
+    print(f"{'workload':26} {'call':5} {'plan ns':>9} {'layout':>7} {'plain C':>8} {'goal':>30} {'by hand':>8}"
+          f" {'goal':>30} {'Tcl':>7} {'goal':>30}")
+    for name in PREPARED:
+        for call in CALLS:
+            goals = {"kept": 1 / KEPT_GOAL, "hand": 1 / HAND_GOALS[call], "tcl": PLAN_TCL_GOALS.get((name, call))}
+            shown = " ".join(f"{text(ratio(times, peer, name, call, 'plan')):>{width}}"
+                             f" {plan_goal(times, peer, name, call, goal):>30}"
+                             for (peer, goal), width in zip(goals.items(), (8, 8, 7)))
+            print(f"{TITLES[name]:26} {call:5} {median(times['plan', name, call]):9.0f}"
+                  f" {text(ratio(times, 'ours', name, call, 'plan')):>7} {shown}")
+
+
+def plan_goal(times, peer, name, call, goal):
+    return goal_text(ratios(times, peer, name, call, "plan"), goal) if goal else "-"
 
 
 def print_counts(counts):
@@ -349,6 +375,7 @@ def main():
     for process in set(serving.values()):
         process.close()
     print_main(times)
+    print_plans(times)
     print_counts(counts)
     print_sheets(times)
     print_pairs(times)

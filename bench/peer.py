@@ -3,7 +3,7 @@ import sys
 from itertools import repeat
 from time import perf_counter_ns, thread_time_ns
 
-from workloads import MARK_RECORD, pack_digits, pack_mark_record, workloads
+from workloads import USUAL, MARK_RECORD, pack_digits, pack_mark_record, workloads
 
 
 def read_digits(data, count):
@@ -30,7 +30,7 @@ def plain_calls(work):
 
 
 def calls_of(work):
-    calls = plain_calls if work.plain else mark_record_calls if work.name == "w1" else digit_calls
+    calls = plain_calls if work.plain else mark_record_calls if work.name in ("w1", USUAL) else digit_calls
     pack, read = calls(work)
     return {"pack": pack, "read": read}
 

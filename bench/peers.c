@@ -2,8 +2,8 @@
  * The C side of the benchmark: our library, the Rust twin, Tcl's commands, memcpy and memcmp. Takes orders line by
  * line on its input and answers each `time`, `show`, `crowd` and `peers` by one line:
  *
- *   work NAME, pack LAYOUT, read LAYOUT, text STRING, list NUMBERS, reals NUMBERS, unset, record HEX, second HEX
- *                                 describe a workload
+ *   work NAME, pack LAYOUT, read LAYOUT, text STRING, list NUMBERS, reals NUMBERS, unset, record HEX, second HEX,
+ *   room BYTES                    describe a workload
  *   end                           it is one for Tcl too
  *   peers                         which peers this program has
  *   time PEER NAME CALL N         nanoseconds of processor time of N calls
@@ -75,13 +75,23 @@ static void new_work(const char *name)
     w = (struct work *)room;
     memset(w, 0, sizeof *w);
     snprintf(w->name, sizeof w->name, "%s", name);
+    w->room = CURLEW_MAX_AREA;
     works[work_count++] = w;
 }
 
-static void set_layout(struct layout *layout, const char *text)
+static void set_layout(struct layout *layout, const char *text, int packing)
 {
+    uint8_t reply[CURLEW_PREPARE_REPLY];
+
     snprintf(layout->text, sizeof layout->text, "%s", text);
     layout->length = strlen(layout->text);
+    if (curlew_prepare(layout->text, layout->length, layout->plan, CURLEW_MAX_PLAN, reply, sizeof reply) != CURLEW_OK)
+        stop("a layout is refused");
+    layout->as[TEXT].at = layout->text;
+    layout->as[TEXT].length = layout->length;
+    layout->as[PLAN].at = layout->plan;
+    layout->as[PLAN].length = curlew_get_answer(reply).first;
+    layout->as[KEPT].at = plain_keep(layout->text, layout->length, packing);
 }
 
 /* The values that a workload has so far, as a table to add to. */
@@ -269,15 +279,17 @@ static void obey(const char *order, char *rest)
     if (strcmp(order, "work") == 0)
         new_work(rest);
     else if (strcmp(order, "pack") == 0)
-        set_layout(&last_work()->pack_layout, rest);
+        set_layout(&last_work()->pack_layout, rest, 1);
     else if (strcmp(order, "read") == 0)
-        set_layout(&last_work()->read_layout, rest);
+        set_layout(&last_work()->read_layout, rest, 0);
     else if (strcmp(order, "text") == 0)
         add_text(last_work(), rest);
     else if (strcmp(order, "list") == 0)
         add_list(last_work(), rest);
     else if (strcmp(order, "reals") == 0)
         add_reals(last_work(), rest);
+    else if (strcmp(order, "room") == 0)
+        last_work()->room = strtoul(rest, NULL, 10);
     else if (strcmp(order, "unset") == 0)
         add_unset(last_work());
     else if (strcmp(order, "record") == 0)

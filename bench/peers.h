@@ -21,9 +21,16 @@ typedef uint32_t compare_call(const void *, size_t, const uint8_t *, size_t, con
                               uint8_t *, size_t, uint8_t *, size_t, uint8_t *, size_t, uint8_t *, size_t,
                               uint8_t *, size_t, uint8_t *, size_t);
 
-/* Calls with the same interface: ours, the twin's, plain C's, those by hand. A library may lack the last three. */
+/* How a library takes a layout: as its text, as a plan of ours, or as the fields that plain C keeps. */
+enum form { TEXT, PLAN, KEPT, FORMS };
+
+/*
+ * Calls with the same interface: ours, ours by a plan, the twin's, plain C's, those of plain C with its fields kept, those by
+ * hand. A library may lack the last three.
+ */
 struct library {
     const char *name;
+    enum form form;
     pack_call *pack;
     read_call *read;
     sheet_write_call *sheet_write;
@@ -41,6 +48,11 @@ struct library {
 struct layout {
     char text[CURLEW_MAX_LAYOUT + 1];
     size_t length;
+    uint32_t plan[CURLEW_MAX_PLAN];
+    struct {
+        const void *at;
+        size_t length;
+    } as[FORMS];
 };
 
 /*
@@ -55,12 +67,16 @@ struct work {
     size_t count;
     uint8_t area[CURLEW_MAX_AREA] AT_PAGE;
     size_t used;
+    size_t room; /* of the area that is read into */
     uint8_t record[CURLEW_MAX_SHEET] AT_PAGE;
     size_t record_len;
     uint8_t second[CURLEW_MAX_RECORD] AT_PAGE;
     size_t second_len;
     void *tcl;
 };
+
+/* The fields of a layout, as plain C keeps them for many calls. */
+void *plain_keep(const void *layout, size_t layout_len, int packing);
 
 /* One call on a workload; the number that came back. */
 typedef uint32_t once_call(const struct library *, const struct work *);

@@ -410,12 +410,30 @@ static void write(uint8_t *out, const struct fields *fields, const uint8_t *slot
     }
 }
 
+/* What is left of a packing once the fields are known. */
+static inline __attribute__((always_inline)) uint32_t pack_fields(struct fields *fields, const uint8_t *slots,
+    size_t slots_len, const uint8_t *area, size_t area_len, uint8_t *out, size_t out_len, uint8_t *reply)
+{
+    struct refusal refused = accepted;
+    size_t length;
+
+    if (fields->values != slots_len / CURLEW_SLOT_SIZE)
+        refused = refuse(CURLEW_BAD_SLOTS, 0);
+    if (refused.number == CURLEW_OK)
+        refused = measure(fields, slots, area, area_len, &length);
+    if (refused.number == CURLEW_OK && length > out_len)
+        refused = refuse(CURLEW_NO_ROOM, 0);
+    if (refused.number != CURLEW_OK)
+        return answer(reply, refused.number, refused.place, 0);
+    write(out, fields, slots, area);
+    return answer(reply, CURLEW_OK, (uint32_t)length, 0);
+}
+
 uint32_t plain_pack(const void *layout, size_t layout_len, const uint8_t *slots, size_t slots_len,
                     const uint8_t *area, size_t area_len, uint8_t *out, size_t out_len, uint8_t *reply, size_t reply_len)
 {
     struct fields fields;
     struct refusal refused;
-    size_t length;
 
     if (reply_len != CURLEW_PACK_REPLY)
         return CURLEW_BAD_SIZE;
@@ -423,16 +441,32 @@ uint32_t plain_pack(const void *layout, size_t layout_len, const uint8_t *slots,
         || slots_len % CURLEW_SLOT_SIZE != 0 || area_len > CURLEW_MAX_AREA || out_len > CURLEW_MAX_RECORD)
         return answer(reply, CURLEW_BAD_SIZE, 0, 0);
     refused = parse((const uint8_t *)layout, layout_len, 1, &fields);
-    if (refused.number == CURLEW_OK && fields.values != slots_len / CURLEW_SLOT_SIZE)
-        refused = refuse(CURLEW_BAD_SLOTS, 0);
-    if (refused.number == CURLEW_OK)
-        refused = measure(&fields, slots, area, area_len, &length);
-    if (refused.number == CURLEW_OK && length > out_len)
-        refused = refuse(CURLEW_NO_ROOM, 0);
     if (refused.number != CURLEW_OK)
         return answer(reply, refused.number, refused.place, 0);
-    write(out, &fields, slots, area);
-    return answer(reply, CURLEW_OK, (uint32_t)length, 0);
+    return pack_fields(&fields, slots, slots_len, area, area_len, out, out_len, reply);
+}
+
+/* The fields of a layout, kept for many calls; they are given in the place of the layout and looked at no more. */
+void *plain_keep(const void *layout, size_t layout_len, int packing)
+{
+    struct fields *fields = (struct fields *)malloc(sizeof *fields);
+
+    if (fields == NULL || layout_len > CURLEW_MAX_LAYOUT
+        || parse((const uint8_t *)layout, layout_len, packing, fields).number != CURLEW_OK)
+        stop("no fields to keep");
+    return fields;
+}
+
+uint32_t kept_pack(const void *kept, size_t unused, const uint8_t *slots, size_t slots_len,
+                   const uint8_t *area, size_t area_len, uint8_t *out, size_t out_len, uint8_t *reply, size_t reply_len)
+{
+    (void)unused;
+    if (reply_len != CURLEW_PACK_REPLY)
+        return CURLEW_BAD_SIZE;
+    if (slots_len > CURLEW_MAX_SLOTS * CURLEW_SLOT_SIZE || slots_len % CURLEW_SLOT_SIZE != 0
+        || area_len > CURLEW_MAX_AREA || out_len > CURLEW_MAX_RECORD)
+        return answer(reply, CURLEW_BAD_SIZE, 0, 0);
+    return pack_fields((struct fields *)kept, slots, slots_len, area, area_len, out, out_len, reply);
 }
 
 /* ---- reading ---- */
@@ -621,13 +655,27 @@ static uint32_t read_answer(uint8_t *reply, uint32_t number, size_t first, size_
     return answer(reply, number, (uint32_t)first, (uint32_t)second);
 }
 
+/* What is left of a reading once the fields are known. */
+static inline __attribute__((always_inline)) uint32_t read_fields(struct fields *fields, const uint8_t *record,
+    size_t record_len, uint8_t *slots, size_t slots_len, uint8_t *area, size_t area_len, size_t mark, uint8_t *reply)
+{
+    struct run run;
+
+    if (fields->values > slots_len / CURLEW_SLOT_SIZE)
+        return read_answer(reply, CURLEW_BAD_SLOTS, 0, 0, 0);
+    run = follow(fields, record, record_len);
+    if (run.size > area_len - mark)
+        return read_answer(reply, CURLEW_NO_ROOM, 0, 0, 0);
+    fill(fields, run, record, slots, area, mark);
+    return read_answer(reply, CURLEW_OK, run.values, mark + run.size, run.steps);
+}
+
 uint32_t plain_read(const void *layout, size_t layout_len, const uint8_t *record, size_t record_len,
                     uint8_t *slots, size_t slots_len, uint8_t *area, size_t area_len, size_t mark,
                     uint8_t *reply, size_t reply_len)
 {
     struct fields fields;
     struct refusal refused;
-    struct run run;
 
     if (reply_len != CURLEW_READ_REPLY)
         return CURLEW_BAD_SIZE;
@@ -635,15 +683,20 @@ uint32_t plain_read(const void *layout, size_t layout_len, const uint8_t *record
         || slots_len > CURLEW_MAX_SLOTS * CURLEW_SLOT_SIZE || area_len > CURLEW_MAX_AREA || mark > area_len)
         return read_answer(reply, CURLEW_BAD_SIZE, 0, 0, 0);
     refused = parse((const uint8_t *)layout, layout_len, 0, &fields);
-    if (refused.number == CURLEW_OK && fields.values > slots_len / CURLEW_SLOT_SIZE)
-        refused = refuse(CURLEW_BAD_SLOTS, 0);
-    if (refused.number == CURLEW_OK) {
-        run = follow(&fields, record, record_len);
-        if (run.size > area_len - mark)
-            refused = refuse(CURLEW_NO_ROOM, 0);
-    }
     if (refused.number != CURLEW_OK)
         return read_answer(reply, refused.number, refused.place, 0, 0);
-    fill(&fields, run, record, slots, area, mark);
-    return read_answer(reply, CURLEW_OK, run.values, mark + run.size, run.steps);
+    return read_fields(&fields, record, record_len, slots, slots_len, area, area_len, mark, reply);
+}
+
+uint32_t kept_read(const void *kept, size_t unused, const uint8_t *record, size_t record_len,
+                   uint8_t *slots, size_t slots_len, uint8_t *area, size_t area_len, size_t mark,
+                   uint8_t *reply, size_t reply_len)
+{
+    (void)unused;
+    if (reply_len != CURLEW_READ_REPLY)
+        return CURLEW_BAD_SIZE;
+    if (record_len > CURLEW_MAX_RECORD || slots_len % CURLEW_SLOT_SIZE != 0
+        || slots_len > CURLEW_MAX_SLOTS * CURLEW_SLOT_SIZE || area_len > CURLEW_MAX_AREA || mark > area_len)
+        return read_answer(reply, CURLEW_BAD_SIZE, 0, 0, 0);
+    return read_fields((struct fields *)kept, record, record_len, slots, slots_len, area, area_len, mark, reply);
 }

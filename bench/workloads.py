@@ -7,6 +7,7 @@ FIELD_COUNTS = (1, 2, 4, 8, 16, 32, 64)
 BYTE_COUNTS = (16, 64, 256, 1024, 4096, 32768)
 DIGIT_COUNTS = tuple(2 ** k for k in range(3, 13))
 CALLS = ("pack", "read")
+USUAL = "w1-256"
 SHEET_CALLS = ("sheet-write", "sheet-read")
 PAIR_CALLS = ("compare",)
 
@@ -21,8 +22,8 @@ def value_line(value):
 
 
 class Work:
-    def __init__(self, name, pack, values, perl, plain=None, read=None, perl_read=None, record=None):
-        self.name, self.pack, self.values, self.perl = name, pack, values, perl
+    def __init__(self, name, pack, values, perl, plain=None, read=None, perl_read=None, record=None, room=None):
+        self.name, self.pack, self.values, self.perl, self.room = name, pack, values, perl, room
         self.read, self.perl_read = read or pack, perl_read or perl
         self.plain = plain and struct.Struct(plain)
         self.record = record or self.packed()
@@ -45,6 +46,8 @@ class Work:
         yield f"perlread {self.perl_read}"
         yield from map(value_line, self.values)
         yield f"record {self.record.hex()}"
+        if self.room is not None:
+            yield f"room {self.room}"
         yield "end"
 
 
@@ -79,10 +82,12 @@ def main_workloads():
     dice = random.Random(417)
     strip = "".join(dice.choice("01") for _ in range(4096))
     letters = "".join(dice.choice("abcdefghijklmnopqrstuvwxyz") for _ in range(4096))
-    return [
-        Work("w1", "a8 A20 Su Iu c6 b12 H8",
+    small = ("a8 A20 Su Iu c6 b12 H8",
              ["00417042", "Ada Lind", [417], [1234567], [61, 0, 88, -7, 100, 3], "110110101100", "0badcafe"],
-             "a8 A20 n N c6 b12 H8"),
+             "a8 A20 n N c6 b12 H8")
+    return [
+        Work("w1", *small),
+        Work(USUAL, *small, room=256),
         Work("w2", "b4096", [strip], "b4096", read="b*", perl_read="b*", record=dice.randbytes(4096)),
         Work("w3", "s2000", [integers(dice, 2, 2000)], "s<2000", "<2000h"),
         Work("w4", "a4096", [letters], "a4096", "4096s"),
