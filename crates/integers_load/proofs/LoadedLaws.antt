@@ -114,13 +114,6 @@ unfolding bigEndian numberBytes loaded itemBytes
 loaded-runs input at w big unsigned n =
     rw (pieces-take w n (drop at input)) (sym (joined (λ x. reverse (digits 256 8 x)) (λ p. widened w unsigned (number 256 (ordered big p))) w input n at))
 
--- one integer alone
-pub loaded-one : (input : List ℕ) (at w : ℕ) (big unsigned : Bool) → itemBytes w big unsigned (part input at w) ≡ integerBytes (loaded (Integers w big) unsigned 1 (part input at (1 * w)) .items)
-unfolding runs
-loaded-one input at w big unsigned =
-    let here : at ≡ at + 0 * w = omega arith in
-    ap (λ (p : ℕ). itemBytes w big unsigned (part input p w)) here ∙ loaded-runs input at w big unsigned 1
-
 -- runs of eight bytes, as integers that are read
 pub eights-loaded : (input : List ℕ) (at : ℕ) (big unsigned : Bool) (n : ℕ) → ((i : ℕ) → getD input i 0 < 256) → at + n * 8 ≤ length input
     → eights (not big) n (drop at input) ≡ integerBytes (loaded (Integers 8 big) unsigned n (part input at (n * 8)) .items)

@@ -144,7 +144,7 @@ fn load_unsigned(area: &mut [u8], to: usize, input: &[u8], at: usize, n: usize, 
     load_each(area, to, input, at, n, w, big, true)
 }
 
-// Reads n integers of w bytes each. One alone is spared the loop.
+// Reads n integers of w bytes each.
 pub fn load(
     area: &mut [u8],
     to: usize,
@@ -160,9 +160,6 @@ pub fn load(
 {
     if w == 8 {
         return integers::copy_eights(area, to, input, at, n, !big);
-    }
-    if n == 1 {
-        return load_item(area, to, input, at, w, big, unsigned);
     }
     if unsigned {
         return load_unsigned(area, to, input, at, n, w, big);

@@ -1,8 +1,8 @@
--- Eight bytes are copied whole, in their order or turned round; one alone is read by itself, and others by the loop.
+-- Eight bytes are copied whole, in their order or turned round; others are read by the loop.
 use native.Mathlib.Omega.{arith}
 use mathlib.Core.Path.{ap, _∙_}
 use Rattle.record.specs.Bytes.{storeAt}
-use Rattle.integers_load.proofs.LoadedLaws.{loaded-one, eights-loaded}
+use Rattle.integers_load.proofs.LoadedLaws.{eights-loaded}
 use borrow.Author.Needs.{needs}
 use Rattle.integers_load.proofs.load.Statement.{statement}
 use Rattle.integers_load.proofs.load.Tie as tie
@@ -26,37 +26,23 @@ returns c =
     (c .before .before .copy-eights .ensures
     ∙ ap (storeAt (a .area .now) (a .to)) (eights-loaded (a .input .now) (a .at) (a .big) (a .unsigned) (a .n) (λ i. known .shared-slice-known .given i .fits) (pre .2)))
 
-load-item-requires : tie.Need-load-item-requires
-load-item-requires c κs =
-    let pre = rw (c .before .if2 .taken) at (c .before .before .before .before .before .pre) in
-    search needs
+load-unsigned-requires : tie.Need-load-unsigned-requires
+load-unsigned-requires c κs = search needs
 
 same-length-2 : tie.Need-same-length-2
 same-length-2 c = search needs
 
 returns-2 : tie.Need-returns-2
-returns-2 c =
-    let a = c .before .before .before .before .before .before .before .before .args in
-    rw (c .before .before .before .before .if2 .taken)
-    (c .before .before .load-item .ensures ∙ ap (storeAt (a .area .now) (a .to)) (loaded-one (a .input .now) (a .at) (a .w) (a .big) (a .unsigned)))
+returns-2 c = rw (c .before .before .before .before .if2 .taken) (c .before .before .load-unsigned .ensures)
 
-load-unsigned-requires : tie.Need-load-unsigned-requires
-load-unsigned-requires c κs = search needs
+load-each-requires : tie.Need-load-each-requires
+load-each-requires c κs = search needs
 
 same-length-3 : tie.Need-same-length-3
 same-length-3 c = search needs
 
 returns-3 : tie.Need-returns-3
-returns-3 c = rw (c .before .before .before .before .if3 .taken) (c .before .before .load-unsigned .ensures)
-
-load-each-requires : tie.Need-load-each-requires
-load-each-requires c κs = search needs
-
-same-length-4 : tie.Need-same-length-4
-same-length-4 c = search needs
-
-returns-4 : tie.Need-returns-4
-returns-4 c = rw (c .before .before .before .before .if3 .left) (c .before .before .load-each .ensures)
+returns-3 c = rw (c .before .before .before .before .if2 .left) (c .before .before .load-each .ensures)
 
 pub load-spec : {M : Type 1} → statement M
 load-spec =
@@ -65,12 +51,9 @@ load-spec =
     copy-eights-requires
     same-length
     returns
-    load-item-requires
+    load-unsigned-requires
     same-length-2
     returns-2
-    load-unsigned-requires
-    same-length-3
-    returns-3
     load-each-requires
-    same-length-4
-    returns-4)
+    same-length-3
+    returns-3)
