@@ -5,6 +5,9 @@ ghost use lib.ListN.{length, replicate};
 ghost use Rattle.record.specs.Bytes.{part, storeAt, digits, ordered};
 ghost use Rattle.record.specs.Table.{maxRecord};
 
+// Numbers as bytes, the highest first.
+pub mod big_endian;
+
 // Copies n bytes, one after the other.
 fn copy_each(out: &mut [u8], at: usize, from: &[u8], start: usize, n: usize)
     requires { ⌜ (at + n ≤ length (now out)) × (start + n ≤ length (now from)) ⌝ }

@@ -23,20 +23,20 @@ use Rattle.record.specs.Geometry.{sizesFit}
 use Rattle.record.specs.Packing.{accepted, refusal}
 use Rattle.record.specs.Reading.{Read, valuesFrom, positionsFrom, reads, putInto, read, ReadAll, leftOf}
 use Rattle.record.proofs.Tables.{length-slots}
-use Rattle.checking.specs.Sizes.{lentFits}
-use Rattle.checking.specs.Checks.{checked, fitting}
-use Rattle.read_measure.specs.Run.{valuesOf}
+use Rattle.reader.specs.checking.Sizes.{lentFits}
+use Rattle.reader.specs.checking.Checks.{checked, fitting}
+use Rattle.reading.specs.measure.Run.{valuesOf}
 use Rattle.reading.specs.Tables.{putAll, TableRoom}
-use Rattle.checking.proofs.Calls.{Fit, fit, sizes-refuse, parse-refuses, check-fits}
-use Rattle.read_words.specs.Words.{Ready}
-use Rattle.read_words.proofs.Calls.{fit-room}
+use Rattle.reader.proofs.checking.Calls.{Fit, fit, sizes-refuse, parse-refuses, check-fits}
+use Rattle.reader.specs.passes.{Ready}
+use Rattle.reader.proofs.passes.Calls.{fit-room}
 use Rattle.record.proofs.Readings.{values-few}
-use Rattle.difference.specs.Rows.{reportWidth}
-use Rattle.compare_report.specs.Report.{rows}
+use Rattle.compare.specs.difference.{reportWidth}
+use Rattle.compare.specs.report.Report.{rows}
 use Rattle.compare.specs.Steps.{Opened}
 use Rattle.compare.specs.Comparing.{Shown, compares, compareEffect, compare}
-use Rattle.compare_report.specs.Shown.{shownBytes, Holds}
-use Rattle.compare_report.proofs.Rows.{length-rows}
+use Rattle.compare.specs.report.Shown.{shownBytes, Holds}
+use Rattle.compare.proofs.report.Rows.{length-rows}
 use Rattle.compare.proofs.Shown.{put-shows, put-holds}
 
 -- ---- a reading that is accepted

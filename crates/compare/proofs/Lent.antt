@@ -17,10 +17,10 @@ use Rattle.record.specs.Table.{slotWidth, maxSlots, Value, areaBytes, slotNumbe
 use Rattle.record.specs.Reading.{reads, putInto}
 use Rattle.record.proofs.Readings.{values-few, length-slot-numbers}
 use Rattle.record.proofs.Fields.{split}
-use Rattle.difference.specs.Rows.{reportWidth}
-use Rattle.compare_report.specs.Report.{rows}
+use Rattle.compare.specs.difference.{reportWidth}
+use Rattle.compare.specs.report.Report.{rows}
 use Rattle.compare.specs.Comparing.{Shown, compares, compareEffect, Compared, compare}
-use Rattle.compare_report.proofs.Rows.{length-rows}
+use Rattle.compare.proofs.report.Rows.{length-rows}
 use Rattle.compare.proofs.Calls.{accepted-reads, accepted-call, left}
 
 -- a table after a call: as long as before, and the slots from number n on as lent

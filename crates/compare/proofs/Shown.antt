@@ -18,7 +18,7 @@ use Rattle.record.proofs.NumberLaws.{length-bigEndian}
 use Rattle.record.proofs.Readings.{length-slot-numbers}
 use Rattle.record.proofs.Stores.{length-storeAt}
 use Rattle.reading.specs.Tables.{TableRoom}
-use Rattle.compare_report.specs.Shown.{bytesOf, shownBytes, Holds}
+use Rattle.compare.specs.report.Shown.{bytesOf, shownBytes, Holds}
 
 -- an item of a string is a byte of the area, and an integer eight
 pub area-size : (v : Value) → length (areaBytes v) ≡ length (v .items) * itemSize (v .kind)

@@ -13,8 +13,8 @@ use Rattle.record.specs.declared.Answer.{Answer}
 use Rattle.record.specs.Table.{Value, areaBytes}
 use Rattle.record.specs.Packing.{accepted, refusal}
 use Rattle.record.specs.Reading.{reads, positionsFrom, putInto}
-use Rattle.difference.specs.Rows.{reportWidth}
-use Rattle.compare_report.specs.Report.{rows}
+use Rattle.compare.specs.difference.{reportWidth}
+use Rattle.compare.specs.report.Report.{rows}
 
 -- the value fields of a layout, the values that the two readings set, and the positions of their fields
 pub record Shown : Type 0 where

@@ -7,7 +7,7 @@ use lib.ListN.{length}
 use Rattle.layout.specs.Refusals.{ok}
 use Rattle.layout.specs.Layout.{maxLayout, fieldsOf, slotCount}
 use Rattle.layout.specs.Words.{decoded}
-use Rattle.checking.specs.Sizes.{lentFits}
+use Rattle.reader.specs.checking.Sizes.{lentFits}
 
 -- the first n words are the fields of the layout, of which so many take a slot, and what the first reading is lent keeps to its size
 pub record Opened (n taken : ℕ) (words layout first slots area : List ℕ) : Type 0 where

@@ -2,10 +2,17 @@
 // Both readings are checked before anything is written.
 ghost use Rattle.compare.specs.Comparing.{Compares};
 ghost use Rattle.compare.specs.Steps.{Opened};
-use compare_report::REPORT_WIDTH;
 use layout::Parsed;
 use layout::Refusal;
+use layout::parser;
+use reader::checking;
 use record::Answer;
+use report::REPORT_WIDTH;
+
+// Two values by themselves.
+pub mod difference;
+// The rows of the report.
+pub mod report;
 
 // What is left once the layout is read, and what the first reading is lent keeps to its size: the first n words are its fields, of which so many take a slot.
 fn compare_words(
@@ -54,7 +61,7 @@ fn compare_words(
     }
     let p = reading::fill(words, n, first, first_slots, first_area, 0);
     let q = reading::fill(words, n, second, second_slots, second_area, 0);
-    compare_report::write(
+    report::write(
         report,
         fields,
         first_slots,

@@ -15,11 +15,11 @@ use Rattle.layout.proofs.Laws.{bound, demanded, no-number-zero}
 use Rattle.record.specs.Table.{Value, areaBytes}
 use Rattle.record.specs.Reading.{valuesFrom, reads}
 use Rattle.record.proofs.Bytes.{and-true}
-use Rattle.difference.specs.Rows.{same, firstDifference, differing, bitsOf, differingBits, reportWidth, bothSame, onlyFirst, onlySecond, inNeither, bothDiffer, plainRow, bothRow}
-use Rattle.compare_report.specs.Report.{row, rows}
+use Rattle.compare.specs.difference.{same, firstDifference, differing, bitsOf, differingBits, reportWidth, bothSame, onlyFirst, onlySecond, inNeither, bothDiffer, plainRow, bothRow}
+use Rattle.compare.specs.report.Report.{row, rows}
 use Rattle.compare.specs.Comparing.{Shown, compares, compareEffect, compare}
 use Rattle.compare_claims.specs.Claims.{SameIsEqual, onesOfXor, BitsAreOnes, sameOrNeither, WithItself, swapped, otherWay, OtherWayRound}
-use Rattle.difference.proofs.Bits.{xor-bits, bits-cons, bits-none, none-bits}
+use Rattle.compare.proofs.difference.Bits.{xor-bits, bits-cons, bits-none, none-bits}
 use Rattle.compare.proofs.Calls.{accepted-reads, Accepted, accepted-call, left}
 
 -- ---- two values

@@ -29,8 +29,8 @@ use Rattle.record.proofs.Bytes.{All}
 use Rattle.record.proofs.Fields.{split}
 use Rattle.record.proofs.SlotLaws.{next-slot}
 use Rattle.runs.proofs.Told.{bytesIn, InBytes, numbers-bytes, shown-told}
-use Rattle.difference.specs.Rows.{same, firstDifference, differingBits, reportWidth, bothSame, onlyFirst, onlySecond, inNeither, bothDiffer, plainRow, bothRow}
-use Rattle.compare_report.specs.Report.{row, rows}
+use Rattle.compare.specs.difference.{same, firstDifference, differingBits, reportWidth, bothSame, onlyFirst, onlySecond, inNeither, bothDiffer, plainRow, bothRow}
+use Rattle.compare.specs.report.Report.{row, rows}
 use Rattle.compare.specs.Comparing.{Compared, compareEffect}
 use Rattle.compare.proofs.Shown.{area-size, put-holds}
 use Rattle.compare.proofs.Calls.{accepted-reads, Accepted, accepted-call, left}

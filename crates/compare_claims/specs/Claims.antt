@@ -8,7 +8,7 @@ use lib.Count.{ones}
 use lib.Dec.{T, eqb}
 use lib.ListN.{getD}
 use Rattle.layout.specs.Refusals.{if_then_else_}
-use Rattle.difference.specs.Rows.{bothSame, onlyFirst, onlySecond, inNeither, same, differingBits}
+use Rattle.compare.specs.difference.{bothSame, onlyFirst, onlySecond, inNeither, same, differingBits}
 use Rattle.compare.specs.Comparing.{Compared, compare}
 
 -- ---- two values

@@ -8,7 +8,7 @@ use lib.ListN.{getD}
 use Rattle.record.specs.Table.{Value, shown}
 use Rattle.record.specs.Slots.{slotAt}
 use Rattle.record.specs.Reading.{Read, read}
-use Rattle.difference.specs.Rows.{reportWidth, bothSame, onlyFirst, onlySecond, inNeither, bothDiffer}
+use Rattle.compare.specs.difference.{reportWidth, bothSame, onlyFirst, onlySecond, inNeither, bothDiffer}
 use Rattle.compare.specs.Comparing.{Compared, compare}
 
 -- ---- the calls

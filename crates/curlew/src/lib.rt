@@ -1,16 +1,16 @@
 // The calls that a C host links to, each under its C name: the crates host_* hold what they do.
-ghost use Rattle.host_pack.specs.Calls.{HostPacks};
-ghost use Rattle.host_read.specs.Calls.{HostReads};
-ghost use Rattle.host_sheet_write.specs.Calls.{HostWritesSheet};
-ghost use Rattle.host_sheet_read.specs.Calls.{HostReadsSheet};
-ghost use Rattle.host_rescue.specs.Calls.{HostRescues};
+ghost use Rattle.host_record.specs.pack.{HostPacks};
+ghost use Rattle.host_record.specs.read.Calls.{HostReads};
+ghost use Rattle.host_sheet.specs.write.{HostWritesSheet};
+ghost use Rattle.host_sheet.specs.read.{HostReadsSheet};
+ghost use Rattle.host_sheet.specs.damaged.{HostRescues};
 ghost use Rattle.host_compare.specs.Calls.{HostCompares};
 ghost use Rattle.host_mean.specs.Calls.{HostMeans};
-ghost use Rattle.host_perl.specs.Calls.{HostConverts};
-ghost use Rattle.host_describe.specs.Calls.{HostDescribes};
-ghost use Rattle.host_fields.specs.Calls.{HostLists};
+ghost use Rattle.host_layout.specs.templates.{HostConverts};
+ghost use Rattle.host_layout.specs.layouts.{HostDescribes};
+ghost use Rattle.host_layout.specs.rows.{HostLists};
 ghost use Rattle.host_plans.specs.Calls.{HostPrepares, HostPacksPlan, HostReadsPlan};
-ghost use Rattle.host_promises.specs.Calls.{HostPromises, HostExtends};
+ghost use Rattle.host_layout.specs.theorems.{HostPromises, HostExtends};
 ghost use Rattle.curlew.specs.Version.{version};
 ghost use mathlib.Core.Path.{_≡_};
 
@@ -25,7 +25,7 @@ pub extern "C" fn curlew_pack(
 ) -> u32
     ensures { λ r. ⌜ HostPacks layout slots area out reply r ⌝ }
 {
-    host_pack::pack(layout, slots, area, out, reply)
+    host_record::pack::pack(layout, slots, area, out, reply)
 }
 
 // Reads a record by the layout (Tcl's `binary scan`), and sets slots and area.
@@ -40,7 +40,7 @@ pub extern "C" fn curlew_read(
 ) -> u32
     ensures { λ r. ⌜ HostReads layout bytes slots area mark reply r ⌝ }
 {
-    host_read::read(layout, bytes, slots, area, mark, reply)
+    host_record::read::read(layout, bytes, slots, area, mark, reply)
 }
 
 // Reads a layout once, into a plan for many records.
@@ -90,7 +90,7 @@ pub extern "C" fn curlew_sheet_write(
 ) -> u32
     ensures { λ r. ⌜ HostWritesSheet slots area sheet reply r ⌝ }
 {
-    host_sheet_write::write(slots, area, sheet, reply)
+    host_sheet::write::write(slots, area, sheet, reply)
 }
 
 // Reads a sheet, and sets slots and area.
@@ -104,7 +104,7 @@ pub extern "C" fn curlew_sheet_read(
 ) -> u32
     ensures { λ r. ⌜ HostReadsSheet sheet slots area mark reply r ⌝ }
 {
-    host_sheet_read::read(sheet, slots, area, mark, reply)
+    host_sheet::read::read(sheet, slots, area, mark, reply)
 }
 
 // Keeps what is whole at the front of a damaged sheet, and sets slots and area.
@@ -119,7 +119,7 @@ pub extern "C" fn curlew_sheet_rescue(
 ) -> u32
     ensures { λ r. ⌜ HostRescues sheet legs slots area mark reply r ⌝ }
 {
-    host_rescue::rescue(sheet, legs, slots, area, mark, reply)
+    host_sheet::damaged::rescue(sheet, legs, slots, area, mark, reply)
 }
 
 // Reads two copies of a record by their layout, each into its own table and area, and says for each value field what differs.
@@ -163,7 +163,7 @@ pub extern "C" fn curlew_mean(slots: &[u8], area: &[u8], reply: &mut [u8]) -> u3
 pub extern "C" fn curlew_from_perl(template: &[u8], layout: &mut [u8], reply: &mut [u8]) -> u32
     ensures { λ r. ⌜ HostConverts template layout reply r ⌝ }
 {
-    host_perl::from_perl(template, layout, reply)
+    host_layout::templates::from_perl(template, layout, reply)
 }
 
 // Says how many slots a layout takes and how long its shortest record is.
@@ -171,7 +171,7 @@ pub extern "C" fn curlew_from_perl(template: &[u8], layout: &mut [u8], reply: &m
 pub extern "C" fn curlew_layout(layout: &[u8], reply: &mut [u8]) -> u32
     ensures { λ r. ⌜ HostDescribes layout reply r ⌝ }
 {
-    host_describe::describe(layout, reply)
+    host_layout::layouts::describe(layout, reply)
 }
 
 // Writes a row of eight numbers for each field of a layout.
@@ -179,7 +179,7 @@ pub extern "C" fn curlew_layout(layout: &[u8], reply: &mut [u8]) -> u32
 pub extern "C" fn curlew_fields(layout: &[u8], fields: &mut [u8], reply: &mut [u8]) -> u32
     ensures { λ r. ⌜ HostLists layout fields reply r ⌝ }
 {
-    host_fields::fields(layout, fields, reply)
+    host_layout::rows::fields(layout, fields, reply)
 }
 
 // Says where a layout breaks each promise: to grow at its end, to lose nothing when it is read, to be joined.
@@ -187,7 +187,7 @@ pub extern "C" fn curlew_fields(layout: &[u8], fields: &mut [u8], reply: &mut [u
 pub extern "C" fn curlew_promises(layout: &[u8], reply: &mut [u8]) -> u32
     ensures { λ r. ⌜ HostPromises layout reply r ⌝ }
 {
-    host_promises::promises(layout, reply)
+    host_layout::theorems::promises(layout, reply)
 }
 
 // Says whether the new layout is the old one with fields added at its end.
@@ -195,7 +195,7 @@ pub extern "C" fn curlew_promises(layout: &[u8], reply: &mut [u8]) -> u32
 pub extern "C" fn curlew_extends(old: &[u8], new: &[u8], reply: &mut [u8]) -> u32
     ensures { λ r. ⌜ HostExtends old new reply r ⌝ }
 {
-    host_promises::extends(old, new, reply)
+    host_layout::theorems::extends(old, new, reply)
 }
 
 // The version of the library, for a program that was compiled with one header and runs with another archive.

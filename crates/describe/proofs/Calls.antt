@@ -14,14 +14,14 @@ use Rattle.layout.specs.Refusals.{if_then_else_, ok, refused}
 use Rattle.layout.specs.Layout.{maxLayout, takesSlot, fieldsOf, slotCount}
 use Rattle.layout.specs.Words.{fieldOf, decoded, FieldOf}
 use Rattle.layout.proofs.Laws.{AllSound, packed-reads}
-use Rattle.placed.proofs.Counts.{AllCounted, counts-limited}
+use Rattle.describe.proofs.placed.Counts.{AllCounted, counts-limited}
 use Rattle.layout.proofs.Decoded.{next-field, no-field}
 use Rattle.record.specs.declared.Answer.{Answer}
 use Rattle.record.specs.declared.Cursor.{Cursor}
 use Rattle.record.specs.Cursor.{origin}
 use Rattle.record.specs.Packing.{accepted, refusal}
-use Rattle.measuring.specs.Measure.{advance}
-use Rattle.measuring.proofs.Bounds.{advance-within}
+use Rattle.pack_check.specs.measuring.{advance}
+use Rattle.pack_check.proofs.measuring.Bounds.{advance-within}
 use Rattle.describe.specs.Description.{leastLength, fieldReach, layoutReach, described}
 use Rattle.describe.specs.Measure.{passed, Holds, Least}
 use Rattle.describe.proofs.Passing.{passed-length, advance-near}

@@ -13,15 +13,15 @@ use Rattle.layout.specs.declared.Refusal.the-variants.{BadSize}
 use Rattle.layout.specs.Refusals.{Result, ok, refused, _>>=_, demand}
 use Rattle.layout.specs.Layout.{maxLayout, fieldsOf, slotCount}
 use Rattle.layout.proofs.Laws.{ok-inj, no-number-zero, packed-reads}
-use Rattle.placed.proofs.Counts.{counts-limited, fields-few}
+use Rattle.describe.proofs.placed.Counts.{counts-limited, fields-few}
 use Rattle.record.specs.declared.Answer.{Answer}
 use Rattle.record.specs.declared.Cursor.{Cursor}
 use Rattle.record.specs.Table.{slotsOf}
 use Rattle.record.specs.Cursor.{origin}
 use Rattle.record.specs.Packing.{start, cursorOf, packAll, packed, filled, accepted, packs, pack, packEffect, Packed}
 use Rattle.record.proofs.Sizes.{Sized, sized}
-use Rattle.measuring.specs.Measure.{checked}
-use Rattle.writing.proofs.RunLaws.{measured-as}
+use Rattle.pack_check.specs.measuring.{checked}
+use Rattle.pack_store.proofs.writing.RunLaws.{measured-as}
 use Rattle.runs.proofs.Calls.{Passed, packs-passed, accepted-result}
 use Rattle.describe.specs.Description.{leastLength, layoutReach, fieldReach, answerOf, described}
 use Rattle.describe.specs.Claim.{starsEmpty, starless, Packing, lengthOf, Describes}

@@ -23,7 +23,7 @@ use Rattle.layout.specs.Refusals.{ok}
 use Rattle.layout.specs.Layout.{maxCount, inLimit}
 use Rattle.layout.specs.Words.{slotsTaken, FitCode}
 use Rattle.layout.proofs.Laws.{bound, ok-inj, AllSound}
-use Rattle.placed.proofs.Counts.{AllCounted}
+use Rattle.describe.proofs.placed.Counts.{AllCounted}
 use Rattle.record.specs.declared.Cursor.{Cursor}
 use Rattle.record.specs.declared.slots.Slot.{Slot}
 use Rattle.record.specs.Bytes.{ceilDiv}
@@ -35,9 +35,9 @@ use Rattle.runs.proofs.Calls.{T→true}
 use Rattle.record.proofs.Bounds.{bytes-small}
 use Rattle.record.proofs.Fields.{Served, length-stored}
 use Rattle.record.proofs.Moves.{Within, pack-within, cursor-store, cursor-goto}
-use Rattle.measuring.specs.Measure.{advance, stepped, checked}
-use Rattle.measuring.proofs.Bounds.{advance-within}
-use Rattle.measuring.proofs.MeasureLaws.{stepped-advance}
+use Rattle.pack_check.specs.measuring.{advance, stepped, checked}
+use Rattle.pack_check.proofs.measuring.Bounds.{advance-within}
+use Rattle.pack_check.proofs.measuring.MeasureLaws.{stepped-advance}
 use Rattle.describe.specs.Description.{fewest, leastLength, fieldReach}
 use Rattle.describe.specs.Claim.{emptyStar, starsEmpty, noStar, starless}
 use Rattle.describe.specs.Measure.{passed}

@@ -2,3 +2,5 @@
 pub mod Description
 pub mod Claim
 pub mod Measure
+pub mod placed
+pub mod fields

@@ -9,7 +9,7 @@ use Rattle.layout.specs.Refusals.{ok}
 use Rattle.layout.specs.Layout.{maxLayout, fieldsOf}
 use Rattle.layout.specs.Words.{decoded}
 use Rattle.record.specs.declared.Cursor.{Cursor}
-use Rattle.measuring.specs.Measure.{advance}
+use Rattle.pack_check.specs.measuring.{advance}
 use Rattle.describe.specs.Description.{layoutReach, leastLength}
 
 unfoldable pub passed : Cursor → List Field → Cursor

@@ -4,15 +4,22 @@ ghost use mathlib.Core.Path.{_≡_};
 ghost use Prim.Native.Nat.{_<_};
 ghost use Rattle.layout.specs.Lent.{before};
 ghost use Rattle.layout.specs.Words.{decoded, FitCode, FitCount};
-ghost use Rattle.measuring.specs.Measure.{advance};
+ghost use Rattle.pack_check.specs.measuring.{advance};
 ghost use Rattle.describe.specs.Description.{described};
 ghost use Rattle.describe.specs.Measure.{Holds, Least};
 use layout::Code;
 use layout::Count;
 use layout::Parsed;
 use layout::Refusal;
+use layout::parser;
+use pack_check::measuring;
 use record::Answer;
 use record::Cursor;
+use slot_table::sizes;
+
+pub mod placed;
+// A layout's fields one by one.
+pub mod fields;
 
 // Past one field, whose starred value is empty.
 fn step(code: Code, n: Count, c: Cursor) -> Cursor

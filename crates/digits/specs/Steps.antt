@@ -65,7 +65,7 @@ binarySteps n = n / 8 + n % 8
 abbrev pub binaryBudget : ℕ → ℕ
 binaryBudget n = n / 8 + 7
 
--- ---- what holds of it (proved in proofs/StepLaws.antt; `StoredWithin` in the crate `digits_store`, `ShownWithin` in `digits_load`)
+-- ---- what holds of it (proved in proofs/StepLaws.antt; `StoredWithin` in the module `store`, `ShownWithin` in `load`)
 
 -- a step of storing changes no byte of the record but one
 abbrev pub OneByteSet : Type 0

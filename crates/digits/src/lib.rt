@@ -10,6 +10,15 @@ ghost use Rattle.record.specs.Geometry.{base};
 ghost use Rattle.record.specs.Packing.{digitValue, allDigits};
 ghost use Rattle.digits.specs.Numerals.{placeOf};
 
+// The byte that digits make.
+mod bytes;
+// Digits stored.
+pub mod store;
+// The characters of a byte's digits.
+mod chars;
+// Digits read.
+pub mod load;
+
 // The binary digits, at most, that are left after whole bytes: so many steps are spared for them.
 pub const SPARE: usize = 7;
 

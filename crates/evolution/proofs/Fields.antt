@@ -19,7 +19,7 @@ use Rattle.record.specs.Geometry.{base, perByte}
 use Rattle.record.specs.Reading.{loaded, widened, doubles, digitChar}
 use Rattle.evolution.specs.Claim.{readBack, lowered}
 use Rattle.record.proofs.Fields.{Served, split, item, length-item, number-item, length-patterns}
-use Rattle.stores.proofs.StoreLaws.{take-map, take-patterns}
+use Rattle.pack_store.proofs.stores.StoreLaws.{take-map, take-patterns}
 use Rattle.record.proofs.Bytes.{length-fit, ordered-ordered, length-ordered, digits-number, pieces-join, join-pieces, both, All, all-take, all-drop, all-append, all-replicate, all-ordered}
 
 -- ---- integers

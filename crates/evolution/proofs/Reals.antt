@@ -16,7 +16,7 @@ use Rattle.real.proofs.NarrowLaws.{single-below, single-finite}
 use Rattle.real.proofs.WidenLaws.{double-nan, single-again}
 use Rattle.record.specs.Packing.{patterns, stored, lowBytes, noNaN, realsFit}
 use Rattle.record.proofs.Bytes.{All, all-take, all-below}
-use Rattle.stores.proofs.StoreLaws.{take-map}
+use Rattle.pack_store.proofs.stores.StoreLaws.{take-map}
 use Rattle.evolution.specs.Claim.{readBack}
 use Rattle.evolution.specs.Again.{cameBack, PacksAgain, RealsAgain}
 

@@ -3,3 +3,4 @@ pub mod Claim
 pub mod Pair
 pub mod Again
 pub mod Examples
+pub mod read_back

@@ -11,8 +11,8 @@ use Rattle.record.specs.Packing.{Packed}
 use Rattle.record.specs.Reading.{Read}
 use Rattle.record.proofs.Bytes.{All}
 use Rattle.record.proofs.Readings.{over}
-use Rattle.host_numbers.specs.Numbers.{numberSize, numbersIn, bytesOf}
-use Rattle.host_numbers.proofs.NumberLaws.{bytes-stored}
+use Rattle.host.specs.numbers.Numbers.{numberSize, numbersIn, bytesOf}
+use Rattle.host.proofs.numbers.NumberLaws.{bytes-stored}
 use Rattle.host.specs.Host.{replyOf, packCall, readCall}
 
 module _ {a : Answer} {r : ℕ} {reply′ : List ℕ} (q : (r ≡ a .number) × (reply′ ≡ replyOf a)) where

@@ -13,8 +13,8 @@ use Rattle.layout.specs.Refusals.{if_then_else_}
 use Rattle.record.proofs.Bytes.{and-true}
 use Rattle.record.specs.Table.{maxSlots, slotWidth}
 use Rattle.record.proofs.Fields.{split}
-use Rattle.host_numbers.specs.Numbers.{numberSize, numbersIn}
-use Rattle.host_numbers.proofs.NumberLaws.{length-numbersIn}
+use Rattle.host.specs.numbers.Numbers.{numberSize, numbersIn}
+use Rattle.host.proofs.numbers.NumberLaws.{length-numbersIn}
 use Rattle.host.specs.Host.{slotSize, guarded, slotsFit, fewNumbers, isSmall}
 
 -- ---- the sizes of the runs

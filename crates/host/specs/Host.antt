@@ -10,7 +10,7 @@ use Rattle.record.specs.declared.Answer.{Answer}
 use Rattle.record.specs.Table.{slotWidth, maxSlots}
 use Rattle.record.specs.Packing.{Packed}
 use Rattle.record.specs.Reading.{Read}
-use Rattle.host_numbers.specs.Numbers.{numberSize, bytesOf}
+use Rattle.host.specs.numbers.Numbers.{numberSize, bytesOf}
 
 -- ---- slots and replies as bytes
 

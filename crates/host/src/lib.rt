@@ -1,4 +1,4 @@
-// What the calls for a C host share: the sizes of the runs of bytes that are lent, and the replies. The numbers of a run are in `host_numbers`.
+// What the calls for a C host share: the sizes of the runs of bytes that are lent, and the replies. The numbers of a run are in `numbers`.
 ghost use mathlib.Core.Path.{_≡_};
 ghost use lib.Dec.{eqb};
 ghost use lib.ListN.{length};
@@ -6,8 +6,11 @@ ghost use Rattle.host.specs.Host.{replySize, longReplySize, replyOf, lon
 use record::Answer;
 use record::MAX_NUMBERS;
 
+// Numbers as bytes.
+pub mod numbers;
+
 // The bytes of a slot and of a reply.
-const SLOT_SIZE: usize = host_numbers::NUMBER_SIZE * record::SLOT_WIDTH;
+const SLOT_SIZE: usize = numbers::NUMBER_SIZE * record::SLOT_WIDTH;
 
 const REPLY_SIZE: usize = 12;
 
@@ -31,7 +34,7 @@ pub fn long_reply_fits(size: usize) -> bool
 pub fn slots_fit(size: usize) -> bool
     ensures { λ r. ⌜ r ≡ slotsFit size ⌝ }
 {
-    if MAX_NUMBERS * host_numbers::NUMBER_SIZE < size {
+    if MAX_NUMBERS * numbers::NUMBER_SIZE < size {
         return false;
     }
     size % SLOT_SIZE == 0
@@ -43,7 +46,7 @@ pub fn reply_with(reply: &mut [u8], a: Answer) -> u32
     ensures { λ r. ⌜ (r ≡ a .number) × (now (reply .exit) ≡ replyOf a) ⌝ }
 {
     let three: [u32; 3] = [a.number, a.first, a.second];
-    host_numbers::encode_run(reply, &three, 0, 3);
+    numbers::encode_run(reply, &three, 0, 3);
     a.number
 }
 
@@ -54,7 +57,7 @@ pub fn reply_long(reply: &mut [u8], a: Answer, fourth: u32) -> u32
 {
     let number = a.number;
     let four: [u32; 4] = [number, a.first, a.second, fourth];
-    host_numbers::encode_run(reply, &four, 0, 4);
+    numbers::encode_run(reply, &four, 0, 4);
     number
 }
 

@@ -35,14 +35,14 @@ use Rattle.sheet.specs.Steps.{lentFits}
 use Rattle.sheet.proofs.Entries.{AllSound, entries-sound}
 use Rattle.sheet.proofs.Tables.{length-slot-numbers as length-sheet-numbers}
 use Rattle.sheet.proofs.Calls.{lent, read-it, read-put}
-use Rattle.rescue_fill.specs.Rescue.{blank, keptIn, filledUp, Outcome, rescues, rescueEffect, rescue}
-use Rattle.rescue_fill.proofs.Calls.{rescue-put, rescued-it}
-use Rattle.rescue_fill.proofs.Filled.{filled-values, length-filled}
+use Rattle.rescue.specs.fill.Rescue.{blank, keptIn, filledUp, Outcome, rescues, rescueEffect, rescue}
+use Rattle.rescue.proofs.fill.Calls.{rescue-put, rescued-it}
+use Rattle.rescue.proofs.fill.Filled.{filled-values, length-filled}
 use Rattle.rescue.proofs.Claims.{sound-take}
-use Rattle.host_numbers.specs.Numbers.{numbersIn}
+use Rattle.host.specs.numbers.Numbers.{numbersIn}
 use Rattle.host.specs.Host.{readCall}
-use Rattle.host_read.specs.Calls.{stepsCall}
-use Rattle.host_rescue.specs.Calls.{rescueCall}
+use Rattle.host_record.specs.read.Calls.{stepsCall}
+use Rattle.host_sheet.specs.damaged.{rescueCall}
 use Rattle.host_claims.specs.Agreeing.{ReadAgrees, SheetReadAgrees, RescueAgrees}
 use Rattle.host_claims.proofs.Laws.{read-served, sheet-served, rescue-served, Small, numbers-small, agree}
 

@@ -9,7 +9,7 @@ use Rattle.record.specs.Reading.{ReadAll, readAll}
 use Rattle.lossless.specs.Claim.{Layout, Archived, LosesNothing, readingOf as numbersRead, packingOf as numbersPacked, shownBy as numbersShown}
 use Rattle.lossless.proofs.LosesNothing.{loses-nothing}
 use Rattle.host.specs.Host.{ReadCall, packCall, readCall}
-use Rattle.host_read.specs.Calls.{stepsCall}
+use Rattle.host_record.specs.read.Calls.{stepsCall}
 use Rattle.host_claims.specs.Seen.{filledWith}
 use Rattle.host_claims.specs.Agreeing.{Agrees}
 use Rattle.host_claims.specs.GivenBack.{HostArchived, readingOf, packingOf, shownBy, HostLossless}

@@ -20,17 +20,17 @@ use Rattle.runs.specs.Ends.{endOf}
 use Rattle.evolution.specs.Claim.{Reading, setBy}
 use Rattle.evolution.specs.Pair.{pair}
 use Rattle.lossless.specs.Claim.{Layout, lossless, areBytes as losslessBytes, Archived}
-use Rattle.gluing.specs.Claim.{forward}
+use Rattle.joining.specs.Claim.{forward}
 use Rattle.sheet.specs.Entries.{valueBytes as sheetValues}
 use Rattle.sheet.specs.Sheet.{entriesOf, write, read}
 use Rattle.sheet.specs.Examples.{okTable, okArea, okSheet}
 use Rattle.sheet.specs.Claims.{Stored, Loaded}
 use Rattle.sheet.proofs.Bounds.{areBytes, all-bytes}
-use Rattle.rescue_fill.specs.Rescue.{rescue}
-use Rattle.host_numbers.specs.Numbers.{numbersIn, bytesOf}
+use Rattle.rescue.specs.fill.Rescue.{rescue}
+use Rattle.host.specs.numbers.Numbers.{numbersIn, bytesOf}
 use Rattle.host.specs.Host.{slotSize, replySize, longReplySize}
-use Rattle.host_pack.specs.Calls.{curlewPack}
-use Rattle.host_rescue.specs.Calls.{rescueReplySize}
+use Rattle.host_record.specs.pack.{curlewPack}
+use Rattle.host_sheet.specs.damaged.{rescueReplySize}
 use Rattle.host_claims.specs.Seen.{Lends, filledWith}
 use Rattle.host_claims.specs.ReadBack as readBack
 use Rattle.host_claims.specs.GivenBack.{HostArchived}

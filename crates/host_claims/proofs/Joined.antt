@@ -14,11 +14,11 @@ use Rattle.record.specs.Packing.{accepted, Packed, finished, packs, pack}
 use Rattle.record.proofs.Sizes.{Sized, sized}
 use Rattle.runs.specs.Ends.{recordOf}
 use Rattle.runs.proofs.Calls.{packs-passed, accepted-result}
-use Rattle.gluing.specs.Claim.{forward, Template, glue, Part as NumbersPart, resultOf as numbersResult, Gives as NumbersGive}
-use Rattle.gluing.proofs.Glues.{glues}
-use Rattle.host_numbers.specs.Numbers.{numbersIn}
+use Rattle.joining.specs.Claim.{forward, Template, glue, Part as NumbersPart, resultOf as numbersResult, Gives as NumbersGive}
+use Rattle.joining.proofs.Glues.{glues}
+use Rattle.host.specs.numbers.Numbers.{numbersIn}
 use Rattle.host.specs.Host.{PackCall, packCall}
-use Rattle.host_pack.specs.Calls.{curlewPack}
+use Rattle.host_record.specs.pack.{curlewPack}
 use Rattle.host_claims.specs.Seen.{Slots, resultOf}
 use Rattle.host_claims.specs.Joined.{Part, alone, Gives, HostGlues, HostJoined}
 use Rattle.host_claims.proofs.Laws.{pack-served, result-is, slots-both, numbers-both}

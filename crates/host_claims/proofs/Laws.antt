@@ -21,16 +21,16 @@ use Rattle.record.proofs.Widening.{number-below}
 use Rattle.record.proofs.Fields.{split}
 use Rattle.sheet.specs.Sheet.{write, read as readSheet}
 use Rattle.sheet.proofs.Entries.{number-in as front-number, length-here}
-use Rattle.rescue_fill.specs.Rescue.{rescue}
-use Rattle.host_numbers.specs.Numbers.{numberSize, numbersIn, bytesOf}
-use Rattle.host_numbers.proofs.NumberLaws.{length-bytesOf, length-numbersIn, bytes-drop}
-use Rattle.host_numbers.proofs.Claims.{numbers-of-bytes, numbers-joined}
+use Rattle.rescue.specs.fill.Rescue.{rescue}
+use Rattle.host.specs.numbers.Numbers.{numberSize, numbersIn, bytesOf}
+use Rattle.host.proofs.numbers.NumberLaws.{length-bytesOf, length-numbersIn, bytes-drop}
+use Rattle.host.proofs.numbers.Claims.{numbers-of-bytes, numbers-joined}
 use Rattle.host.specs.Host.{slotSize, replySize, longReplySize, replyOf, packCall, readCall}
-use Rattle.host_pack.specs.Calls.{curlewPack}
-use Rattle.host_read.specs.Calls.{stepsCall, curlewRead}
-use Rattle.host_sheet_write.specs.Calls.{curlewSheetWrite}
-use Rattle.host_sheet_read.specs.Calls.{curlewSheetRead}
-use Rattle.host_rescue.specs.Calls.{rescueReplySize, rescueCall, curlewSheetRescue}
+use Rattle.host_record.specs.pack.{curlewPack}
+use Rattle.host_record.specs.read.Calls.{stepsCall, curlewRead}
+use Rattle.host_sheet.specs.write.{curlewSheetWrite}
+use Rattle.host_sheet.specs.read.{curlewSheetRead}
+use Rattle.host_sheet.specs.damaged.{rescueReplySize, rescueCall, curlewSheetRescue}
 use Rattle.host_claims.specs.Seen.{Slots, Lends, firstSlots, replied, resultOf}
 use Rattle.host_claims.specs.Agreeing.{Agrees}
 

@@ -14,10 +14,10 @@ use Rattle.record.specs.Reading.{Read, read, readSteps, readAll}
 use Rattle.record.proofs.Readings.{read-few}
 use Rattle.runs.specs.OldValues.{slotsSet as numbersSet, Old as NumbersOld}
 use Rattle.runs.proofs.OldValues.{old-values}
-use Rattle.host_numbers.specs.Numbers.{numbersIn}
+use Rattle.host.specs.numbers.Numbers.{numbersIn}
 use Rattle.host.specs.Host.{slotSize, longReplySize, longReply, ReadCall, readCall}
-use Rattle.host_read.specs.Calls.{stepsCall, curlewRead}
-use Rattle.host_read.specs.Claims.{slotsSet}
+use Rattle.host_record.specs.read.Calls.{stepsCall, curlewRead}
+use Rattle.host_record.specs.read.Claims.{slotsSet}
 use Rattle.host_claims.specs.Seen.{Lends, replied}
 use Rattle.host_claims.specs.OldShown.{Old, HostOldValues}
 use Rattle.host_claims.proofs.Laws.{read-served, replied-number}

@@ -18,10 +18,10 @@ use Rattle.runs.specs.Ends.{endOf}
 use Rattle.runs.proofs.Calls.{T→true}
 use Rattle.evolution.specs.Claim.{Layouts, ReadsBack, textOf, fieldsBy, slotsBy, outputBy, argumentsBy, recordBytes, packedBy, recordBy, cutRecord, due, starts, carriedOut}
 use Rattle.evolution.proofs.ReadsBack.{demand3}
-use Rattle.host_numbers.specs.Numbers.{numbersIn, bytesOf}
-use Rattle.host_numbers.proofs.NumberLaws.{bytes-stored}
+use Rattle.host.specs.numbers.Numbers.{numbersIn, bytesOf}
+use Rattle.host.proofs.numbers.NumberLaws.{bytes-stored}
 use Rattle.host.specs.Host.{replySize, longReply, ReadCall, packCall, readCall}
-use Rattle.host_read.specs.Calls.{stepsCall}
+use Rattle.host_record.specs.read.Calls.{stepsCall}
 use Rattle.host_claims.specs.Seen.{Slots, Lends, slotsIn, resultOf, filledWith}
 use Rattle.host_claims.specs.ReadBack.{Lent, argumentBytes, packing, reading, Meant, KeepsBack, HostDemand3}
 use Rattle.host_claims.proofs.Laws.{pack-served, read-served, result-is, slots-first, numbers-first}

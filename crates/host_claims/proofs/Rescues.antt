@@ -8,13 +8,13 @@ use Rattle.record.specs.Table.{slotWidth}
 use Rattle.record.proofs.Tables.{slots-take}
 use Rattle.sheet.specs.Sheet.{write}
 use Rattle.sheet.specs.Claims.{sheetOf}
-use Rattle.rescue_fill.specs.declared.Rescued.{Rescued}
-use Rattle.rescue_fill.specs.Rescue.{Outcome, rescue}
+use Rattle.rescue.specs.declared.fill.Rescued.{Rescued}
+use Rattle.rescue.specs.fill.Rescue.{Outcome, rescue}
 use Rattle.rescue.specs.Claims.{setBy, SavesAll as NumbersSaved}
 use Rattle.rescue.proofs.Claims.{rescued-saved}
-use Rattle.host_numbers.specs.Numbers.{numbersIn}
+use Rattle.host.specs.numbers.Numbers.{numbersIn}
 use Rattle.host.specs.Host.{PackCall, ReadCall, packCall}
-use Rattle.host_rescue.specs.Calls.{rescueReply, rescueCall}
+use Rattle.host_sheet.specs.damaged.{rescueReply, rescueCall}
 use Rattle.host_claims.specs.Seen.{firstSlots, resultOf}
 use Rattle.host_claims.specs.Agreeing.{Agrees}
 use Rattle.host_claims.specs.Rescues.{Lent, rescued, written, rescuedAgain, Meant, SavesAll, HostRescuedSaved}

@@ -15,10 +15,10 @@ use Rattle.sheet.specs.Claims.{sheetOf, Stored, KeepsValues}
 use Rattle.sheet.specs.Steps.{tableSheet}
 use Rattle.sheet.proofs.Calls.{lengths, lent, wrote, write-done, read-it, read-put}
 use Rattle.sheet.proofs.Claims.{table-kept, sheet-kept}
-use Rattle.host_numbers.specs.Numbers.{numbersIn}
+use Rattle.host.specs.numbers.Numbers.{numbersIn}
 use Rattle.host.specs.Host.{replySize, replyOf, PackCall, ReadCall, packCall, readCall}
-use Rattle.host_sheet_write.specs.Calls.{curlewSheetWrite}
-use Rattle.host_sheet_read.specs.Calls.{curlewSheetRead}
+use Rattle.host_sheet.specs.write.{curlewSheetWrite}
+use Rattle.host_sheet.specs.read.{curlewSheetRead}
 use Rattle.host_claims.specs.Seen.{Lends, firstSlots, replied, resultOf}
 use Rattle.host_claims.specs.Agreeing.{Agrees}
 use Rattle.host_claims.specs.Sheets.{KeepsTable, HostTableKept, HostSheetKept}

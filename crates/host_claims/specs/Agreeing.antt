@@ -6,12 +6,12 @@ use mathlib.Core.List.{List}
 use lib.ListN.{length}
 use Rattle.record.specs.Reading.{read}
 use Rattle.sheet.specs.Sheet.{read as readSheet}
-use Rattle.rescue_fill.specs.Rescue.{rescue}
-use Rattle.host_numbers.specs.Numbers.{numbersIn}
+use Rattle.rescue.specs.fill.Rescue.{rescue}
+use Rattle.host.specs.numbers.Numbers.{numbersIn}
 use Rattle.host.specs.Host.{replySize, longReplySize}
-use Rattle.host_read.specs.Calls.{curlewRead}
-use Rattle.host_sheet_read.specs.Calls.{curlewSheetRead}
-use Rattle.host_rescue.specs.Calls.{rescueReplySize, curlewSheetRescue}
+use Rattle.host_record.specs.read.Calls.{curlewRead}
+use Rattle.host_sheet.specs.read.{curlewSheetRead}
+use Rattle.host_sheet.specs.damaged.{rescueReplySize, curlewSheetRescue}
 use Rattle.host_claims.specs.Seen.{Slots, Lends}
 
 -- the slots that were lent, those that are left, and the numbers that they should hold

@@ -5,10 +5,10 @@ use mathlib.Core.List.{List, map}
 use lib.ListN.{length}
 use Rattle.record.specs.Table.{Value, shown}
 use Rattle.lossless.specs.Claim.{Layout, Archived}
-use Rattle.host_numbers.specs.Numbers.{numbersIn}
+use Rattle.host.specs.numbers.Numbers.{numbersIn}
 use Rattle.host.specs.Host.{replySize, longReplySize, PackCall, ReadCall}
-use Rattle.host_pack.specs.Calls.{curlewPack}
-use Rattle.host_read.specs.Calls.{curlewRead}
+use Rattle.host_record.specs.pack.{curlewPack}
+use Rattle.host_record.specs.read.Calls.{curlewRead}
 use Rattle.host_claims.specs.Seen.{Lends, slotsIn, filledWith}
 
 -- a record of the layout with all that M-107 asks, over the numbers in a run of slot bytes; and the two replies

@@ -10,10 +10,10 @@ use Rattle.layout.specs.declared.Field.{Field}
 use Rattle.layout.specs.Refusals.{ok}
 use Rattle.layout.specs.Layout.{fieldsOf}
 use Rattle.record.specs.Geometry.{sizesFit}
-use Rattle.gluing.specs.Claim.{forward}
-use Rattle.host_numbers.specs.Numbers.{numbersIn}
+use Rattle.joining.specs.Claim.{forward}
+use Rattle.host.specs.numbers.Numbers.{numbersIn}
 use Rattle.host.specs.Host.{replySize}
-use Rattle.host_pack.specs.Calls.{curlewPack}
+use Rattle.host_record.specs.pack.{curlewPack}
 use Rattle.host_claims.specs.Seen.{Lends, resultOf, filledWith}
 
 -- a layout without X and @ and its slots, which curlew_pack accepts by themselves over the area, in a buffer of their

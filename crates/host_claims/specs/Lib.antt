@@ -9,3 +9,4 @@ pub mod GivenBack
 pub mod Sheets
 pub mod Rescues
 pub mod Joined
+pub mod plans

@@ -6,10 +6,10 @@ use mathlib.Core.List.{List}
 use lib.ListN.{getD}
 use Rattle.record.specs.Table.{shown}
 use Rattle.record.specs.Slots.{slotAt, valueEnd}
-use Rattle.host_numbers.specs.Numbers.{numbersIn}
+use Rattle.host.specs.numbers.Numbers.{numbersIn}
 use Rattle.host.specs.Host.{ReadCall}
-use Rattle.host_read.specs.Calls.{curlewRead}
-use Rattle.host_read.specs.Claims.{slotsSet}
+use Rattle.host_record.specs.read.Calls.{curlewRead}
+use Rattle.host_record.specs.read.Claims.{slotsSet}
 
 -- slot number i of a run of bytes was lent, and ends at or before the mark: after the call it shows what it showed
 pub record Old (slots area : List ℕ) (mark i : ℕ) (c : ReadCall) : Type 0 where

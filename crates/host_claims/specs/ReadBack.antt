@@ -9,10 +9,10 @@ use Rattle.layout.specs.Layout.{slotCount}
 use Rattle.record.specs.Bytes.{storeAt}
 use Rattle.record.specs.Table.{shown, slotNumbers, valueBytes}
 use Rattle.evolution.specs.Claim.{Layouts, Reading, textOf, fieldsBy, outputBy, argumentsBy, recordBytes, due, starts, carriedOut}
-use Rattle.host_numbers.specs.Numbers.{numbersIn, bytesOf}
+use Rattle.host.specs.numbers.Numbers.{numbersIn, bytesOf}
 use Rattle.host.specs.Host.{replySize, longReplySize, PackCall, ReadCall}
-use Rattle.host_pack.specs.Calls.{curlewPack}
-use Rattle.host_read.specs.Calls.{curlewRead}
+use Rattle.host_record.specs.pack.{curlewPack}
+use Rattle.host_record.specs.read.Calls.{curlewRead}
 use Rattle.host_claims.specs.Seen.{Slots, Lends, firstSlots, slotsIn, resultOf, filledWith}
 
 -- ---- the calls

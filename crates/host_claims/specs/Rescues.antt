@@ -6,10 +6,10 @@ use mathlib.Core.List.{List, [], _∷_, map}
 use lib.ListN.{length, take}
 use Rattle.sheet.specs.Claims.{seen}
 use Rattle.rescue.specs.Claims.{Again}
-use Rattle.host_numbers.specs.Numbers.{numbersIn, bytesOf}
+use Rattle.host.specs.numbers.Numbers.{numbersIn, bytesOf}
 use Rattle.host.specs.Host.{replySize, PackCall, ReadCall}
-use Rattle.host_sheet_write.specs.Calls.{curlewSheetWrite}
-use Rattle.host_rescue.specs.Calls.{rescueReplySize, curlewSheetRescue}
+use Rattle.host_sheet.specs.write.{curlewSheetWrite}
+use Rattle.host_sheet.specs.damaged.{rescueReplySize, curlewSheetRescue}
 use Rattle.host_claims.specs.Seen.{Lends, firstSlots, slotsIn, resultOf}
 
 -- What the three calls are lent: the damaged sheet and the legs that it should have; slots, area and mark for the first

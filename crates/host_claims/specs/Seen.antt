@@ -7,7 +7,7 @@ use Rattle.record.specs.declared.slots.Slot.{Slot}
 use Rattle.record.specs.Bytes.{numberAt}
 use Rattle.record.specs.Table.{slotsOf}
 use Rattle.record.specs.Packing.{accepted}
-use Rattle.host_numbers.specs.Numbers.{numberSize, numbersIn}
+use Rattle.host.specs.numbers.Numbers.{numberSize, numbersIn}
 use Rattle.host.specs.Host.{slotSize, replyOf, PackCall}
 
 -- ---- what it lends

@@ -5,10 +5,10 @@ use mathlib.Core.Path.{_≡_}
 use mathlib.Core.List.{List, map}
 use lib.ListN.{length, take}
 use Rattle.sheet.specs.Claims.{seen, Stored, Loaded}
-use Rattle.host_numbers.specs.Numbers.{numbersIn}
+use Rattle.host.specs.numbers.Numbers.{numbersIn}
 use Rattle.host.specs.Host.{replySize, PackCall, ReadCall}
-use Rattle.host_sheet_write.specs.Calls.{curlewSheetWrite}
-use Rattle.host_sheet_read.specs.Calls.{curlewSheetRead}
+use Rattle.host_sheet.specs.write.{curlewSheetWrite}
+use Rattle.host_sheet.specs.read.{curlewSheetRead}
 use Rattle.host_claims.specs.Seen.{Lends, firstSlots, replied, slotsIn, resultOf, filledWith}
 
 -- ---- table to sheet and back

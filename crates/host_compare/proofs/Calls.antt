@@ -22,17 +22,17 @@ use Rattle.record.specs.Reading.{reads}
 use Rattle.record.proofs.Bytes.{All}
 use Rattle.record.proofs.Sizes.{too-many as sizes-many}
 use Rattle.record.proofs.Tables.{length-slots}
-use Rattle.checking.specs.Checks.{checked}
-use Rattle.difference.specs.Rows.{reportWidth}
+use Rattle.reader.specs.checking.Checks.{checked}
+use Rattle.compare.specs.difference.{reportWidth}
 use Rattle.compare.specs.Comparing.{Shown, compares, compareEffect, Compared, compare}
 use Rattle.compare.proofs.Calls.{accepted-reads}
 use Rattle.compare.proofs.Lent.{Kept, Settled, settled, reportOver, report-over}
-use Rattle.host_numbers.specs.Numbers.{numberSize, numbersIn, bytesOf}
-use Rattle.host_numbers.proofs.NumberLaws.{length-numbersIn, length-bytesOf, bytes-stored}
+use Rattle.host.specs.numbers.Numbers.{numberSize, numbersIn, bytesOf}
+use Rattle.host.proofs.numbers.NumberLaws.{length-numbersIn, length-bytesOf, bytes-stored}
 use Rattle.host.specs.Host.{slotSize, replySize, replyOf, slotsFit}
 use Rattle.host.proofs.Guards.{Fit, too-many}
 use Rattle.host_compare.specs.Calls.{rowSize, wholeSlots, comparesLent, compareCall, curlewCompare}
-use Rattle.compare_write.specs.Back.{Fits, putBack}
+use Rattle.host_compare.specs.report.{Fits, putBack}
 use Rattle.host_compare.specs.Steps.{secondCut}
 
 -- ---- slots that are not served

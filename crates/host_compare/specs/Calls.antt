@@ -9,9 +9,9 @@ use Rattle.layout.specs.declared.Refusal.the-variants.{BadSize}
 use Rattle.layout.specs.Refusals.{if_then_else_, numberOf, Result, ok, refused, _>>=_, demand}
 use Rattle.layout.specs.Lent.{Lent, before, after}
 use Rattle.record.specs.Reading.{reads}
-use Rattle.difference.specs.Rows.{reportWidth}
+use Rattle.compare.specs.difference.{reportWidth}
 use Rattle.compare.specs.Comparing.{Shown, compares, compareEffect, Compared, compare}
-use Rattle.host_numbers.specs.Numbers.{numberSize, numbersIn, bytesOf}
+use Rattle.host.specs.numbers.Numbers.{numberSize, numbersIn, bytesOf}
 use Rattle.host.specs.Host.{slotSize, replySize, replyOf}
 
 -- the bytes of a row of the report

@@ -7,7 +7,7 @@ use Rattle.layout.specs.Refusals.{if_then_else_}
 use Rattle.layout.specs.Lent.{Lent, before, after}
 use Rattle.record.specs.declared.Answer.{Answer}
 use Rattle.record.specs.Packing.{refusal}
-use Rattle.checking.specs.Checks.{checked}
+use Rattle.reader.specs.checking.Checks.{checked}
 use Rattle.host.specs.Host.{replyOf}
 
 abbrev pub secondCut : Answer → Answer

@@ -3,16 +3,20 @@ ghost use mathlib.Core.Path.{_≡_};
 ghost use Prim.Native.Nat.{_*_, _/_, _%_, min};
 ghost use lib.ListN.{length};
 ghost use Rattle.record.specs.Table.{slotWidth, maxSlots};
-ghost use Rattle.host_numbers.specs.Numbers.{numberSize};
+ghost use Rattle.host.specs.numbers.Numbers.{numberSize};
 ghost use Rattle.host.specs.Host.{replySize};
-ghost use Rattle.difference.specs.Rows.{reportWidth};
+ghost use Rattle.compare.specs.difference.{reportWidth};
 ghost use Rattle.host_compare.specs.Calls.{CompareServed, HostCompares};
 ghost use Rattle.host_compare.specs.Steps.{SecondRefused};
 use layout::Refusal;
+use reader::checking;
 use record::Answer;
 
+// What it leaves, written back.
+mod report;
+
 // The numbers of a report that has a row for every slot.
-const MAX_REPORT: usize = compare_report::REPORT_WIDTH * record::MAX_SLOTS;
+const MAX_REPORT: usize = compare::report::REPORT_WIDTH * record::MAX_SLOTS;
 
 // The second table is cut or too long: the answer to the first reading's refusals, and else 1.
 fn refuse_second(layout: &[u8], first: &[u8], slots: &[u32], area: &[u8], reply: &mut [u8]) -> u32
@@ -46,8 +50,8 @@ fn compare_by(
     requires { ⌜ (length (now «second_slots») ≡ length (now «second_room») * numberSize) × (length (now «second_room») % slotWidth ≡ 0) ⌝ }
     ensures { λ r. ⌜ CompareServed layout first second «first_slots» «first_area» «second_slots» «second_area» report reply r ⌝ }
 {
-    host_numbers::decode(first_slots, first_room);
-    host_numbers::decode(second_slots, second_room);
+    host::numbers::decode(first_slots, first_room);
+    host::numbers::decode(second_slots, second_room);
     let a = compare::compare(
         layout,
         first,
@@ -58,7 +62,7 @@ fn compare_by(
         second_area,
         rows,
     );
-    compare_write::write_back(
+    report::write_back(
         first_slots,
         second_slots,
         report,
@@ -90,14 +94,14 @@ pub fn compare(
     if !host::slots_fit(first_slots.len()) {
         return host::reply_with(reply, Answer::refused(Refusal::BadSize, 0));
     }
-    let n = first_slots.len() / host_numbers::NUMBER_SIZE;
+    let n = first_slots.len() / host::numbers::NUMBER_SIZE;
     let mut first_room: [u32; record::MAX_NUMBERS] = [0; record::MAX_NUMBERS];
     if !host::slots_fit(second_slots.len()) {
         return refuse_second(layout, first, &first_room[..n], first_area, reply);
     }
-    let m = second_slots.len() / host_numbers::NUMBER_SIZE;
+    let m = second_slots.len() / host::numbers::NUMBER_SIZE;
     let mut second_room: [u32; record::MAX_NUMBERS] = [0; record::MAX_NUMBERS];
-    let k = record::least(report.len() / host_numbers::NUMBER_SIZE, MAX_REPORT);
+    let k = record::least(report.len() / host::numbers::NUMBER_SIZE, MAX_REPORT);
     let mut rows: [u32; MAX_REPORT] = [0; MAX_REPORT];
     compare_by(
         layout,

@@ -16,11 +16,11 @@ use Rattle.record.specs.Geometry.{tableFits}
 use Rattle.record.specs.Packing.{refusal}
 use Rattle.record.proofs.NumberLaws.{length-numberBytes}
 use Rattle.record.proofs.Stores.{store-next, store-whole}
-use Rattle.marks.specs.declared.LegMean.the-variants.{Unmarked}
-use Rattle.marks.specs.declared.Marks.{Marks}
-use Rattle.marks.specs.Mean.{legs, marksEffect, mean}
-use Rattle.host_numbers.specs.Numbers.{numberSize, numbersIn, bytesOf}
-use Rattle.host_numbers.proofs.NumberLaws.{length-bytesOf}
+use Rattle.mean.specs.declared.marks.LegMean.the-variants.{Unmarked}
+use Rattle.mean.specs.declared.marks.Marks.{Marks}
+use Rattle.mean.specs.marks.Mean.{legs, marksEffect, mean}
+use Rattle.host.specs.numbers.Numbers.{numberSize, numbersIn, bytesOf}
+use Rattle.host.proofs.numbers.NumberLaws.{length-bytesOf}
 use Rattle.host.specs.Host.{slotsFit}
 use Rattle.host.proofs.Guards.{Fit, guarded-unwritten, guarded-refused, guarded-served}
 use Rattle.host_mean.specs.Calls.{meanReplySize, meanReply, meanCall, curlewMean}

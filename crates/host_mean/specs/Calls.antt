@@ -9,11 +9,11 @@ use Rattle.layout.specs.Lent.{Lent, before, after}
 use Rattle.record.specs.Bytes.{numberBytes}
 use Rattle.record.specs.Table.{integerSize}
 use Rattle.record.specs.Packing.{refusal}
-use Rattle.marks.specs.declared.LegMean.{LegMean}
-use Rattle.marks.specs.declared.LegMean.the-variants.{Unmarked, Of}
-use Rattle.marks.specs.declared.Marks.{Marks}
-use Rattle.marks.specs.Mean.{mean}
-use Rattle.host_numbers.specs.Numbers.{numberSize, numbersIn, bytesOf}
+use Rattle.mean.specs.declared.marks.LegMean.{LegMean}
+use Rattle.mean.specs.declared.marks.LegMean.the-variants.{Unmarked, Of}
+use Rattle.mean.specs.declared.marks.Marks.{Marks}
+use Rattle.mean.specs.marks.Mean.{mean}
+use Rattle.host.specs.numbers.Numbers.{numberSize, numbersIn, bytesOf}
 use Rattle.host.specs.Host.{guarded}
 
 -- ---- the reply

@@ -4,16 +4,17 @@ ghost use Prim.Native.Nat.{_*_, _%_};
 ghost use lib.Dec.{eqb};
 ghost use lib.ListN.{length};
 ghost use Rattle.record.specs.Table.{slotWidth};
-ghost use Rattle.host_numbers.specs.Numbers.{numberSize};
-ghost use Rattle.marks.specs.Claims.{Numeric};
+ghost use Rattle.host.specs.numbers.Numbers.{numberSize};
+ghost use Rattle.mean.specs.marks.Claims.{Numeric};
 ghost use Rattle.host_mean.specs.Calls.{meanReplySize, follows, pattern, meanReply, MeanServed, HostMeans};
+use byte_runs::big_endian;
 use layout::Refusal;
-use marks::LegMean;
-use marks::Marks;
+use mean::marks::LegMean;
+use mean::marks::Marks;
 use record::Answer;
 
 // Where the pattern stands in the reply, and the reply's bytes.
-const PATTERN_AT: usize = host_numbers::NUMBER_SIZE * 4;
+const PATTERN_AT: usize = host::numbers::NUMBER_SIZE * 4;
 
 const REPLY_SIZE: usize = PATTERN_AT + record::INTEGER_SIZE;
 
@@ -53,7 +54,7 @@ fn reply_with(reply: &mut [u8], r: Marks) -> u32
     let a = r.answer;
     let m = r.mean;
     let four: [u32; 4] = [a.number, a.first, a.second, follows(m)];
-    host_numbers::encode_run(reply, &four, 0, 4);
+    host::numbers::encode_run(reply, &four, 0, 4);
     big_endian::put_number(reply, PATTERN_AT, record::INTEGER_SIZE, pattern(m));
     a.number
 }
@@ -63,7 +64,7 @@ fn mean_by(slots: &[u8], area: &[u8], reply: &mut [u8], room: &mut [u32]) -> u32
     requires { ⌜ (length (now reply) ≡ meanReplySize) × (length (now slots) ≡ length (now room) * numberSize) × (length (now room) % slotWidth ≡ 0) ⌝ }
     ensures { λ r. ⌜ MeanServed slots area reply r ⌝ }
 {
-    host_numbers::decode(slots, room);
+    host::numbers::decode(slots, room);
     let r = mean::mean(room, area);
     reply_with(reply, r)
 }
@@ -84,7 +85,7 @@ pub fn mean(slots: &[u8], area: &[u8], reply: &mut [u8]) -> u32
             },
         );
     }
-    let n = slots.len() / host_numbers::NUMBER_SIZE;
+    let n = slots.len() / host::numbers::NUMBER_SIZE;
     let mut room: [u32; record::MAX_NUMBERS] = [0; record::MAX_NUMBERS];
     mean_by(slots, area, reply, &mut room[..n])
 }

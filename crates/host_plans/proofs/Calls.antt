@@ -23,20 +23,20 @@ use Rattle.record.specs.Packing.{Packed, refusal}
 use Rattle.record.specs.Reading.{ReadAll}
 use Rattle.record.proofs.Bytes.{All}
 use Rattle.record.proofs.Sizes.{Sized, sized, too-many}
-use Rattle.measuring.specs.Measure.{Prepared}
-use Rattle.pack_words.specs.Words.{finishes}
+use Rattle.pack_check.specs.measuring.{Prepared}
+use Rattle.packer.specs.passes.{finishes}
 use Rattle.packer.proofs.WholeLaws as whole
-use Rattle.checking.specs.Sizes.{lentFits}
-use Rattle.checking.proofs.Calls.{Fit as Lent, fit as lent, sizes-refuse-fields, fields-refuse}
-use Rattle.read_words.specs.Words.{Ready, readWords}
-use Rattle.read_words.proofs.Whole as words
-use Rattle.host_numbers.specs.Numbers.{numberSize, numbersIn}
-use Rattle.host_numbers.proofs.NumberLaws.{length-numbersIn}
+use Rattle.reader.specs.checking.Sizes.{lentFits}
+use Rattle.reader.proofs.checking.Calls.{Fit as Lent, fit as lent, sizes-refuse-fields, fields-refuse}
+use Rattle.reader.specs.passes.{Ready, readWords}
+use Rattle.reader.proofs.passes.Whole as words
+use Rattle.host.specs.numbers.Numbers.{numberSize, numbersIn}
+use Rattle.host.proofs.numbers.NumberLaws.{length-numbersIn}
 use Rattle.host.specs.Host.{replySize, longReplySize, replyOf, longReply, packCall, readCall, slotsFit}
 use Rattle.host.proofs.Guards.{Fit, guarded-unwritten, guarded-refused, guarded-served}
 use Rattle.host.proofs.Calls as host
-use Rattle.host_read.specs.Calls.{stepsCall, writtenBack}
-use Rattle.host_read.proofs.Calls.{fields-many, fields-room, fields-replied}
+use Rattle.host_record.specs.read.Calls.{stepsCall, writtenBack}
+use Rattle.host_record.proofs.read.Calls.{fields-many, fields-room, fields-replied}
 use Rattle.plans.specs.Plans.{planFields, prepare, packPlan, readPlan}
 use Rattle.plans.proofs.Calls.{plan-inside, plan-sizes, plan-refused, plan-words}
 use Rattle.host_plans.specs.Calls.{curlewPrepare, curlewPackPlan, curlewReadPlan}

@@ -9,9 +9,9 @@ use Rattle.layout.specs.declared.Refusal.the-variants.{BadSize}
 use Rattle.layout.specs.Refusals.{numberOf, if_then_else_}
 use Rattle.layout.specs.Lent.{Lent, before, after}
 use Rattle.record.specs.Packing.{refusal}
-use Rattle.host_numbers.specs.Numbers.{numbersIn}
+use Rattle.host.specs.numbers.Numbers.{numbersIn}
 use Rattle.host.specs.Host.{replySize, longReplySize, replyOf, PackCall, packCall, ReadCall, guarded}
-use Rattle.host_read.specs.Calls.{stepsCall}
+use Rattle.host_record.specs.read.Calls.{stepsCall}
 use Rattle.plans.specs.Plans.{Planned, prepare, packPlan, readPlan}
 
 -- ---- a layout prepared

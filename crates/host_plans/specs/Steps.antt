@@ -12,12 +12,12 @@ use Rattle.layout.specs.Words.{decoded, Parses}
 use Rattle.record.specs.declared.Answer.{Answer}
 use Rattle.record.specs.Table.{slotWidth, maxRecord}
 use Rattle.record.specs.Geometry.{lengthsFit}
-use Rattle.measuring.specs.Measure.{Prepared}
-use Rattle.pack_words.specs.Words.{finishes}
-use Rattle.checking.specs.Sizes.{lentFits}
-use Rattle.host_numbers.specs.Numbers.{numberSize, numbersIn}
+use Rattle.pack_check.specs.measuring.{Prepared}
+use Rattle.packer.specs.passes.{finishes}
+use Rattle.reader.specs.checking.Sizes.{lentFits}
+use Rattle.host.specs.numbers.Numbers.{numberSize, numbersIn}
 use Rattle.host.specs.Host.{slotSize, longReplySize}
-use Rattle.host_read.specs.Calls.{stepsCall}
+use Rattle.host_record.specs.read.Calls.{stepsCall}
 use Rattle.plans.specs.Plans.{planFields, packPlan, readPlan}
 
 -- room for the numbers of just these slots, which are whole

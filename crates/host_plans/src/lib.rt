@@ -4,12 +4,14 @@
 ghost use mathlib.Core.Path.{_≡_};
 ghost use Prim.Native.Nat.{_*_};
 ghost use lib.ListN.{length};
-ghost use Rattle.host_numbers.specs.Numbers.{numberSize};
+ghost use Rattle.host.specs.numbers.Numbers.{numberSize};
 ghost use Rattle.host_plans.specs.Calls.{HostPrepares, HostPacksPlan, HostReadsPlan};
 ghost use Rattle.host_plans.specs.Steps.{RoomFor, Packable, Packs, PackJudged, PacksByPlan, Readable, ReadJudged, ReadsByPlan};
 use layout::Parsed;
 use layout::Refusal;
+use reader::checking;
 use record::Answer;
+use slot_table::sizes;
 
 // Reads a layout once, into a plan for many records.
 pub fn prepare(layout: &[u8], plan: &mut [u32], reply: &mut [u8]) -> u32
@@ -35,8 +37,8 @@ fn pack_few(
     requires { ⌜ Packable n (now plan) (now slots) (now out) × RoomFor (now slots) (now room) ⌝ }
     ensures { λ a. ⌜ Packs n plan slots area out a ⌝ }
 {
-    host_numbers::decode(slots, room);
-    pack_words::pack(plan, n, room, area, out)
+    host::numbers::decode(slots, room);
+    packer::passes::pack(plan, n, room, area, out)
 }
 
 fn pack_many(
@@ -50,8 +52,8 @@ fn pack_many(
     requires { ⌜ Packable n (now plan) (now slots) (now out) × RoomFor (now slots) (now room) ⌝ }
     ensures { λ a. ⌜ Packs n plan slots area out a ⌝ }
 {
-    host_numbers::decode(slots, room);
-    pack_words::pack(plan, n, room, area, out)
+    host::numbers::decode(slots, room);
+    packer::passes::pack(plan, n, room, area, out)
 }
 
 // What is left of a packing once the plan is judged.
@@ -62,7 +64,7 @@ fn packed(p: Parsed, plan: &[u32], slots: &[u8], area: &[u8], out: &mut [u8]) ->
     match p {
         Parsed::Refused(why, place) => Answer::refused(why, place as u32),
         Parsed::Fields(n, needed) => {
-            let k = slots.len() / host_numbers::NUMBER_SIZE;
+            let k = slots.len() / host::numbers::NUMBER_SIZE;
             if k / record::SLOT_WIDTH != needed {
                 return Answer::refused(Refusal::WrongSlots, 0);
             }
@@ -76,7 +78,7 @@ fn packed(p: Parsed, plan: &[u32], slots: &[u8], area: &[u8], out: &mut [u8]) ->
     }
 }
 
-// Packs the arguments into `out` by a plan, as `host_pack::pack` does by a layout.
+// Packs the arguments into `out` by a plan, as `host_record::pack::pack` does by a layout.
 pub fn pack(plan: &[u32], slots: &[u8], area: &[u8], out: &mut [u8], reply: &mut [u8]) -> u32
     ensures { λ r. ⌜ HostPacksPlan plan slots area out reply r ⌝ }
 {
@@ -86,7 +88,7 @@ pub fn pack(plan: &[u32], slots: &[u8], area: &[u8], out: &mut [u8], reply: &mut
     if !host::slots_fit(slots.len()) {
         return host::reply_with(reply, Answer::refused(Refusal::BadSize, 0));
     }
-    let numbers = slots.len() / host_numbers::NUMBER_SIZE;
+    let numbers = slots.len() / host::numbers::NUMBER_SIZE;
     if !sizes::lengths_fit(plan.len(), numbers, out.len(), area.len()) {
         return host::reply_with(reply, Answer::refused(Refusal::BadSize, 0));
     }
@@ -96,7 +98,7 @@ pub fn pack(plan: &[u32], slots: &[u8], area: &[u8], out: &mut [u8], reply: &mut
 }
 
 // Reads by the n fields of a plan, of which so many take a slot, with room lent for the slots' numbers: what stands there does not count. For few slots,
-// and for more. (The test of `read_words::read` stands in the first too: the fields are then written by a call from there, where it costs least.)
+// and for more. (The test of `reader::passes::read` stands in the first too: the fields are then written by a call from there, where it costs least.)
 fn read_few(
     plan: &[u32],
     n: usize,
@@ -113,10 +115,10 @@ fn read_few(
 {
     if checking::surely_fits(n, taken, bytes.len(), room.len(), area.len() - mark) {
         let r = reading::fill(plan, n, bytes, room, area, mark);
-        return host_read::read_back(slots, reply, room, r);
+        return host_record::read::read_back(slots, reply, room, r);
     }
-    let r = read_words::read(plan, n, taken, bytes, room, area, mark);
-    host_read::read_back(slots, reply, room, r)
+    let r = reader::passes::read(plan, n, taken, bytes, room, area, mark);
+    host_record::read::read_back(slots, reply, room, r)
 }
 
 fn read_many(
@@ -133,8 +135,8 @@ fn read_many(
     requires { ⌜ Readable n taken (now plan) (now bytes) (now slots) (now area) mark (now reply) × (length (now slots) ≡ length (now room) * numberSize) ⌝ }
     ensures { λ r. ⌜ ReadsByPlan plan bytes slots area mark reply r ⌝ }
 {
-    let r = read_words::read(plan, n, taken, bytes, room, area, mark);
-    host_read::read_back(slots, reply, room, r)
+    let r = reader::passes::read(plan, n, taken, bytes, room, area, mark);
+    host_record::read::read_back(slots, reply, room, r)
 }
 
 // What is left of a reading once the plan is judged.
@@ -157,7 +159,7 @@ fn read_judged(
             0,
         ),
         Parsed::Fields(n, taken) => {
-            let k = slots.len() / host_numbers::NUMBER_SIZE;
+            let k = slots.len() / host::numbers::NUMBER_SIZE;
             if k <= host::FEW_NUMBERS {
                 let mut room: [u32; host::FEW_NUMBERS] = [0; host::FEW_NUMBERS];
                 return read_few(
@@ -188,7 +190,7 @@ fn read_judged(
     }
 }
 
-// Reads a record by a plan, as `host_read::read` does by a layout.
+// Reads a record by a plan, as `host_record::read::read` does by a layout.
 pub fn read(
     plan: &[u32],
     bytes: &[u8],
@@ -205,7 +207,7 @@ pub fn read(
     if !host::slots_fit(slots.len()) {
         return host::reply_long(reply, Answer::refused(Refusal::BadSize, 0), 0);
     }
-    let numbers = slots.len() / host_numbers::NUMBER_SIZE;
+    let numbers = slots.len() / host::numbers::NUMBER_SIZE;
     if !checking::sizes_fit(plan.len(), numbers, bytes.len(), area.len(), mark) {
         return host::reply_long(reply, Answer::refused(Refusal::BadSize, 0), 0);
     }

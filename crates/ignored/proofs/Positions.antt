@@ -25,7 +25,7 @@ use Rattle.record.proofs.SlotLaws.{slot-here}
 use Rattle.record.proofs.Tables.{length-slots}
 use Rattle.sheet.specs.Entries.{Entry}
 use Rattle.sheet.specs.Sheet.{entryOf, entriesOf, slotsFit, writes, write}
-use Rattle.marks.specs.Mean.{legOf, legsOf, legs, mean}
+use Rattle.mean.specs.marks.Mean.{legOf, legsOf, legs, mean}
 use Rattle.ignored.specs.Positions.{ButPositions, PackIgnoresPositions, WriteIgnoresPositions, MeanIgnoresPositions}
 
 -- a slot without its position

@@ -7,7 +7,7 @@ use lib.ListN.{length, getD}
 use Rattle.record.specs.Table.{slotWidth}
 use Rattle.record.specs.Packing.{pack}
 use Rattle.sheet.specs.Sheet.{write}
-use Rattle.marks.specs.Mean.{mean}
+use Rattle.mean.specs.marks.Mean.{mean}
 
 -- the place of the position among the numbers of a slot
 abbrev pub positionPlace : ℕ

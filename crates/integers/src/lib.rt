@@ -7,6 +7,12 @@ ghost use lib.ListN.{length, getD, drop};
 ghost use Rattle.layout.specs.Lent.{before, after};
 ghost use Rattle.record.specs.Bytes.{part, storeAt, digits, ordered};
 ghost use Rattle.integers.specs.Eights.{eights};
+use byte_runs::big_endian;
+
+// Integers stored.
+pub mod store;
+// Integers read.
+pub mod load;
 
 // Where byte j of a run of n stands before the run is turned round, or not.
 pub fn place(turn: bool, n: usize, j: usize) -> usize

@@ -3,6 +3,11 @@ ghost use mathlib.Core.Path.{_≡_};
 ghost use Prim.Native.Nat.{_^_, _≤_, _<_};
 ghost use Rattle.layout.specs.Words.{lastDigits, lastData, typeNumbered, widthNumbered, sizeNumbered, countFrom, known, FieldOf, slotsNumbered};
 
+// The pieces of a layout's text.
+pub mod scanner;
+// The layout reader, on whose contract alone packer and reader rely.
+pub mod parser;
+
 // The limit of a layout (01, Slot tables, sizes). A field has a byte at least, so that so many words hold the fields of a layout.
 pub const MAX_LAYOUT: usize = 256;
 

@@ -1,18 +1,23 @@
-// The mean of the marked legs: each slot of a table is one leg, which has a mark or is not set. The crate `marks` has the definitions and what holds of them.
+// The mean of the marked legs: each slot of a table is one leg, which has a mark or is not set. The module `marks` has the definitions and what holds of them.
 ghost use mathlib.Core.Path.{_≡_};
 ghost use Prim.Native.Nat.{_+_, _*_, _≤_};
 ghost use lib.ListN.{length};
 ghost use Rattle.record.specs.Table.{slotWidth};
 ghost use Rattle.record.specs.Packing.{refusal};
 ghost use Rattle.record.specs.Slots.{slotAt};
-ghost use Rattle.marks.specs.Mean.{legOf, mean};
-ghost use Rattle.marks.specs.Walk.{turnOf, meanOfTally, Near};
+ghost use Rattle.mean.specs.marks.Mean.{legOf, mean};
+ghost use Rattle.mean.specs.marks.Walk.{turnOf, meanOfTally, Near};
+use byte_runs::big_endian;
 use layout::Refusal;
 use marks::LegMean;
 use marks::Marks;
 use marks::Tally;
 use marks::Turn;
 use record::Answer;
+use slot_table::sizes;
+
+// Its definitions, worked examples and theorems: no code.
+pub mod marks;
 
 const MAX_MARK: u64 = 1000000;
 

@@ -6,7 +6,12 @@ ghost use Rattle.record.specs.Packing.{pack};
 ghost use Rattle.packer.specs.Whole.{Readable, PacksAsRead};
 use layout::Parsed;
 use layout::Refusal;
+use layout::parser;
 use record::Answer;
+use slot_table::sizes;
+
+// Both passes, over a layout that is read.
+pub mod passes;
 
 // What is left once the fields are read, of a layout or a plan.
 pub fn packed(p: Parsed, words: &[u32], slots: &[u32], area: &[u8], output: &mut [u8]) -> Answer
@@ -19,7 +24,7 @@ pub fn packed(p: Parsed, words: &[u32], slots: &[u32], area: &[u8], output: &mut
             if slots.len() / record::SLOT_WIDTH != needed {
                 return Answer::refused(Refusal::WrongSlots, 0);
             }
-            pack_words::pack(words, n, slots, area, output)
+            passes::pack(words, n, slots, area, output)
         }
     }
 }

@@ -14,12 +14,12 @@ use Rattle.layout.specs.Layout.{maxLayout}
 use Rattle.record.specs.Bytes.{part, storeAt}
 use Rattle.record.specs.Packing.{accepted, refusal}
 use Rattle.record.proofs.Fields.{split}
-use Rattle.perl_items.specs.declared.Span.{Span}
-use Rattle.perl_items.specs.declared.Span.the-variants.{Read, Stray}
-use Rattle.perl_items.specs.Template.{Template, Reading, read, stray, templateOf}
-use Rattle.perl_items.specs.Readers.{itemsFrom, templateText, Stored, Written}
-use Rattle.perl_items.proofs.Letters.{was-read, was-stray}
-use Rattle.perl_readers.proofs.Readings.{Ends, items-end}
+use Rattle.perl.specs.declared.items.Span.{Span}
+use Rattle.perl.specs.declared.items.Span.the-variants.{Read, Stray}
+use Rattle.perl.specs.items.Template.{Template, Reading, read, stray, templateOf}
+use Rattle.perl.specs.items.Readers.{itemsFrom, templateText, Stored, Written}
+use Rattle.perl.proofs.items.Letters.{was-read, was-stray}
+use Rattle.perl.proofs.readers.Readings.{Ends, items-end}
 use Rattle.perl.specs.Conversion.{layoutFrom, fromPerl}
 
 no-room : (n m : ℕ) → min maxLayout m < n → (leb n maxLayout && leb n m) ≡ false

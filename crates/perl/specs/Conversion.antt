@@ -9,8 +9,8 @@ use Rattle.layout.specs.Refusals.{Result, ok, refused, _>>=_, demand}
 use Rattle.layout.specs.Layout.{maxLayout}
 use Rattle.record.specs.declared.Answer.{Answer}
 use Rattle.record.specs.Packing.{accepted, refusal}
-use Rattle.perl_items.specs.Template.{templateOf}
-use Rattle.perl_items.specs.Writing.{writtenOut, textOf}
+use Rattle.perl.specs.items.Template.{templateOf}
+use Rattle.perl.specs.items.Writing.{writtenOut, textOf}
 
 -- the layout, or the first refusal: 1, 15, 11 (02, M-105: refusals)
 unfoldable pub layoutFrom : List ℕ → List ℕ → Result (List ℕ)

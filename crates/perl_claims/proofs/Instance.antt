@@ -3,7 +3,7 @@ use mathlib.Core.Path.{refl}
 use mathlib.Core.Bool.{true, false}
 use mathlib.Core.List.{[]}
 use Rattle.layout.specs.Quoted.{bytes}
-use Rattle.perl_items.specs.Template.{Template, done, next, single, group, templateOf}
+use Rattle.perl.specs.items.Template.{Template, done, next, single, group, templateOf}
 use Rattle.perl_claims.specs.Spelling.{Spells}
 use Rattle.perl_claims.specs.Claim.{FirstBad, Places}
 use Rattle.perl_claims.proofs.Spelling.{read-spelled}

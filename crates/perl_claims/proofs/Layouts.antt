@@ -19,14 +19,14 @@ use Rattle.layout.specs.declared.Field.{Field}
 use Rattle.layout.specs.declared.Typed.the-variants.{Known}
 use Rattle.layout.specs.Refusals.{if_then_else_, Result, ok, _>>=_}
 use Rattle.layout.specs.Layout.{maxCount, isDecimal, typeOf, takesSlot, toNat, flagged, digitRun, decimal, countOf, countLength, inLimit, hasMeaning, field, stepFrom, fieldAfter, fieldAt, stepOf, extra, before, fieldsFrom, slotCount}
-use Rattle.perl_tokens.specs.declared.Letter.{Letter}
-use Rattle.perl_tokens.specs.declared.Letter.the-variants.{Taken, Unknown}
-use Rattle.perl_tokens.specs.Tokens.{maxTemplateCount, continues, withDigit, numberIn, digitsIn, letterOf}
-use Rattle.perl_items.specs.Template.{Single}
-use Rattle.perl_items.specs.Writing.{flagText, textOf}
+use Rattle.perl.specs.declared.tokens.Letter.{Letter}
+use Rattle.perl.specs.declared.tokens.Letter.the-variants.{Taken, Unknown}
+use Rattle.perl.specs.tokens.{maxTemplateCount, continues, withDigit, numberIn, digitsIn, letterOf}
+use Rattle.perl.specs.items.Template.{Single}
+use Rattle.perl.specs.items.Writing.{flagText, textOf}
 use Rattle.perl_claims.specs.Spelling.{Digits as Numerals}
 use Rattle.perl_claims.specs.Claim.{countFor, fieldFor, valued}
-use Rattle.perl_tokens.proofs.Numbers.{number-limit}
+use Rattle.perl.proofs.tokens.Numbers.{number-limit}
 
 -- ---- our letters
 

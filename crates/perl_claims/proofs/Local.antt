@@ -7,11 +7,11 @@ use mathlib.Core.List.{List, [], _∷_, _++_}
 use lib.Dec.{eqb, ltb}
 use lib.ListN.{length, take, drop}
 use Rattle.layout.specs.Refusals.{if_then_else_}
-use Rattle.perl_tokens.specs.declared.Letter.{Letter}
-use Rattle.perl_tokens.specs.declared.Letter.the-variants.{Taken, Unknown}
-use Rattle.perl_tokens.specs.Tokens.{maxTemplateCount, maxDepth, maxRepeat, letterOf, continues, withDigit, numberIn, digitsIn}
-use Rattle.perl_items.specs.Template.{Template, Item, done, Reading, read, stray, letterAt, groupAt, itemAt, Step, space, close, item, bad, stepFrom, stepAt, extra, fills, andThen, before, sequence}
-use Rattle.perl_readers.proofs.Readings.{Ends, StepEnds, ends, step-from, extra-within}
+use Rattle.perl.specs.declared.tokens.Letter.{Letter}
+use Rattle.perl.specs.declared.tokens.Letter.the-variants.{Taken, Unknown}
+use Rattle.perl.specs.tokens.{maxTemplateCount, maxDepth, maxRepeat, letterOf, continues, withDigit, numberIn, digitsIn}
+use Rattle.perl.specs.items.Template.{Template, Item, done, Reading, read, stray, letterAt, groupAt, itemAt, Step, space, close, item, bad, stepFrom, stepAt, extra, fills, andThen, before, sequence}
+use Rattle.perl.proofs.readers.Readings.{Ends, StepEnds, ends, step-from, extra-within}
 
 -- the place after what was read, or of the stray byte
 unfoldable pub readEnd : {A : Type 0} → Reading A → ℕ

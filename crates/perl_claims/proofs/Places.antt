@@ -16,16 +16,16 @@ use Rattle.layout.specs.declared.Refusal.the-variants.{BadSize, BadTemplate, No
 use Rattle.layout.specs.Refusals.{if_then_else_, ok, refused}
 use Rattle.layout.specs.Layout.{maxLayout}
 use Rattle.layout.proofs.Laws.{no-refusal}
-use Rattle.perl_tokens.specs.declared.Letter.{Letter}
-use Rattle.perl_tokens.specs.declared.Letter.the-variants.{Taken, Unknown}
-use Rattle.perl_tokens.specs.Tokens.{maxTemplateCount, maxDepth, maxRepeat, letterOf, continues, withDigit, numberIn, digitsIn, repeatOf}
-use Rattle.perl_items.specs.Template.{Template, Item, done, next, single, group, Reading, read, stray, letterAt, groupAt, andThen, sequence, orRefused, templateOf}
-use Rattle.perl_items.specs.Readers.{itemsFrom, itemFrom}
+use Rattle.perl.specs.declared.tokens.Letter.{Letter}
+use Rattle.perl.specs.declared.tokens.Letter.the-variants.{Taken, Unknown}
+use Rattle.perl.specs.tokens.{maxTemplateCount, maxDepth, maxRepeat, letterOf, continues, withDigit, numberIn, digitsIn, repeatOf}
+use Rattle.perl.specs.items.Template.{Template, Item, done, next, single, group, Reading, read, stray, letterAt, groupAt, andThen, sequence, orRefused, templateOf}
+use Rattle.perl.specs.items.Readers.{itemsFrom, itemFrom}
 use Rattle.perl.specs.Conversion.{layoutFrom, convertEffect, fromPerl}
 use Rattle.perl_claims.specs.Spelling.{Spells}
 use Rattle.perl_claims.specs.Claim.{Begins, FirstBad, Places, dueFor, BySpellings}
 use Rattle.perl_claims.proofs.Spelling.{Tail, spelled-read, read-spelled}
-use Rattle.perl_readers.proofs.Readings.{Ends, ItemEnds, items-end, item-end, from-end-top, from-space, from-close, from-unopened, from-empty, from-item, from-stray, item-letter, item-deep, item-group, close-inside, group-is}
+use Rattle.perl.proofs.readers.Readings.{Ends, ItemEnds, items-end, item-end, from-end-top, from-space, from-close, from-unopened, from-empty, from-item, from-stray, item-letter, item-deep, item-group, close-inside, group-is}
 use Rattle.perl_claims.proofs.Local.{readEnd, starts, Agree, agree-take, agree-less, SameNumber, same-cons, local}
 
 -- ---- readings that differ

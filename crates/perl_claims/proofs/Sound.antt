@@ -13,15 +13,15 @@ use Rattle.layout.specs.declared.Refusal.the-variants.{BadSize, NoRoom}
 use Rattle.layout.specs.Refusals.{if_then_else_, Result, ok, refused}
 use Rattle.layout.specs.Layout.{maxLayout, fieldsOf}
 use Rattle.layout.proofs.Laws.{bound, demanded, ok-inj, no-refusal, no-number-zero}
-use Rattle.perl_tokens.specs.declared.Letter.{Letter}
-use Rattle.perl_tokens.specs.declared.Letter.the-variants.{Taken, Unknown}
-use Rattle.perl_tokens.specs.Tokens.{maxDepth, letterOf}
-use Rattle.perl_items.specs.Template.{Single, Template, Item, done, next, single, group, Reading, read, stray, letterAt, groupAt, itemAt, Step, space, close, item, bad, stepFrom, stepAt, extra, fills, before, sequence, orRefused, templateOf}
-use Rattle.perl_items.specs.Writing.{repeated, writtenOut, writtenOutItem, textOf}
+use Rattle.perl.specs.declared.tokens.Letter.{Letter}
+use Rattle.perl.specs.declared.tokens.Letter.the-variants.{Taken, Unknown}
+use Rattle.perl.specs.tokens.{maxDepth, letterOf}
+use Rattle.perl.specs.items.Template.{Single, Template, Item, done, next, single, group, Reading, read, stray, letterAt, groupAt, itemAt, Step, space, close, item, bad, stepFrom, stepAt, extra, fills, before, sequence, orRefused, templateOf}
+use Rattle.perl.specs.items.Writing.{repeated, writtenOut, writtenOutItem, textOf}
 use Rattle.perl.specs.Conversion.{Converted, layoutFrom, convertEffect, fromPerl}
 use Rattle.perl_claims.specs.Claim.{result, TakenOver, Claim, Blank, Groups}
-use Rattle.perl_items.specs.Readers.{templateText, itemText}
-use Rattle.perl_items.proofs.Texts.{text-group}
+use Rattle.perl.specs.items.Readers.{templateText, itemText}
+use Rattle.perl.proofs.items.Texts.{text-group}
 use Rattle.perl_claims.proofs.Spelling.{read-spelled}
 use Rattle.perl_claims.proofs.Layouts.{OurLetter, our-letter, counts, SoundSingle, Every, text-fields, slots-valued}
 

@@ -13,12 +13,12 @@ use lib.Seq.{take-append-seam, drop-at, length-take-le}
 use Rattle.layout.specs.Refusals.{if_then_else_, ok}
 use Rattle.layout.specs.Layout.{isDecimal, decimal}
 use Rattle.layout.proofs.Laws.{ok-inj, no-refusal}
-use Rattle.perl_tokens.specs.declared.Letter.{Letter}
-use Rattle.perl_tokens.specs.declared.Letter.the-variants.{Taken, Unknown}
-use Rattle.perl_tokens.specs.Tokens.{maxTemplateCount, maxDepth, maxRepeat, letterOf, continues, withDigit, numberIn, digitsIn, repeatOf}
-use Rattle.perl_items.specs.Template.{Template, Item, done, next, single, group, Reading, read, stray, letterAt, groupAt, itemAt, Step, space, close, item, bad, stepFrom, stepAt, extra, fills, andThen, before, sequence, orRefused, templateOf}
-use Rattle.perl_tokens.proofs.Numbers.{digits-within, number-limit}
-use Rattle.perl_readers.proofs.Readings.{step-from, extra-within}
+use Rattle.perl.specs.declared.tokens.Letter.{Letter}
+use Rattle.perl.specs.declared.tokens.Letter.the-variants.{Taken, Unknown}
+use Rattle.perl.specs.tokens.{maxTemplateCount, maxDepth, maxRepeat, letterOf, continues, withDigit, numberIn, digitsIn, repeatOf}
+use Rattle.perl.specs.items.Template.{Template, Item, done, next, single, group, Reading, read, stray, letterAt, groupAt, itemAt, Step, space, close, item, bad, stepFrom, stepAt, extra, fills, andThen, before, sequence, orRefused, templateOf}
+use Rattle.perl.proofs.tokens.Numbers.{digits-within, number-limit}
+use Rattle.perl.proofs.readers.Readings.{step-from, extra-within}
 use Rattle.perl_claims.proofs.Layouts.{count-digits}
 use Rattle.perl_claims.specs.Claim.{Spellings, OneTree}
 use Rattle.perl_claims.specs.Spelling.{Digits, Number, omitted, given, Spells, nothing, spaced, lettered, bracketed}

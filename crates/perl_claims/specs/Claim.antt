@@ -16,8 +16,8 @@ use Rattle.layout.specs.declared.Refusal.the-variants.{BadSize, BadTemplate, No
 use Rattle.layout.specs.Refusals.{if_then_else_, ok, refused}
 use Rattle.layout.specs.Layout.{maxLayout, typeOf, decimal, fieldsOf, slotCount}
 use Rattle.layout.specs.Words.{known}
-use Rattle.perl_items.specs.Template.{Single, Template, done, group, templateOf}
-use Rattle.perl_items.specs.Writing.{repeated, writtenOut, writtenOutItem, textOf}
+use Rattle.perl.specs.items.Template.{Single, Template, done, group, templateOf}
+use Rattle.perl.specs.items.Writing.{repeated, writtenOut, writtenOutItem, textOf}
 use Rattle.perl.specs.Conversion.{Converted, convertEffect, fromPerl}
 use Rattle.perl_claims.specs.Spelling.{Spells}
 

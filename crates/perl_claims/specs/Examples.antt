@@ -6,7 +6,7 @@ use mathlib.Core.List.{List, [], _∷_, _++_}
 use lib.ListN.{length, drop, replicate}
 use lib.Dec.{eqb}
 use Rattle.layout.specs.Quoted.{bytes}
-use Rattle.perl_items.specs.Writing.{repeated}
+use Rattle.perl.specs.items.Writing.{repeated}
 use Rattle.perl.specs.Conversion.{Converted, fromPerl}
 
 pub data Example : Type 0 where

@@ -4,9 +4,9 @@ use mathlib.Core.Path.{_≡_}
 use mathlib.Core.Bool.{Bool, true}
 use mathlib.Core.List.{List, [], _∷_, _++_}
 use Rattle.layout.specs.Layout.{isDecimal, decimal}
-use Rattle.perl_tokens.specs.declared.Letter.the-variants.{Taken}
-use Rattle.perl_tokens.specs.Tokens.{maxTemplateCount, maxDepth, maxRepeat, letterOf, repeatOf}
-use Rattle.perl_items.specs.Template.{Template, Item, done, next, single, group}
+use Rattle.perl.specs.declared.tokens.Letter.the-variants.{Taken}
+use Rattle.perl.specs.tokens.{maxTemplateCount, maxDepth, maxRepeat, letterOf, repeatOf}
+use Rattle.perl.specs.items.Template.{Template, Item, done, next, single, group}
 
 -- all of these bytes are decimal digits
 abbrev pub Digits : List ℕ → Type 0

@@ -21,9 +21,9 @@ use Rattle.record.specs.Bytes.{storeAt}
 use Rattle.record.specs.Geometry.{lengthsFit}
 use Rattle.record.specs.Packing.{accepted, refusal, packFields}
 use Rattle.record.specs.Reading.{readsFields, ReadAll}
-use Rattle.checking.proofs.Calls.{Fit}
-use Rattle.read_words.specs.Words.{readWords}
-use Rattle.read_words.proofs.Whole as whole
+use Rattle.reader.proofs.checking.Calls.{Fit}
+use Rattle.reader.specs.passes.{readWords}
+use Rattle.reader.proofs.passes.Whole as whole
 use Rattle.packer.specs.Whole.{Read, PacksAsRead}
 use Rattle.packer.proofs.WholeLaws.{pack-sizes}
 use Rattle.plans.specs.Plans.{isType, plannedField, plannedFrom, planFields, prepares, prepare, packPlan, readPlan}

@@ -10,8 +10,12 @@ ghost use Rattle.layout.specs.Words.{Parses};
 ghost use Rattle.plans.specs.Plans.{Judges, planFields, prepare, packPlan, readPlan};
 use layout::Parsed;
 use layout::Refusal;
+use layout::parser;
+use layout::scanner;
+use reader::checking;
 use record::Answer;
 use record::ReadAnswer;
+use slot_table::sizes;
 
 // The number of a type that no type character has, and the first number of a plan whose count is over the limit.
 const SPARE: u32 = 7;
@@ -142,6 +146,6 @@ pub fn read(
             answer: Answer::refused(why, place as u32),
             steps: 0,
         },
-        Parsed::Fields(n, taken) => read_words::read(plan, n, taken, bytes, slots, area, mark),
+        Parsed::Fields(n, taken) => reader::passes::read(plan, n, taken, bytes, slots, area, mark),
     }
 }

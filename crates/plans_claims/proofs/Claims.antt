@@ -14,7 +14,7 @@ use Rattle.layout.specs.Refusals.{Result, ok, refused}
 use Rattle.layout.specs.Layout.{maxLayout, fieldsOf}
 use Rattle.layout.specs.Words.{wordFor}
 use Rattle.layout.proofs.Laws.{bound, demanded, no-refusal, ok-inj, no-number-zero}
-use Rattle.placed.proofs.Counts.{fields-few}
+use Rattle.describe.proofs.placed.Counts.{fields-few}
 use Rattle.record.specs.Geometry.{lengthsFit}
 use Rattle.record.specs.Packing.{Packed, packFields, pack}
 use Rattle.record.specs.Reading.{readAll, readFields}

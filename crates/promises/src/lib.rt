@@ -21,7 +21,10 @@ use layout::Motion;
 use layout::Parsed;
 use layout::Refusal;
 use layout::Shape;
+use layout::parser;
+use layout::scanner;
 use record::Answer;
+use slot_table::sizes;
 
 // What a layout may promise: to grow at its end, to keep everything that is read, to be joined. The first has three
 // parts: the fields are plain, they take no more slots than a table may have, and they end within the longest record.

@@ -19,7 +19,7 @@ use Rattle.runs.specs.Ends.{plainCode, fills, endOf}
 use Rattle.runs.proofs.Calls.{T→true}
 use Rattle.evolution.specs.Claim.{plain}
 use Rattle.lossless.specs.Claim.{lossless}
-use Rattle.gluing.specs.Claim.{forward}
+use Rattle.joining.specs.Claim.{forward}
 use Rattle.promises.specs.declared.Promise.{Promise}
 use Rattle.promises.specs.declared.Promise.the-variants.{Grows, Keeps, Joins, Plain, Slots, Room}
 use Rattle.promises.specs.declared.Reach.{Reach}

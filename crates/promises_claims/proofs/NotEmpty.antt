@@ -37,7 +37,7 @@ use Rattle.record.proofs.Tables.{length-slots}
 use Rattle.runs.specs.Ends.{plainCode, plainCount, fills, endOf}
 use Rattle.runs.proofs.Calls.{T→true}
 use Rattle.runs.proofs.Joined.{ForwardFields}
-use Rattle.read_measure.proofs.Room.{value-room}
+use Rattle.reading.proofs.measure.Room.{value-room}
 use Rattle.evolution.specs.Claim.{plain, Layouts, textOf, fieldsBy, recordBy, cutRecord, due}
 use Rattle.evolution.proofs.ReadsBack.{reads-back, values}
 use Rattle.lossless.specs.Claim.{losslessCode, lossless, Layout, areBytes, Archived}

@@ -18,8 +18,8 @@ use Rattle.runs.proofs.Calls.{T→true, packs-passed, accepted-result}
 use Rattle.evolution.specs.Claim.{plain}
 use Rattle.lossless.specs.Claim.{lossless, Layout, Archived}
 use Rattle.lossless.proofs.LosesNothing.{loses-nothing}
-use Rattle.gluing.specs.Claim.{forward, Part}
-use Rattle.gluing.proofs.Glues.{glues}
+use Rattle.joining.specs.Claim.{forward, Part}
+use Rattle.joining.proofs.Glues.{glues}
 use Rattle.promises.specs.declared.Promise.{Promise}
 use Rattle.promises.specs.declared.Promise.the-variants.{Grows, Keeps, Joins}
 use Rattle.promises.specs.Placed.{Placed, fieldsIn, placedFields}

@@ -17,7 +17,7 @@ use Rattle.record.specs.Packing.{argumentsFit, pack}
 use Rattle.runs.specs.Ends.{endOf, recordOf}
 use Rattle.evolution.specs.Claim.{plain, Layouts, recordBy, Reading, ReadsBack}
 use Rattle.lossless.specs.Claim.{lossless, Layout, areBytes, Archived, LosesNothing}
-use Rattle.gluing.specs.Claim.{forward, glue, Gives}
+use Rattle.joining.specs.Claim.{forward, glue, Gives}
 use Rattle.promises.specs.Placed.{Placed, withoutPlaces, placedFields}
 use Rattle.promises.specs.Promises.{nowhere, sameField, told, promised, extended}
 

@@ -12,9 +12,9 @@ use Rattle.record.specs.declared.Answer.{Answer}
 use Rattle.record.specs.Packing.{refusal}
 use Rattle.record.specs.Reading.{reads, ReadAll, readAll}
 use Rattle.record.proofs.ByFields.{read-fields}
-use Rattle.checking.proofs.Calls.{Fit}
-use Rattle.read_words.specs.Words.{Ready, readWords}
-use Rattle.read_words.proofs.Whole as whole
+use Rattle.reader.proofs.checking.Calls.{Fit}
+use Rattle.reader.specs.passes.{Ready, readWords}
+use Rattle.reader.proofs.passes.Whole as whole
 
 module _ (layout bs slots area : List ℕ) (mark : ℕ) where
   pub read-refused : {r : Answer} {why : Refusal} {p : ℕ} → reads layout bs slots area mark ≡ refused why p → r ≡ refusal why p

@@ -5,8 +5,14 @@ ghost use Rattle.layout.specs.Lent.{before, after};
 ghost use Rattle.record.specs.Reading.{readAll};
 use layout::Parsed;
 use layout::Refusal;
+use layout::parser;
 use record::Answer;
 use record::ReadAnswer;
+
+// A reading decided, with nothing written: `checking::check`.
+pub mod checking;
+// Both passes, over a layout that is read.
+pub mod passes;
 
 // Reads a record by a layout: sets slots from the first on, and puts their values into the area from the mark on. A refusal changes nothing.
 // (It checks as `checking::check` does and does not call it: the words stay here, and a call that fills them for its caller costs more than the checks.)
@@ -32,12 +38,12 @@ pub fn read(
             answer: Answer::refused(why, place as u32),
             steps: 0,
         },
-        Parsed::Fields(n, taken) => read_words::read(&words, n, taken, bytes, slots, area, mark),
+        Parsed::Fields(n, taken) => passes::read(&words, n, taken, bytes, slots, area, mark),
     }
 }
 
 // As `read`, quicker by a short layout: a small array is enough for its fields.
-// (The test of `read_words::read` stands here too: the fields are then written by a call from here, where it costs least.)
+// (The test of `passes::read` stands here too: the fields are then written by a call from here, where it costs least.)
 pub fn read_short(
     layout: &[u8],
     bytes: &[u8],
@@ -67,7 +73,7 @@ pub fn read_short(
             if checking::surely_fits(n, taken, bytes.len(), slots.len(), area.len() - mark) {
                 return reading::fill(&words, n, bytes, slots, area, mark);
             }
-            read_words::read(&words, n, taken, bytes, slots, area, mark)
+            passes::read(&words, n, taken, bytes, slots, area, mark)
         }
     }
 }

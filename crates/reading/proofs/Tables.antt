@@ -15,10 +15,10 @@ use Rattle.record.specs.Reading.{valuesFrom, positionsFrom, stepsFrom, putInto,
 use Rattle.record.proofs.Stores.{length-storeAt, store-none, store-next}
 use Rattle.record.proofs.Readings.{length-slot-numbers}
 use Rattle.record.specs.declared.ReadAnswer.{ReadAnswer}
-use Rattle.read_measure.proofs.Run.{value-bytes-append, value-bytes-one}
-use Rattle.read_put.specs.Put.{PutRoom, PutAs}
+use Rattle.reading.proofs.measure.Run.{value-bytes-append, value-bytes-one}
+use Rattle.reading.specs.put.{PutRoom, PutAs}
 use Rattle.reading.specs.Tables.{TableRoom}
-use Rattle.positions.proofs.Turns.{Ran, Ended, ran-start, Found}
+use Rattle.reading.proofs.positions.Turns.{Ran, Ended, ran-start, Found}
 
 -- the numbers of slots, of values one after the other
 pub slot-numbers-append : (start : ℕ) (at : List ℕ) (vs ws : List Value)

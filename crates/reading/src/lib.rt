@@ -6,11 +6,21 @@ ghost use Rattle.layout.specs.Layout.{maxLayout};
 ghost use Rattle.layout.specs.Lent.{before, after};
 ghost use Rattle.record.specs.Table.{maxSlots, maxRecord, maxArea};
 ghost use Rattle.record.specs.Packing.{accepted};
-ghost use Rattle.read_measure.specs.Run.{valuesOf};
+ghost use Rattle.reading.specs.measure.Run.{valuesOf};
 ghost use Rattle.reading.specs.Tables.{putAll, TableRoom};
 use record::Answer;
 use record::Cursor;
 use record::ReadAnswer;
+use slot_table::sizes;
+
+// Where a field begins and how many items it has.
+mod positions;
+// Its value.
+pub mod value;
+// The first pass: how much of the area the values take.
+pub mod measure;
+// One value put into the table.
+mod put;
 
 fn answer(set: usize, place: usize, steps: usize) -> ReadAnswer
     requires { ⌜ (set ≤ maxSlots) × (place ≤ maxArea) × (steps ≤ maxLayout) ⌝ }
@@ -54,7 +64,7 @@ pub fn fill(
             }
             let u = word / layout::FLAG_UNIT % 2 == 1;
             c = c.load(need);
-            place = read_put::put(slots, set, area, place, bytes, at, d, u, items);
+            place = put::put(slots, set, area, place, bytes, at, d, u, items);
             set += 1;
         }
     }

@@ -9,6 +9,11 @@ ghost use Rattle.record.specs.Bytes.{part, digits, number, ordered, numberBytes
 ghost use Rattle.record.specs.Table.{integersIn};
 ghost use Rattle.record.specs.Packing.{noNaN};
 
+// Reals stored.
+pub mod store;
+// Reals read.
+pub mod load;
+
 // The bytes of a single and of a double.
 pub const SINGLE: usize = 4;
 

@@ -24,10 +24,10 @@ use Rattle.sheet.proofs.Entries.{AllSound}
 use Rattle.sheet.proofs.Tables.{slots-sound, same-seen, length-slot-numbers, front-few}
 use Rattle.sheet.proofs.Calls.{lengths, lent, Wrote, wrote, wrote-short, write-done, header-there, ReadIt, read-it, read-put}
 use Rattle.sheet.proofs.Claims.{put-entries, put-fit, length-entries, true-is, version-known, sheet-is, table-kept}
-use Rattle.rescue_fill.specs.Rescue.{keptIn, droppedOf, filledUp, saved, Outcome, keeping, rescue}
+use Rattle.rescue.specs.fill.Rescue.{keptIn, droppedOf, filledUp, saved, Outcome, keeping, rescue}
 use Rattle.rescue.specs.Claims.{allKept, SoundRead, WrittenSaved, setBy, RescuedSaved, entriesFor, CutStored, SavesFront, CutSaved}
-use Rattle.rescue_fill.proofs.Calls.{rescue-put, rescued-it}
-use Rattle.rescue_fill.proofs.Filled.{filled-area, filled-front, filled-slots, filled-none, length-filled}
+use Rattle.rescue.proofs.fill.Calls.{rescue-put, rescued-it}
+use Rattle.rescue.proofs.fill.Filled.{filled-area, filled-front, filled-slots, filled-none, length-filled}
 use Rattle.rescue.proofs.Cuts.{wholeBy, whole-few, cut-entries, cut-exactly}
 
 -- a table has at most so many slots

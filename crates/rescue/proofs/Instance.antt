@@ -8,7 +8,7 @@ use Rattle.sheet.specs.Entries.{valueBytes}
 use Rattle.sheet.specs.Sheet.{entriesOf, write, read}
 use Rattle.sheet.specs.Examples.{okTable, okArea, okSheet}
 use Rattle.sheet.specs.Claims.{Stored}
-use Rattle.rescue_fill.specs.Rescue.{rescue}
+use Rattle.rescue.specs.fill.Rescue.{rescue}
 use Rattle.rescue.specs.Claims.{Again, endBy, CutStored}
 
 reading : read okSheet (replicate 16 9) (replicate 20 170) 5 .answer .number ≡ 0

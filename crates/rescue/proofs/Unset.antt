@@ -14,10 +14,10 @@ use Rattle.record.proofs.Tables.{length-slots}
 use Rattle.sheet.specs.Entries.{Entry}
 use Rattle.sheet.specs.Sheet.{widthIn, putInto}
 use Rattle.sheet.proofs.Unset.{set-over}
-use Rattle.rescue_fill.specs.declared.Rescued.{Rescued}
-use Rattle.rescue_fill.specs.Rescue.{keptIn, filledUp, Outcome, keeping, rescues, rescueEffect, rescue}
-use Rattle.rescue_fill.proofs.Calls.{rescue-put, rescued-it}
-use Rattle.rescue_fill.proofs.Filled.{length-filled}
+use Rattle.rescue.specs.declared.fill.Rescued.{Rescued}
+use Rattle.rescue.specs.fill.Rescue.{keptIn, filledUp, Outcome, keeping, rescues, rescueEffect, rescue}
+use Rattle.rescue.proofs.fill.Calls.{rescue-put, rescued-it}
+use Rattle.rescue.proofs.fill.Filled.{length-filled}
 
 -- what a rescue leaves, over the slots ys: those of the legs, and the others of ys
 abbrev pub over : ℕ → List ℕ → Outcome → Outcome

@@ -12,7 +12,7 @@ use Rattle.record.specs.Reading.{Read}
 use Rattle.sheet.specs.Entries.{Entry, entryBytes, valueBytes}
 use Rattle.sheet.specs.Sheet.{widthOf, headerSize, versionFor, entriesOf, entriesEnd, write, read}
 use Rattle.sheet.specs.Claims.{seen, sheetOf, Stored}
-use Rattle.rescue_fill.specs.Rescue.{saved, Outcome, keeping, rescue}
+use Rattle.rescue.specs.fill.Rescue.{saved, Outcome, keeping, rescue}
 
 -- ---- a sound sheet
 

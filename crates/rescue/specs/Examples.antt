@@ -6,7 +6,7 @@ use lib.ListN.{length, take, replicate}
 use Rattle.layout.specs.Quoted.{bytes}
 use Rattle.record.specs.Table.{slotWidth}
 use Rattle.sheet.specs.Examples.{same, unset, okSheet, okArea, set, unsetSlots}
-use Rattle.rescue_fill.specs.Rescue.{Outcome, rescue}
+use Rattle.rescue.specs.fill.Rescue.{Outcome, rescue}
 
 -- ---- how an example is written
 

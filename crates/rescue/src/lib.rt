@@ -6,11 +6,14 @@ ghost use lib.ListN.{length};
 ghost use lib.Dec.{leb};
 ghost use Rattle.layout.specs.Lent.{before, after};
 ghost use Rattle.record.specs.Table.{integerSize};
-ghost use Rattle.rescue_fill.specs.Rescue.{rescue};
-ghost use Rattle.rescue_fill.specs.Steps.{sizesFit};
+ghost use Rattle.rescue.specs.fill.Rescue.{rescue};
+ghost use Rattle.rescue.specs.fill.Steps.{sizesFit};
+use fill::Rescued;
 use layout::Refusal;
-use rescue_fill::Rescued;
 use sheet::lengths;
+
+// Entry by entry.
+pub mod fill;
 
 // Not number 1, by the lengths.
 fn sizes_fit(slots: usize, area: usize, sheet: usize, mark: usize, legs: usize) -> bool
@@ -38,8 +41,8 @@ pub fn rescue(sheet: &[u8], legs: usize, slots: &mut [u32], area: &mut [u8], mar
     if !sizes_fit(slots.len(), area.len(), sheet.len(), mark, legs) {
         return Rescued::refused(Refusal::BadSize);
     }
-    let v = sheet_check::version_of(sheet);
-    if !sheet_check::version_known(v) {
+    let v = sheet_read::check::version_of(sheet);
+    if !sheet_read::check::version_known(v) {
         return Rescued::refused(Refusal::BadVersion);
     }
     if slots.len() / record::SLOT_WIDTH < legs {
@@ -47,7 +50,7 @@ pub fn rescue(sheet: &[u8], legs: usize, slots: &mut [u32], area: &mut [u8], mar
     }
     let w = lengths::width_of(v);
     if !has_header(sheet, w) {
-        return rescue_fill::rescue_nothing(sheet, legs, slots, area, mark);
+        return fill::rescue_nothing(sheet, legs, slots, area, mark);
     }
-    rescue_fill::rescue_entries(sheet, w, legs, slots, area, mark)
+    fill::rescue_entries(sheet, w, legs, slots, area, mark)
 }

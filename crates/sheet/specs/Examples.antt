@@ -1,4 +1,4 @@
--- Tables, areas and sheets that worked examples are written with: those of sheets (crate sheet_examples) and of rescues.
+-- Tables, areas and sheets that worked examples are written with: those of sheets (module `sheet_claims::examples`) and of rescues.
 use Prim.Native.Nat.{ℕ, zero, suc}
 use mathlib.Core.Bool.{Bool, true, false, _&&_}
 use mathlib.Core.List.{List, [], _∷_, _++_}

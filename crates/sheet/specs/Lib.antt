@@ -1,5 +1,5 @@
 -- Sheets (document 02, M-100): a table of slots as a run of bytes. Read Entries, then Sheet; Claims states what is kept on the way to a
--- sheet and back. Examples has what worked examples are written with (crate sheet_examples). Steps has what the functions of the code promise each other.
+-- sheet and back. Examples has what worked examples are written with (module `sheet_claims::examples`). Steps has what the functions of the code promise each other.
 pub mod Entries
 pub mod Sheet
 pub mod Examples

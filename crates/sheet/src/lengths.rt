@@ -5,6 +5,7 @@ ghost use lib.ListN.{length, drop};
 ghost use Rattle.record.specs.Bytes.{numberAt};
 ghost use Rattle.record.specs.Table.{integerSize};
 ghost use Rattle.sheet.specs.Sheet.{widthOf};
+use byte_runs::big_endian;
 
 pub const VERSION_1: u8 = 1;
 

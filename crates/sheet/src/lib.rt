@@ -2,6 +2,7 @@
 ghost use mathlib.Core.Path.{_≡_};
 ghost use Rattle.sheet.specs.Sheet.{lengthsFit};
 ghost use Rattle.sheet.specs.Steps.{lentFits};
+use slot_table::sizes;
 
 pub mod lengths;
 

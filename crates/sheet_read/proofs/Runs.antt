@@ -17,10 +17,10 @@ use Rattle.sheet.specs.Steps.{lentFits}
 use Rattle.sheet.proofs.Entries.{entries-few}
 use Rattle.sheet.proofs.Sheets.{length-body}
 use Rattle.sheet.proofs.Calls.{refuses, Lent, lent, header-there, read-version, read-header, read-wrong, read-needless, read-slots, read-room, read-put}
-use Rattle.sheet_check.specs.declared.Extent.{Extent}
-use Rattle.sheet_check.specs.Steps.{neededBy, frontOf, ExtentOf}
-use Rattle.sheet_check.proofs.Walks.{found-there, found-front}
-use Rattle.sheet_fill.specs.Steps.{Room}
+use Rattle.sheet_read.specs.declared.check.Extent.{Extent}
+use Rattle.sheet_read.specs.check.{neededBy, frontOf, ExtentOf}
+use Rattle.sheet_read.proofs.check.Walks.{found-there, found-front}
+use Rattle.sheet_read.specs.fill.{Room}
 use Rattle.sheet_read.specs.Steps.{OpenedAs}
 
 -- ---- the tests before the entries

@@ -8,6 +8,11 @@ use layout::Refusal;
 use record::Answer;
 use sheet::lengths;
 
+// Whether a sheet is whole and what it needs, with nothing written.
+pub mod check;
+// Its entries put into a table.
+pub mod fill;
+
 // What is left once version and header are sound: v is the version, and w the width of its lengths.
 fn read_entries(
     sheet: &[u8],
@@ -20,11 +25,11 @@ fn read_entries(
     requires { ⌜ OpenedAs v w (now sheet) (now slots) (now area) mark ⌝ }
     ensures { λ r. ⌜ record { answer = r; slots = after slots; area = after area } ≡ read (before sheet) (before slots) (before area) mark ⌝ }
 {
-    let x = sheet_check::measure(sheet, w, sheet.len());
+    let x = check::measure(sheet, w, sheet.len());
     if x.end != sheet.len() {
         return Answer::refused(Refusal::BadSheet, x.end as u32);
     }
-    if !sheet_check::version_needed(v, x.entries, x.values) {
+    if !check::version_needed(v, x.entries, x.values) {
         return Answer::refused(Refusal::BadSheet, 0);
     }
     if slots.len() / record::SLOT_WIDTH < x.entries {
@@ -33,7 +38,7 @@ fn read_entries(
     if area.len() - mark < x.values {
         return Answer::refused(Refusal::NoRoom, 0);
     }
-    sheet_fill::fill(sheet, w, x.entries, slots, area, mark)
+    fill::fill(sheet, w, x.entries, slots, area, mark)
 }
 
 // Reads a sheet: sets slots from the first on, and puts their values into the area from the mark on. A refusal changes nothing.
@@ -43,12 +48,12 @@ pub fn read(sheet: &[u8], slots: &mut [u32], area: &mut [u8], mark: usize) -> An
     if !sheet::lent_fits(slots.len(), area.len(), sheet.len(), mark) {
         return Answer::refused(Refusal::BadSize, 0);
     }
-    let v = sheet_check::version_of(sheet);
-    if !sheet_check::version_known(v) {
+    let v = check::version_of(sheet);
+    if !check::version_known(v) {
         return Answer::refused(Refusal::BadVersion, 0);
     }
     let w = lengths::width_of(v);
-    if !sheet_check::header_fits(sheet, w) {
+    if !check::header_fits(sheet, w) {
         return Answer::refused(Refusal::BadSheet, 0);
     }
     read_entries(sheet, v, w, slots, area, mark)

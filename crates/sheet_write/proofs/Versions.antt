@@ -16,7 +16,7 @@ use Rattle.sheet.specs.Steps.{sheetFor, bodyFor, versionOfTable, tableSheet}
 use Rattle.sheet.proofs.Sheets.{length-body, length-sheet}
 use Rattle.sheet.proofs.Calls.{lengths}
 use Rattle.sheet.proofs.Claims.{length-entries}
-use Rattle.sheet_store.specs.Steps.{BodyRoom}
+use Rattle.sheet_write.specs.store.{BodyRoom}
 use Rattle.sheet_write.specs.Steps.{versionBy, lengthIn, Checked}
 
 same-test : (n : ℕ) → ltb (3 + n) 65539 ≡ ltb n 65536

@@ -7,8 +7,8 @@ use lib.ListN.{length}
 use lib.Dec.{eqb, ltb}
 use Rattle.layout.specs.Refusals.{if_then_else_}
 use Rattle.sheet.specs.Sheet.{version1, version2, widthOf, headerSize, lengthsFit}
-use Rattle.sheet_store.specs.declared.Measured.the-variants.{Length}
-use Rattle.sheet_store.specs.Steps.{MeasuredAs}
+use Rattle.sheet_write.specs.declared.store.Measured.the-variants.{Length}
+use Rattle.sheet_write.specs.store.{MeasuredAs}
 
 -- the sizes keep and all slots fit; header and entries take n bytes in version 1
 pub record Checked (slots area buffer : List ℕ) (n : ℕ) : Type 0 where

@@ -9,7 +9,10 @@ ghost use Rattle.sheet_write.specs.Steps.{versionBy, lengthIn, Checked};
 use layout::Refusal;
 use record::Answer;
 use sheet::lengths;
-use sheet_store::Measured;
+use store::Measured;
+
+// Its two passes.
+mod store;
 
 // The first length that a version 1 sheet cannot have.
 const OVER_1: usize = lengths::LIMIT_1 + lengths::HEADER_1;
@@ -47,7 +50,7 @@ fn write_sheet(slots: &[u32], area: &[u8], sheet: &mut [u8], n: usize) -> Answer
     if sheet.len() < size {
         return Answer::refused(Refusal::NoRoom, 0);
     }
-    sheet_store::fill(slots, area, sheet, v, w, size);
+    store::fill(slots, area, sheet, v, w, size);
     Answer::accepted(size as u32, 0)
 }
 
@@ -58,7 +61,7 @@ pub fn write(slots: &[u32], area: &[u8], sheet: &mut [u8]) -> Answer
     if !sheet::lengths_fit(slots.len(), area.len(), sheet.len()) {
         return Answer::refused(Refusal::BadSize, 0);
     }
-    let m = sheet_store::measure(slots, area);
+    let m = store::measure(slots, area);
     match m {
         Measured::Bad(k) => Answer::refused(Refusal::BadSlot, k as u32),
         Measured::Length(n) => write_sheet(slots, area, sheet, n),

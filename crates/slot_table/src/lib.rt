@@ -6,6 +6,9 @@ ghost use Rattle.record.specs.Table.{slotWidth, numberLimit, isIntegers, itemSi
 ghost use Rattle.record.specs.Slots.{SlotAt, slotSet, isInside};
 use record::slots::Slot;
 
+// The tests of what is lent, and the bytes that items fill.
+pub mod sizes;
+
 // Slot number k.
 pub fn slot_at(slots: &[u32], k: usize) -> Slot
     requires { ⌜ slotWidth * k + slotWidth ≤ length (now slots) ⌝ }

@@ -1,1 +1,5 @@
 pub mod Slots
+pub mod pack
+pub mod read
+-- Demand 3 over slot records.
+pub mod claims

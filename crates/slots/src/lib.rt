@@ -1,4 +1,4 @@
-// Slot records: a slice of slots taken apart into numbers, and put together out of them, for the calls of `slots_pack` and `slots_read`.
+// Slot records: a slice of slots taken apart into numbers, and put together out of them, for the calls of `pack` and `read`.
 // The functions over slots are few and thin: proved by hand.
 ghost use mathlib.Core.Path.{_≡_};
 ghost use mathlib.Core.List.{_++_};
@@ -7,6 +7,13 @@ ghost use lib.ListN.{length, take, drop};
 ghost use Rattle.layout.specs.Lent.{before, after};
 ghost use Rattle.record.specs.Table.{slotWidth};
 ghost use Rattle.slots.specs.Slots.{maxNumbers, numbersOf, slotsFrom, slotFrom, putAt, taken};
+
+// Packing: `pack_slots`.
+pub mod pack;
+// Reading: `read_slots`.
+pub mod read;
+// What holds of them: no code.
+pub mod claims;
 
 // A slot as a caller lends it: 16 bytes, four numbers of 32 bits. (`record::slots::Slot` holds the same four as numbers that code counts with; it is
 // read out of a run of numbers and never lent.)

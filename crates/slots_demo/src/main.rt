@@ -5,6 +5,11 @@ use record::Answer;
 use record::ReadAnswer;
 use slots::Slot;
 
+// Packing a table by value.
+mod rows_pack;
+// Reading one.
+mod rows_read;
+
 fn digit(n: u32) -> u8 {
     let d = n % 10;
     48 + d as u8

@@ -1,17 +1,20 @@
-// The run-through program: the examples of the manual pages and the edges of document 01, a line for each call.
-mod cuts;
-mod examples;
-mod packing;
-mod reading;
+// The run-through programs, held to their stored output: packing and reading.
+
+// The manual's examples and the edges of document 01.
+mod records;
+// Reals.
+mod reals;
+// Layouts described.
+mod layouts;
+// Perl templates.
+mod templates;
+// Layouts prepared once.
+mod plan_lines;
 
 fn main() {
-    examples::packings();
-    packing::sizes();
-    examples::outputs_and_readings();
-    reading::kept();
-    examples::places_and_refusals();
-    reading::sizes();
-    reading::areas();
-    examples::marks();
-    cuts::table();
+    records::main();
+    reals::main();
+    layouts::main();
+    templates::main();
+    plan_lines::main();
 }

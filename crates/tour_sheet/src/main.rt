@@ -1,22 +1,14 @@
-// Tables stored as sheets and read back (document 02, M-100): a line for each call, with what it is lent, the answer's three numbers, and what it wrote.
-mod examples;
-mod reading;
-mod writing;
+// Run-through programs of sheets and marks.
 
-use tour_text::print;
-
-fn written() {
-    examples::written();
-    writing::slots();
-    print::heading(b"\nWriting: refusals and limits");
-    writing::refusals();
-    writing::sizes();
-    writing::kept();
-}
+// Tables stored as sheets and read back.
+mod sheets;
+// Damaged sheets.
+mod rescues;
+// Means of marked legs.
+mod means;
 
 fn main() {
-    written();
-    examples::read();
-    reading::sizes();
-    examples::kept();
+    sheets::main();
+    rescues::main();
+    means::main();
 }

@@ -1,6 +1,7 @@
 // The values that slots show: strings in quotes, integers in braces, reals by their patterns in angle brackets, `not set` for a slot that is not set.
 use super::print;
 use super::print::Style;
+use byte_runs::big_endian;
 use record::INTEGER_SIZE;
 use record::SLOT_WIDTH;
 

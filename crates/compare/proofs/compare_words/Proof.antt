@@ -4,7 +4,7 @@ use mathlib.Core.Path.{sym, _∙_}
 use borrow.Author.Tests.{not-true, not-false}
 use borrow.Author.Needs.{needs}
 use lib.ListN.{length}
-use Rattle.checking.proofs.Calls.{Fit, fit}
+use Rattle.reader.proofs.checking.Calls.{Fit, fit}
 use Rattle.compare.proofs.Calls.{sizes-fail, words-fail, words-pass, words-room, words-left, read-holds, first-fails, second-fails, no-room, done}
 use Rattle.compare.proofs.compare_words.Statement.{statement}
 use Rattle.compare.proofs.compare_words.Tie as tie

@@ -2,7 +2,7 @@
 use mathlib.Core.Path.{refl, _∙_}
 use mathlib.Core.List.{[], _∷_}
 use Rattle.host.specs.Host.{longReply}
-use Rattle.host_numbers.proofs.NumberLaws.{bytes-whole}
+use Rattle.host.proofs.numbers.NumberLaws.{bytes-whole}
 use borrow.Author.Needs.{needs}
 use Rattle.host.proofs.reply_long.Statement.{statement}
 use Rattle.host.proofs.reply_long.Tie as tie

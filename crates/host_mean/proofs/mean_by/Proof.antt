@@ -1,5 +1,5 @@
 -- The numbers are decoded, the call on numbers gives the mean, which is no NaN, and its answer is the reply.
-use Rattle.marks.proofs.Theorems.{mean-numeric}
+use Rattle.mean.proofs.marks.Theorems.{mean-numeric}
 use Rattle.host_mean.proofs.Calls.{mean-replied}
 use borrow.Author.Needs.{needs}
 use Rattle.host_mean.proofs.mean_by.Statement.{statement}

@@ -7,7 +7,7 @@ use lib.Dec.{eqb}
 use lib.ListN.{length}
 use Rattle.record.specs.Geometry.{lengthsFit}
 use Rattle.record.proofs.Sizes.{Sized, sized}
-use Rattle.host_numbers.specs.Numbers.{numberSize}
+use Rattle.host.specs.numbers.Numbers.{numberSize}
 use Rattle.host.specs.Host.{replySize}
 use Rattle.host.proofs.Guards.{Fit, fit}
 use Rattle.host_plans.proofs.Calls.{pack-unwritten, pack-refused, pack-unfit, pack-served}

@@ -5,9 +5,9 @@ use mathlib.Core.Bool.{true}
 use borrow.Author.Tests.{not-true, not-false, eqb-true}
 use lib.Dec.{eqb}
 use lib.ListN.{length}
-use Rattle.checking.specs.Sizes.{lentFits}
-use Rattle.checking.proofs.Calls.{Fit as Lent, fit as lent}
-use Rattle.host_numbers.specs.Numbers.{numberSize}
+use Rattle.reader.specs.checking.Sizes.{lentFits}
+use Rattle.reader.proofs.checking.Calls.{Fit as Lent, fit as lent}
+use Rattle.host.specs.numbers.Numbers.{numberSize}
 use Rattle.host.specs.Host.{longReplySize}
 use Rattle.host.proofs.Guards.{Fit, fit}
 use Rattle.host_plans.proofs.Calls.{read-unwritten, read-refused, read-unfit, read-served}

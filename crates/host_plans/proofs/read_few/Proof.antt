@@ -2,7 +2,7 @@
 use native.Mathlib.Omega.{arith}
 use mathlib.Core.Path.{sym, _∙_}
 use Rattle.record.proofs.Bytes.{all-below}
-use Rattle.read_words.proofs.Calls.{sure-room, sure-put}
+use Rattle.reader.proofs.passes.Calls.{sure-room, sure-put}
 use Rattle.host_plans.proofs.Calls.{set-room, read-replied, mark-inside, sure-sizes, room-ready, room-read}
 use borrow.Author.Needs.{needs}
 use Rattle.host_plans.proofs.read_few.Statement.{statement}

@@ -8,9 +8,9 @@ use borrow.Author.Tests.{not-true, not-false}
 use Rattle.record.specs.Table.{slotsOf, slotWidth, maxSlots}
 use Rattle.record.specs.Geometry.{tableFits}
 use Rattle.record.proofs.Sizes.{table-sized}
-use Rattle.marks.specs.declared.Marks.{Marks}
-use Rattle.marks.specs.Mean.{legsOf, marksEffect, mean}
-use Rattle.marks.proofs.WalkLaws.{Walking, walking-none, walking-done, slot-there, walking-stop, walking-next, call-refused, call-served}
+use Rattle.mean.specs.declared.marks.Marks.{Marks}
+use Rattle.mean.specs.marks.Mean.{legsOf, marksEffect, mean}
+use Rattle.mean.proofs.marks.WalkLaws.{Walking, walking-none, walking-done, slot-there, walking-stop, walking-next, call-refused, call-served}
 use borrow.Author.Needs.{needs}
 use Rattle.mean.proofs.mean.Statement.{statement}
 use Rattle.mean.proofs.mean.Tie as tie

@@ -7,7 +7,7 @@ use lib.ListN.{length}
 use borrow.Author.Tests.{eq-eqb, ne-eqb, le-leb, lt-leb, not-true, not-false}
 use Rattle.record.specs.Table.{unset, isIntegers}
 use Rattle.record.specs.Slots.{isInside}
-use Rattle.marks.proofs.LegLaws.{not-set, bad-slot, wrong-kind, wrong-amount, mark-inside, out-of-range, in-range}
+use Rattle.mean.proofs.marks.LegLaws.{not-set, bad-slot, wrong-kind, wrong-amount, mark-inside, out-of-range, in-range}
 use borrow.Author.Needs.{needs}
 use Rattle.mean.proofs.step.Statement.{statement}
 use Rattle.mean.proofs.step.Tie as tie

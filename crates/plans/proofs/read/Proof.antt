@@ -5,8 +5,8 @@ use mathlib.Core.Path.{sym, _∙_}
 use mathlib.Core.Bool.{false}
 use borrow.Author.Tests.{not-true, not-false}
 use Rattle.layout.proofs.Decoded.{parsed-fields, parsed-refused}
-use Rattle.checking.proofs.Calls.{Fit, fit, sizes-refuse-fields, fields-refuse}
-use Rattle.read_words.proofs.Whole.{ready}
+use Rattle.reader.proofs.checking.Calls.{Fit, fit, sizes-refuse-fields, fields-refuse}
+use Rattle.reader.proofs.passes.Whole.{ready}
 use Rattle.plans.proofs.Calls.{plan-inside, plan-refused, plan-words}
 use borrow.Author.Needs.{needs}
 use Rattle.plans.proofs.read.Statement.{statement}

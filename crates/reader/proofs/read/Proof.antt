@@ -7,7 +7,7 @@ use mathlib.Core.Bool.{false}
 use borrow.Author.Tests.{not-true, not-false}
 use Rattle.layout.proofs.Decoded.{parsed-fields, parsed-refused}
 use Rattle.layout.proofs.Places.{refused-inside}
-use Rattle.checking.proofs.Calls.{Fit, fit, sizes-refuse, parse-refuses}
+use Rattle.reader.proofs.checking.Calls.{Fit, fit, sizes-refuse, parse-refuses}
 use Rattle.reader.proofs.Calls.{read-refused, ready, words-read}
 use borrow.Author.Needs.{needs}
 use Rattle.layout.specs.Layout.{maxLayout}

@@ -3,8 +3,8 @@ use Prim.Native.Nat.{_-_, _≤_}
 use native.Mathlib.Omega.{arith}
 use borrow.Author.Needs.{needs}
 use Rattle.layout.specs.Words.{decoded}
-use Rattle.positions.proofs.Turns.{ran-end, ran-short, ran-moved, ran-found}
-use Rattle.read_measure.proofs.Run.{found-inside}
+use Rattle.reading.proofs.positions.Turns.{ran-end, ran-short, ran-moved, ran-found}
+use Rattle.reading.proofs.measure.Run.{found-inside}
 use Rattle.reading.proofs.Tables.{Written, written-start, written-bounds, written-moved, written-room, written-more, written-done}
 use Rattle.reading.proofs.fill.Statement.{statement}
 use Rattle.reading.proofs.fill.Tie as tie

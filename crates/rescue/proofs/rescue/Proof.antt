@@ -3,8 +3,8 @@ use native.Mathlib.Omega.{arith}
 use mathlib.Core.Path.{sym, _∙_}
 use borrow.Author.Tests.{not-true, not-false}
 use Rattle.record.proofs.Tables.{length-slots}
-use Rattle.rescue_fill.specs.Steps.{Ready}
-use Rattle.rescue_fill.proofs.Calls.{rescue-sizes, rescue-version, rescue-slots}
+use Rattle.rescue.specs.fill.Steps.{Ready}
+use Rattle.rescue.proofs.fill.Calls.{rescue-sizes, rescue-version, rescue-slots}
 use Rattle.rescue.proofs.Tests.{known-as, width-as, no-header, a-header}
 use borrow.Author.Needs.{needs}
 use Rattle.rescue.proofs.rescue.Statement.{statement}

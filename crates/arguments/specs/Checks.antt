@@ -1,8 +1,0 @@
--- What a check of an argument answers.
-use Rattle.layout.specs.Refusals.{Result, ok, refused}
-use Rattle.arguments.specs.declared.Verdict.{Verdict}
-use Rattle.arguments.specs.declared.Verdict.the-variants.{Fits, Refused}
-
-abbrev pub verdictOf : Result (Unit {0}) → Verdict
-verdictOf (ok a) = Fits
-verdictOf (refused why place) = Refused why place

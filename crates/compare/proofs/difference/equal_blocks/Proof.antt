@@ -1,0 +1,68 @@
+-- The loop keeps that the bytes up to i are the same.
+use Prim.Native.Nat.{_-_, _≤_}
+use native.Mathlib.Omega.{arith}
+use mathlib.Core.Path.{_≡_, refl, sym, _∙_}
+use mathlib.Core.Bool.{true}
+use borrow.Author.Tests.{not-false}
+use Rattle.record.specs.Bytes.{part}
+use Rattle.compare.specs.difference.{same}
+use Rattle.compare.proofs.difference.Runs.{block-same}
+use Rattle.compare.proofs.difference.equal_blocks.Statement.{statement}
+use Rattle.compare.proofs.difference.equal_blocks.Tie as tie
+
+abbrev Inv-loop : tie.InvT-loop
+Inv-loop first at second to n i₀ i = (i ≤ n) × (same (part first at i) (part second to i) ≡ true)
+
+abbrev μ-loop : tie.MeasureT-loop
+μ-loop first at second to n i₀ i = n - i
+
+loop-holds : tie.Need-loop-holds Inv-loop μ-loop
+unfolding same
+loop-holds c = (omega arith, refl)
+
+sub-loop : tie.Need-sub-loop Inv-loop μ-loop
+sub-loop c = omega arith
+
+add-same-bytes : tie.Need-add-same-bytes Inv-loop μ-loop
+add-same-bytes c = omega arith
+
+add-same-bytes-2 : tie.Need-add-same-bytes-2 Inv-loop μ-loop
+add-same-bytes-2 c = omega arith
+
+same-bytes-requires : tie.Need-same-bytes-requires Inv-loop μ-loop
+same-bytes-requires c κs = (omega arith, omega arith)
+
+returns : tie.Need-returns Inv-loop μ-loop
+returns c = c .before .before .before .loop .inv
+
+add-i : tie.Need-add-i Inv-loop μ-loop
+add-i c = omega arith
+
+loop-less : tie.Need-loop-less Inv-loop μ-loop
+loop-less c = omega arith
+
+loop-again : tie.Need-loop-again Inv-loop μ-loop
+loop-again c =
+    let a = c .before .before .before .before .before .before .args in
+    let l = c .before .before .before .loop in
+    (omega arith, block-same (a .first .now) (a .at) (a .second .now) (a .to) (l .i) 16 (omega arith) (omega arith) (l .inv .1) (sym (c .before .same-bytes .ensures) ∙ not-false _ (c .if1 .left)))
+
+returns-2 : tie.Need-returns-2 Inv-loop μ-loop
+returns-2 c = c .before .loop .inv
+
+pub equal-blocks-spec : {M : Type 1} → statement M
+equal-blocks-spec =
+    tie.close
+    (tie.spec
+    Inv-loop
+    μ-loop
+    loop-holds
+    sub-loop
+    add-same-bytes
+    add-same-bytes-2
+    same-bytes-requires
+    returns
+    add-i
+    loop-less
+    loop-again
+    returns-2)

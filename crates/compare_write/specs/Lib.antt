@@ -1,2 +1,0 @@
--- What writing back a comparison means.
-pub mod Back

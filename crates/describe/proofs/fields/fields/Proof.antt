@@ -1,0 +1,107 @@
+-- Number by number, in the order of the definition: each return is one law of it.
+use Prim.Native.Nat.{_≤_}
+use native.Mathlib.Omega.{arith}
+use mathlib.Core.Path.{_≡_}
+use mathlib.Core.Bool.{false}
+use lib.ListN.{length}
+use Rattle.layout.specs.Refusals.{refused}
+use Rattle.layout.specs.Layout.{maxLayout, fieldsOf}
+use Rattle.layout.proofs.Decoded.{parsed-fields, parsed-refused}
+use Rattle.layout.proofs.Places.{refused-inside}
+use Rattle.describe.specs.fields.Walk.{Holds}
+use Rattle.describe.proofs.fields.Calls.{too-long, refused-fields, holds, no-room, told}
+use borrow.Author.Needs.{needs}
+use Rattle.describe.proofs.fields.fields.Statement.{statement}
+use Rattle.describe.proofs.fields.fields.Tie as tie
+
+refused-requires : tie.Need-refused-requires
+refused-requires c κs = search needs
+
+returns : tie.Need-returns
+returns c = rw (c .refused .ensures) (too-long _ _ (c .before .if1 .taken))
+
+short : (c : tie.Else1) → length (c .before .before .before .args .layout .now) ≤ maxLayout
+short c = omega arith
+
+bad : (c : tie.After-known-told)
+    → fieldsOf false (c .before .before .before .before .before .before .before .before .before .args .layout .now) ≡ refused (c .before .p .given .0 .0) (c .before .p .given .0 .1 .0)
+bad c = parsed-refused _ _ _ _ _ (c .before .before .before .before .parse .ensures) (c .before .p .given .1)
+
+good : (c : tie.After-known-told2)
+    → Holds (c .before .before .before .before .before .before .before .before .before .args .layout .now) (c .before .p2 .given .0 .0) (c .before .before .before .before .parse .last .1 .1 .0)
+good c =
+    holds _ (short (c .before .before .before .before .before .before)) _ _ _ (parsed-fields _ _ _ _ _ (c .before .before .before .before .parse .ensures) (c .before .p2 .given .1))
+
+slice-aggregate-parse : tie.Need-slice-aggregate-parse
+slice-aggregate-parse c = search needs
+
+parse-requires : tie.Need-parse-requires
+parse-requires c κs = search needs
+
+enum-known-p : tie.Need-enum-known-p
+enum-known-p c = search needs
+
+cast-refused : tie.Need-cast-refused
+cast-refused c =
+    omega (arith, short (c .before .before .before .before .before .before), refused-inside false (c .before .before .before .before .before .before .before .before .before .args .layout .now) _ _ (bad c))
+
+refused-requires-2 : tie.Need-refused-requires-2
+refused-requires-2 c κs = search needs
+
+enum-known-p-2 : tie.Need-enum-known-p-2
+enum-known-p-2 c = search needs
+
+refused-requires-3 : tie.Need-refused-requires-3
+refused-requires-3 c κs = search needs
+
+returns-2 : tie.Need-returns-2
+returns-2 c = rw (c .refused3 .ensures) (no-room _ _ _ _ (good (c .before .before)) (c .before .if2 .taken))
+
+cast-count : tie.Need-cast-count
+cast-count c =
+    let h = good (c .before) in
+    omega (arith, h .few, h .room)
+
+slice-aggregate-put-rows : tie.Need-slice-aggregate-put-rows
+slice-aggregate-put-rows c = search needs
+
+put-rows-requires : tie.Need-put-rows-requires
+put-rows-requires c κs =
+    let k = c .before .before in
+    (good (k .before), omega arith)
+
+accepted-requires : tie.Need-accepted-requires
+accepted-requires c κs = search needs
+
+returns-3 : tie.Need-returns-3
+returns-3 c =
+    rw (c .refused2 .ensures) (refused-fields _ _ (short (c .before .before .before .before .before .before .before)) _ _ (bad (c .before)))
+
+same-length : tie.Need-same-length
+same-length c = search needs
+
+returns-4 : tie.Need-returns-4
+returns-4 c =
+    rw (c .accepted .ensures) (told _ _ _ _ (good (c .before .before .before .before .before .before .before)) (c .before .before .before .before .before .before .if2 .left) _ (c .before .before .before .put-rows .ensures))
+
+pub fields-spec : {M : Type 1} → statement M
+fields-spec =
+    tie.close
+    (tie.spec
+    refused-requires
+    returns
+    slice-aggregate-parse
+    parse-requires
+    enum-known-p
+    cast-refused
+    refused-requires-2
+    enum-known-p-2
+    refused-requires-3
+    returns-2
+    cast-count
+    slice-aggregate-put-rows
+    put-rows-requires
+    accepted-requires
+    returns-3
+    same-length
+    returns-4)

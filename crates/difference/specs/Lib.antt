@@ -1,2 +1,0 @@
--- What two values differ in.
-pub mod Rows

@@ -1,5 +1,0 @@
--- Laws of how packing moves, of the rows, and of the call; Moves and Listing are for the crate `fields_claims` too.
-pub mod Moves
-mod RowLaws
-pub mod Listing
-mod Calls

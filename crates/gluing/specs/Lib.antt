@@ -1,2 +1,0 @@
--- M-113, templates glued together.
-pub mod Claim

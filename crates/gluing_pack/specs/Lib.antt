@@ -1,2 +1,0 @@
--- The call that packs two templates, and M-113 of it.
-pub mod Calls

@@ -1,2 +1,0 @@
--- What the call that describes a layout means for a C host.
-pub mod Calls

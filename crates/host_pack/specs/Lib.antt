@@ -1,2 +1,0 @@
--- What packing for a C host means.
-pub mod Calls

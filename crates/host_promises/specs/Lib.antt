@@ -1,2 +1,0 @@
--- What the two calls about promises mean for a C host.
-pub mod Calls

@@ -1,0 +1,26 @@
+-- The numbers are decoded, and the call on numbers packs them.
+use Rattle.host_record.proofs.pack.Calls.{packed}
+use borrow.Author.Needs.{needs}
+use Rattle.host_record.proofs.pack.pack_short.Statement.{statement}
+use Rattle.host_record.proofs.pack.pack_short.Tie as tie
+
+decode-requires : tie.Need-decode-requires
+decode-requires c κs = search needs
+
+pack-short-requires : tie.Need-pack-short-requires
+pack-short-requires c κs = search needs
+
+same-length : tie.Need-same-length
+same-length c = c .before .out .given
+
+same-length-2 : tie.Need-same-length-2
+same-length-2 c = c .before .before .before .before .before .before .room .given
+
+returns : tie.Need-returns
+returns c =
+    let called = c .before .before in
+    packed _ _ _ _ (called .before .before .before .before .before .decode .ensures) (called .pack-short .ensures)
+
+pub pack-short-spec : {M : Type 1} → statement M
+pack-short-spec =
+    tie.close (tie.spec decode-requires pack-short-requires same-length same-length-2 returns)

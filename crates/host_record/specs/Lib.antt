@@ -1,0 +1,3 @@
+-- What packing for a C host means.
+pub mod pack
+pub mod read

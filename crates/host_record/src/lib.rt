@@ -1,0 +1,6 @@
+// Packing and reading for a C host.
+
+// Packing.
+pub mod pack;
+// Reading.
+pub mod read;

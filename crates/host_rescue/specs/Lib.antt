@@ -1,2 +1,0 @@
--- What rescuing a sheet for a C host means.
-pub mod Calls

@@ -1,2 +1,0 @@
--- What reading sheets for a C host means.
-pub mod Calls

@@ -1,2 +1,0 @@
--- What writing sheets for a C host means.
-pub mod Calls

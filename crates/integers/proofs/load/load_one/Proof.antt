@@ -1,0 +1,39 @@
+-- The byte's number, widened, has the item's eight bytes.
+use mathlib.Core.Path.{ap, _∙_}
+use Rattle.record.specs.Bytes.{part, storeAt}
+use Rattle.integers.proofs.load.LoadedLaws.{one-number, number-item}
+use borrow.Author.Needs.{needs}
+use Rattle.integers.proofs.load.load_one.Statement.{statement}
+use Rattle.integers.proofs.load.load_one.Tie as tie
+
+shared-slice-read-widen-one : tie.Need-shared-slice-read-widen-one
+shared-slice-read-widen-one c = search needs
+
+widen-one-requires : tie.Need-widen-one-requires
+widen-one-requires c κs = search needs
+
+put-number-requires : tie.Need-put-number-requires
+put-number-requires c κs = search needs
+
+same-length : tie.Need-same-length
+same-length c = search needs
+
+returns : tie.Need-returns
+returns c big =
+    let put = c .before .before in
+    let wide = put .before in
+    let start = wide .before .before .before .before .before in
+    let a = start .args in
+    put .put-number .ensures
+    ∙ ap (storeAt (a .area .now) (a .to))
+    (number-item 1 big (a .unsigned) (part (a .input .now) (a .at) 1) _ _ (one-number (a .input .now) (a .at) big (start .pre .1)) (wide .widen-one .ensures))
+
+pub load-one-spec : {M : Type 1} → statement M
+load-one-spec =
+    tie.close
+    (tie.spec
+    shared-slice-read-widen-one
+    widen-one-requires
+    put-number-requires
+    same-length
+    returns)

@@ -1,0 +1,77 @@
+-- One integer is stored by itself, as the law of one alone says; more are stored by a loop, and whole where they fill eight bytes.
+use native.Mathlib.Omega.{arith}
+use mathlib.Core.Path.{ap, _∙_}
+use Rattle.record.specs.Bytes.{storeAt}
+use Rattle.integers.proofs.store.StoredLaws.{stored-one, eights-stored}
+use borrow.Author.Needs.{needs}
+use Rattle.integers.proofs.store.store.Statement.{statement}
+use Rattle.integers.proofs.store.store.Tie as tie
+
+sub-copy-ordered : tie.Need-sub-copy-ordered
+sub-copy-ordered c = search needs
+
+add-copy-ordered : tie.Need-add-copy-ordered
+add-copy-ordered c = search needs
+
+copy-ordered-requires : tie.Need-copy-ordered-requires
+copy-ordered-requires c κs =
+    let pre = rw (c .before .if1 .taken) at (c .before .before .before .before .pre) in
+    omega (arith, pre .0, pre .1, pre .2)
+
+same-length : tie.Need-same-length
+same-length c = search needs
+
+returns : tie.Need-returns
+returns c =
+    let known = c .before .before .before .before .before in
+    let start = known .before .before in
+    let a = start .args in
+    let one = c .before .before .before .before .if1 .taken in
+    let pre = rw one at (start .pre) in
+    rw one
+    (c .before .before .copy-ordered .ensures
+    ∙ ap (storeAt (a .out .now) (a .at)) (stored-one (a .area .now) (a .start) (a .w) (a .big) (λ i. known .shared-slice-known .given i .fits) (start .pre .0) (omega (arith, pre .2))))
+
+copy-eights-requires : tie.Need-copy-eights-requires
+copy-eights-requires c κs =
+    let pre = rw (c .before .if2 .taken) at (c .before .before .before .before .before .pre) in
+    (omega arith, omega arith)
+
+same-length-2 : tie.Need-same-length-2
+same-length-2 c = search needs
+
+returns-2 : tie.Need-returns-2
+returns-2 c =
+    let known = c .before .before .before .before .before .before in
+    let start = known .before .before in
+    let a = start .args in
+    let eight = c .before .before .before .before .if2 .taken in
+    let pre = rw eight at (start .pre) in
+    rw eight
+    (c .before .before .copy-eights .ensures
+    ∙ ap (storeAt (a .out .now) (a .at)) (eights-stored (a .area .now) (a .start) (a .big) (a .n) (λ i. known .shared-slice-known .given i .fits) (pre .2)))
+
+store-each-requires : tie.Need-store-each-requires
+store-each-requires c κs = search needs
+
+same-length-3 : tie.Need-same-length-3
+same-length-3 c = search needs
+
+returns-3 : tie.Need-returns-3
+returns-3 c = search needs
+
+pub store-spec : {M : Type 1} → statement M
+store-spec =
+    tie.close
+    (tie.spec
+    sub-copy-ordered
+    add-copy-ordered
+    copy-ordered-requires
+    same-length
+    returns
+    copy-eights-requires
+    same-length-2
+    returns-2
+    store-each-requires
+    same-length-3
+    returns-3)

@@ -1,0 +1,34 @@
+// A record read by a layout and packed again by it: the calls of which M-107 speaks.
+// The claim and its proof are in the crate `lossless`; `read_and_pack` keeps it.
+ghost use Rattle.lossless.specs.pack_again.{ReadsAndPacksAs};
+use record::Answer;
+
+// Reads a record by a layout into a table and an area, and packs by the same layout what the table then shows.
+// Answers what the packer does, or the reader where that refuses.
+pub fn read_and_pack(
+    layout: &[u8],
+    bytes: &[u8],
+    slots: &mut [u32],
+    area: &mut [u8],
+    mark: usize,
+    out: &mut [u8],
+) -> Answer
+    ensures { λ r. ⌜ ReadsAndPacksAs
+        (record {
+          layout = now (layout .entry);
+          bytes = now (bytes .entry);
+          slots = now (slots .entry);
+          area = now (area .entry);
+          mark = mark;
+          output = now (out .entry);
+        })
+        (record { answer = r; slots = now (slots .exit); area = now (area .exit); output = now (out .exit) }) ⌝ }
+{
+    let r = reader::read(layout, bytes, slots, area, mark);
+    let a = r.answer;
+    let number = a.number;
+    if number != 0 {
+        return a;
+    }
+    packer::pack(layout, slots, area, out)
+}

@@ -1,0 +1,7 @@
+-- The examples hold: one statement, which the checker computes.
+use lib.Dec.{T}
+use Rattle.mean.specs.marks.Examples.{all, examples}
+
+examples-hold : T (all examples)
+unfolding examples all
+examples-hold = tt

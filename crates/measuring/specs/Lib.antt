@@ -1,2 +1,0 @@
--- What the measuring pass computes. The definition of packing itself stands in the crate `record`.
-pub mod Measure

@@ -1,0 +1,54 @@
+-- Each test that fails is unsure, which says nothing; past them the integers serve.
+use borrow.Author.Tests.{not-false}
+use mathlib.Core.Path.{sym, _∙_}
+use Rattle.pack_check.proofs.quick_check.QuickLaws.{none-sound, integers-sound}
+use borrow.Author.Needs.{needs}
+use Rattle.pack_check.proofs.quick_check.try_integers.Statement.{statement}
+use Rattle.pack_check.proofs.quick_check.try_integers.Tie as tie
+
+returns : tie.Need-returns
+returns c = none-sound _ _ _ _
+
+returns-2 : tie.Need-returns-2
+returns-2 c = none-sound _ _ _ _
+
+mul-if3 : tie.Need-mul-if3
+mul-if3 c = search needs
+
+add-if3 : tie.Need-add-if3
+add-if3 c = search needs
+
+returns-3 : tie.Need-returns-3
+returns-3 c = none-sound _ _ _ _
+
+is-plenty-requires : tie.Need-is-plenty-requires
+is-plenty-requires c κs = search needs
+
+returns-4 : tie.Need-returns-4
+returns-4 c = none-sound _ _ _ _
+
+bytes-numbered-requires : tie.Need-bytes-numbered-requires
+bytes-numbered-requires c κs = search needs
+
+returns-5 : tie.Need-returns-5
+returns-5 c =
+    let e₄ = c .before in
+    let e₃ = e₄ .before .before in
+    let e₂ = e₃ .before .before .before in
+    let start = e₂ .before .before .before in
+    integers-sound _ _ (start .args .a) _ (start .pre .2) _ (start .pre .0) (start .pre .1) (e₂ .before .if1 .left) (e₂ .if2 .left) (e₃ .if3 .left)
+    (sym (e₄ .before .is-plenty .ensures) ∙ not-false _ (e₄ .if4 .left)) _ (c .bytes-numbered .ensures)
+
+pub try-integers-spec : {M : Type 1} → statement M
+try-integers-spec =
+    tie.close
+    (tie.spec
+    returns
+    returns-2
+    mul-if3
+    add-if3
+    returns-3
+    is-plenty-requires
+    returns-4
+    bytes-numbered-requires
+    returns-5)

@@ -1,0 +1,111 @@
+// The quick test of one argument: the usual one, which serves, is spared the exact check (the module `arguments`).
+ghost use mathlib.Core.Path.{_≡_};
+ghost use Prim.Native.Nat.{_≤_, _<_};
+ghost use Rattle.layout.specs.declared.Count.{Count};
+ghost use Rattle.layout.specs.Words.{lastDigits, lastIntegers, lastData, shapeNumbered};
+ghost use Rattle.record.specs.Table.{numberLimit};
+ghost use Rattle.record.specs.Geometry.{amount, itemsLimit};
+ghost use Rattle.record.specs.Packing.{enough};
+ghost use Rattle.pack_check.specs.quick_check.{Sound};
+use super::arguments;
+use layout::Count;
+use record::slots::Slot;
+use slot_table::sizes;
+
+// What the quick test answers: the argument serves and the field takes so many bytes, or the exact check must tell.
+pub enum Quick {
+    Bytes(usize),
+    Unsure,
+}
+
+// An argument of so many integers or reals has the items that its field takes.
+fn is_plenty(n: Count, items: usize, have: usize) -> bool
+    requires { ⌜ items ≡ amount n have ⌝ }
+    ensures { λ r. ⌜ r ≡ enough n have ⌝ }
+{
+    match n {
+        Count::Absent => have == 1,
+        Count::Star => true,
+        Count::Times(_) => items <= have,
+    }
+}
+
+// The argument of integers.
+fn try_integers(d: u32, n: Count, items: usize, a: Slot, area: &[u8]) -> Quick
+    requires { ⌜ (lastDigits < d) × (d ≤ lastIntegers) × (items ≡ amount n (a .len)) × (items < itemsLimit) × (a .start < numberLimit) × (a .len < numberLimit) ⌝ }
+    ensures { λ r. ⌜ Sound r (now (area .entry)) (shapeNumbered d) n a ⌝ }
+{
+    let kind = a.kind;
+    if kind < record::slots::SIGNED {
+        return Quick::Unsure;
+    }
+    if record::slots::UNSIGNED < kind {
+        return Quick::Unsure;
+    }
+    if area.len() < a.start + a.len * 8 {
+        return Quick::Unsure;
+    }
+    if !is_plenty(n, items, a.len) {
+        return Quick::Unsure;
+    }
+    Quick::Bytes(sizes::bytes_numbered(d, items))
+}
+
+// The argument of reals.
+fn try_reals(d: u32, n: Count, items: usize, a: Slot, area: &[u8]) -> Quick
+    requires { ⌜ (lastIntegers < d) × (d ≤ lastData) × (items ≡ amount n (a .len)) × (items < itemsLimit) × (a .start < numberLimit) × (a .len < numberLimit) ⌝ }
+    ensures { λ r. ⌜ Sound r (now (area .entry)) (shapeNumbered d) n a ⌝ }
+{
+    if a.kind != record::slots::REAL {
+        return Quick::Unsure;
+    }
+    if area.len() < a.start + a.len * record::INTEGER_SIZE {
+        return Quick::Unsure;
+    }
+    if !is_plenty(n, items, a.len) {
+        return Quick::Unsure;
+    }
+    if !arguments::singles_fit(d <= layout::LAST_SINGLE, items, a, area) {
+        return Quick::Unsure;
+    }
+    Quick::Bytes(sizes::bytes_numbered(d, items))
+}
+
+// The argument of text or digits. A string may be shorter or longer than its field, so the count is not looked at.
+fn try_string(d: u32, items: usize, a: Slot, area: &[u8]) -> Quick
+    requires { ⌜ (d ≤ lastDigits) × (items < itemsLimit) × (a .start < numberLimit) × (a .len < numberLimit) ⌝ }
+    ensures { λ r. ⌜ ((n : Count) → items ≡ amount n (a .len) → Sound r (now (area .entry)) (shapeNumbered d) n a) ⌝ }
+{
+    if a.kind != 1 {
+        return Quick::Unsure;
+    }
+    if area.len() < a.start + a.len {
+        return Quick::Unsure;
+    }
+    if d <= layout::LAST_TEXT {
+        return Quick::Bytes(items);
+    }
+    if !digits::all_digits(
+        area,
+        a.start,
+        record::least(items, a.len),
+        layout::LAST_BINARY < d,
+    ) {
+        return Quick::Unsure;
+    }
+    Quick::Bytes(sizes::bytes_numbered(d, items))
+}
+
+// The argument of a field that takes so many items, by the number of the field's type. Where this is unsure, `arguments::check` finds what is wrong.
+pub fn try_argument(d: u32, n: Count, items: usize, a: Slot, area: &[u8]) -> Quick
+    requires { ⌜ (d ≤ lastData) × (items ≡ amount n (a .len)) × (items < itemsLimit) × (a .start < numberLimit) × (a .len < numberLimit) ⌝ }
+    ensures { λ r. ⌜ Sound r (now (area .entry)) (shapeNumbered d) n a ⌝ }
+{
+    if d <= layout::LAST_DIGITS {
+        return try_string(d, items, a, area);
+    }
+    if d <= layout::LAST_INTEGERS {
+        return try_integers(d, n, items, a, area);
+    }
+    try_reals(d, n, items, a, area)
+}

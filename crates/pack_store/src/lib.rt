@@ -1,0 +1,6 @@
+// The second pass of a packing: every field stored.
+
+// One value.
+pub mod stores;
+// The pass.
+pub mod writing;

@@ -1,0 +1,53 @@
+-- Letter and flag, and after them the digits, are one run; where it would not fit, nothing is put.
+use native.Mathlib.Omega.{arith}
+use borrow.Author.Needs.{needs}
+use Rattle.perl.proofs.items.Blocks.{flag-short, put-over, put-whole}
+use Rattle.perl.proofs.items.put.Statement.{statement}
+use Rattle.perl.proofs.items.put.Tie as tie
+
+letter-size-requires : tie.Need-letter-size-requires
+letter-size-requires c κs = search needs
+
+add-count : tie.Need-add-count
+add-count c = record { fits = omega (arith, flag-short (c .before .before .before .args .flagged)) }
+
+add-end : tie.Need-add-end
+add-end c = record { fits = omega (arith, flag-short (c .before .before .before .args .flagged)) }
+
+add-result : tie.Need-add-result
+add-result c = search needs
+
+returns : tie.Need-returns
+returns c =
+    let s = c .before .before .before .before in
+    put-over (s .args .out .now) (s .args .text .now) (s .args .to) (s .args .letter) (s .args .flagged) (s .args .start) (s .args .n) _ (c .before .letter-size .ensures) (s .pre .0) (c .if1 .taken)
+
+put-letter-requires : tie.Need-put-letter-requires
+put-letter-requires c κs = search needs
+
+copy-requires : tie.Need-copy-requires
+copy-requires c κs = search needs
+
+same-length : tie.Need-same-length
+same-length c = search needs
+
+returns-2 : tie.Need-returns-2
+returns-2 c =
+    let l = c .before .before .before .before .before .before .before .before .before in
+    let s = l .before .before .before in
+    put-whole (s .args .out .now) (s .args .text .now) (s .args .to) (s .args .letter) (s .args .flagged) (s .args .start) (s .args .n) _ (l .letter-size .ensures) (s .pre .0) (s .pre .2)
+    (c .before .before .before .before .before .before .before .before .if1 .left) (c .before .before .before .before .before .before .put-letter .ensures) (c .before .before .copy .ensures)
+
+pub put-spec : {M : Type 1} → statement M
+put-spec =
+    tie.close
+    (tie.spec
+    letter-size-requires
+    add-count
+    add-end
+    add-result
+    returns
+    put-letter-requires
+    copy-requires
+    same-length
+    returns-2)

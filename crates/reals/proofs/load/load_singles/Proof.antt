@@ -1,0 +1,71 @@
+-- Turn i reads single i: the loop keeps `Wrote`, with the eight bytes of each double as a run.
+use Prim.Native.Nat.{_-_, _≤_}
+use native.Mathlib.Omega.{arith}
+use mathlib.Core.Path.{refl, ap, _∙_}
+use Rattle.record.specs.Bytes.{storeAt}
+use Rattle.record.proofs.Stores.{Wrote, wrote-none, wrote-more, wrote-done}
+use Rattle.reals.proofs.load.LoadLaws.{loadedAt, length-doubleBytes, loaded-singles}
+use Rattle.reals.proofs.load.load_singles.Statement.{statement}
+use Rattle.reals.proofs.load.load_singles.Tie as tie
+
+abbrev Inv-loop : tie.InvT-loop
+Inv-loop area₀ to input at n big i₀ area i = (i ≤ n) × Wrote area₀ to (loadedAt input at big) area i
+
+abbrev μ-loop : tie.MeasureT-loop
+μ-loop area₀ to input at n big i₀ area i = n - i
+
+loop-holds : tie.Need-loop-holds Inv-loop μ-loop
+loop-holds c = (omega arith, wrote-none)
+
+mul-load-single : tie.Need-mul-load-single Inv-loop μ-loop
+mul-load-single c = omega arith
+
+add-load-single : tie.Need-add-load-single Inv-loop μ-loop
+add-load-single c = omega arith
+
+mul-load-single-2 : tie.Need-mul-load-single-2 Inv-loop μ-loop
+mul-load-single-2 c = omega arith
+
+add-load-single-2 : tie.Need-add-load-single-2 Inv-loop μ-loop
+add-load-single-2 c = omega arith
+
+load-single-requires : tie.Need-load-single-requires Inv-loop μ-loop
+load-single-requires c κs = omega arith
+
+add-i : tie.Need-add-i Inv-loop μ-loop
+add-i c = omega arith
+
+loop-less : tie.Need-loop-less Inv-loop μ-loop
+loop-less c = omega arith
+
+loop-again : tie.Need-loop-again Inv-loop μ-loop
+loop-again c =
+    let turn = c .before .before .before .before in
+    let a = turn .before .before .before .before .args in
+    (omega arith, wrote-more 8 (λ k. length-doubleBytes (a .big) _) (turn .before .loop .inv .1) refl (omega arith) (c .before .before .load-single .ensures))
+
+same-length : tie.Need-same-length Inv-loop μ-loop
+same-length c = c .before .loop .inv .1 .long
+
+returns : tie.Need-returns Inv-loop μ-loop
+returns c = λ u.
+    let a = c .before .before .before .before .args in
+    wrote-done (c .before .loop .inv .1) (omega arith) (omega arith) ∙ ap (storeAt (a .area .now) (a .to)) (loaded-singles (a .input .now) (a .at) (a .big) u (a .n))
+
+pub load-singles-spec : {M : Type 1} → statement M
+load-singles-spec =
+    tie.close
+    (tie.spec
+    Inv-loop
+    μ-loop
+    loop-holds
+    mul-load-single
+    add-load-single
+    mul-load-single-2
+    add-load-single-2
+    load-single-requires
+    add-i
+    loop-less
+    loop-again
+    same-length
+    returns)

@@ -1,0 +1,4 @@
+-- What contracts between the functions of this crate cite.
+pub mod store
+-- What contracts between the functions of this crate cite.
+pub mod load

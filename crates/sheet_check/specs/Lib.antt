@@ -1,2 +1,0 @@
--- What the functions of the check promise.
-pub mod Steps

@@ -1,2 +1,0 @@
--- The worked examples of sheets (document 02, M-100 and M-111).
-pub mod Examples

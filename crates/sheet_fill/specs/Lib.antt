@@ -1,2 +1,0 @@
--- What the functions of the writing promise each other.
-pub mod Steps

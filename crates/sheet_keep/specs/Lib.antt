@@ -1,2 +1,0 @@
--- What the contract of both calls cites.
-pub mod Keeping

@@ -1,2 +1,0 @@
--- What the functions of the writer's two passes promise each other.
-pub mod Steps

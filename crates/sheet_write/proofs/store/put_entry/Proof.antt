@@ -1,0 +1,92 @@
+-- Length, kind and value are stored side by side.
+use native.Mathlib.Omega.{arith}
+use native.Mathlib.Numerals.{add-one}
+use Prim.Native.Nat.{_+_}
+use mathlib.Core.Path.{_∙_}
+use lib.ListN.{length-set}
+use Rattle.sheet.specs.Sheet.{entryOf}
+use Rattle.sheet.proofs.Entries.{length-entry}
+use Rattle.sheet.proofs.Tables.{slot-kind, length-value}
+use Rattle.sheet_write.proofs.store.Writing.{entry-stored}
+use borrow.Author.Needs.{needs}
+use Rattle.sheet_write.proofs.store.put_entry.Statement.{statement}
+use Rattle.sheet_write.proofs.store.put_entry.Tie as tie
+
+value-size-requires : tie.Need-value-size-requires
+value-size-requires c κs = search needs
+
+add-put-number : tie.Need-add-put-number
+add-put-number c =
+    let s = c .before .before .before .before in
+    omega (arith, c .before .value-size .ensures, length-value (s .args .area .now) (s .args .a) (s .pre .0 .fits), s .pre .0 .room, s .pre .0 .small)
+
+put-number-requires : tie.Need-put-number-requires
+put-number-requires c κs = search needs
+
+cast-out : tie.Need-cast-out
+cast-out c = let s = c .before .before .before .before .before .before .before .before in omega (arith, slot-kind (s .args .area .now) (s .args .a) (s .pre .0 .fits))
+
+add-out : tie.Need-add-out
+add-out c = search needs
+
+slice-write-out : tie.Need-slice-write-out
+slice-write-out c = search needs
+
+add-put-value : tie.Need-add-put-value
+add-put-value c = search needs
+
+add-put-value-2 : tie.Need-add-put-value-2
+add-put-value-2 c = search needs
+
+put-value-requires : tie.Need-put-value-requires
+put-value-requires c κs =
+    let s = c .before .before .before .before .before .before .before .before .before in
+    let v = length-value (s .args .area .now) (s .args .a) (s .pre .0 .fits) in
+    (s .pre .0 .fits, c .before .before .before .before .before .before .value-size .ensures, simp length-set (omega (arith, c .before .before .before .before .put-number .kept .0, c .before .before .before .before .before .before .value-size .ensures, v, s .pre .0 .room)))
+
+add-result : tie.Need-add-result
+add-result c =
+    let s = c .before .before .before .before .before .before .before .before .before .before .before .before in
+    omega (arith, c .before .before .before .before .before .before .before .before .before .value-size .ensures, length-value (s .args .area .now) (s .args .a) (s .pre .0 .fits), s .pre .0 .room, s .pre .0 .small)
+
+add-result-3 : tie.Need-add-result-3
+add-result-3 c =
+    let s = c .before .before .before .before .before .before .before .before .before .before .before .before in
+    omega (arith, c .before .before .before .before .before .before .before .before .before .value-size .ensures, length-value (s .args .area .now) (s .args .a) (s .pre .0 .fits), s .pre .0 .room, s .pre .0 .small)
+
+add-result-2 : tie.Need-add-result-2
+add-result-2 c =
+    let s = c .before .before .before .before .before .before .before .before .before .before .before .before in
+    omega (arith, c .before .before .before .before .before .before .before .before .before .value-size .ensures, length-value (s .args .area .now) (s .args .a) (s .pre .0 .fits), s .pre .0 .room, s .pre .0 .small)
+
+same-length : tie.Need-same-length
+same-length c =
+    let o = c .before .before .before .before .before .before .before .put-number .last .0 in
+    c .before .before .put-value .kept .0 ∙ length-set o (c .before .before .before .before .before .before .before .before .before .before .before .before .args .at + c .before .before .before .before .before .before .before .before .before .before .before .before .args .w) (c .before .before .before .before .before .before .before .before .before .before .before .before .args .a .kind) ∙ c .before .before .before .before .before .before .before .put-number .kept .0
+
+returns : tie.Need-returns
+returns c =
+    let s = c .before .before .before .before .before .before .before .before .before .before .before .before in
+    let area = s .args .area .now in
+    let t = s .args .a in
+    let v = length-value area t (s .pre .0 .fits) in
+    (entry-stored area t (s .pre .0 .fits) (s .args .w) (s .args .out .now) _ _ (s .args .at) _ (c .before .before .before .before .before .before .before .before .before .value-size .ensures) (s .pre .0 .room) (c .before .before .before .before .before .before .before .put-number .ensures) (rw (add-one (s .args .w)) at (c .before .before .put-value .ensures)), omega (arith, length-entry (s .args .w) (entryOf area t), v, c .before .before .before .before .before .before .before .before .before .value-size .ensures))
+
+pub put-entry-spec : {M : Type 1} → statement M
+put-entry-spec =
+    tie.close
+    (tie.spec
+    value-size-requires
+    add-put-number
+    put-number-requires
+    cast-out
+    add-out
+    slice-write-out
+    add-put-value
+    add-put-value-2
+    put-value-requires
+    add-result
+    add-result-2
+    add-result-3
+    same-length
+    returns)

@@ -1,2 +1,0 @@
--- Demand 3 over slot records.
-pub mod ReadBack

@@ -1,2 +1,0 @@
--- What the code's steps promise of one field.
-pub mod Values

@@ -1,2 +1,0 @@
-// The value of a field, put into an area.
-pub mod value;
