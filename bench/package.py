@@ -1,7 +1,7 @@
 """The Python package beside struct and the usual conversions: package.py [records]; $BENCH_ROUNDS sets the rounds.
 
 Both read the mark record of w1, and a shorter one that has text and integers alone; what they give is compared first. A
-goal is met where the median of the rounds' ratios keeps to it; behind the median stand the least and the greatest.
+goal is met where the median of the rounds' ratios keeps to it; after the median stand the least and the greatest.
 """
 import os
 import platform

@@ -39,7 +39,7 @@ struct library {
 };
 
 /*
- * Runs that are read begin at a page and runs that are written half a page behind one, so that no copy is slowed by
+ * Runs that are read begin at a page and runs that are written half a page after one, so that no copy is slowed by
  * where its two runs happen to lie.
  */
 #define PAGE 4096

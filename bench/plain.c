@@ -384,7 +384,7 @@ static void store(uint8_t *out, const struct field *field, struct argument a, co
     }
 }
 
-/* Bytes between the highest position so far and a field that begins behind it were never stored: they are zero. */
+/* Bytes between the highest position so far and a field that begins after it were never stored: they are zero. */
 static void write(uint8_t *out, const struct fields *fields, const uint8_t *slots, const uint8_t *area)
 {
     size_t end = 0, slot = 0, i;

@@ -144,7 +144,7 @@ static enum row_found take_plain(struct cells *cells, struct cell_in *cell)
     return ROW_TAKEN;
 }
 
-/* What stands behind a cell: 1 where another follows, 0 at the end of the row, -1 where neither can be. */
+/* What stands after a cell: 1 where another follows, 0 at the end of the row, -1 where neither can be. */
 static int take_end(struct cells *cells)
 {
     struct source *source = &cells->source;
@@ -189,7 +189,7 @@ enum row_found csv_next(struct cells *cells)
     if (cells->source.failed)
         return ROW_LOST;
     if (more == -1)
-        return cells_lost(cells, "something stands behind a closing quote, or a carriage return ends no line",
+        return cells_lost(cells, "something stands after a closing quote, or a carriage return ends no line",
                           "Double a quote that stands inside a cell; a line ends in LF or CRLF.");
     return found;
 }

@@ -68,7 +68,7 @@ static void text_command(struct text *to, const struct command *command)
         text_format(to, " %s", command->second);
 }
 
-/* The ways to call it, each behind the lead. */
+/* The ways to call it, each after the lead. */
 static void text_ways(struct text *to, const struct command *command, const char *lead, const char *next)
 {
     const char *way = command->takes;

@@ -34,7 +34,7 @@ static const char *advice(uint32_t number)
 {
     switch (number) {
     case CURLEW_OTHER_FIELDS:
-        return "Leave the old fields as they are, count and flag too, and put new ones behind them.";
+        return "Leave the old fields as they are, count and flag too, and put new ones after them.";
     case CURLEW_NOT_PLAIN: return "A layout that grows has no X, no @, no * and no count of 0.";
     case CURLEW_BAD_SLOTS: return "Put marks of one kind together, as in Su5.";
     default: return "Shorten a field, or keep some of them in a second record.";

@@ -146,7 +146,7 @@ static uint8_t *area_room(struct values *values, size_t bytes, struct fault *fau
     return NULL;
 }
 
-/* A slot behind the others, over what was put behind the values in use. The header's helper keeps to the limits. */
+/* A slot after the others, over what was put after the values in use. The header's helper keeps to the limits. */
 static int close_slot(struct values *values, uint32_t kind, size_t length)
 {
     struct curlew_table table = {values->slots,

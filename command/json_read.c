@@ -105,7 +105,7 @@ static int take_escape(struct cells *cells)
     }
 }
 
-/* A string, behind its first quote, put behind the bytes of the row. Returns 0 where it is none. */
+/* A string, after its first quote, put after the bytes of the row. Returns 0 where it is none. */
 static int take_string(struct cells *cells)
 {
     size_t start = cells->bytes.length;
@@ -135,7 +135,7 @@ static size_t take_digits(struct cells *cells)
     return count;
 }
 
-/* A number, put behind the bytes of the row as it stands. Returns 0 where it is none. */
+/* A number, put after the bytes of the row as it stands. Returns 0 where it is none. */
 static int take_number(struct cells *cells)
 {
     size_t start;

@@ -185,7 +185,7 @@ static int take_line(struct layout *layout, const char *line, size_t length, siz
     if (*fields == CURLEW_MAX_LAYOUT)
         return bad_line(layout->file_name, number, "a layout has at most 256 bytes, and this is more", form);
     if (name == 0 && !moves(word, length))
-        return bad_line(layout->file_name, number, "there is no name before the field, or no field behind the name",
+        return bad_line(layout->file_name, number, "there is no name before the field, or no field after the name",
                         form);
     if (name > 0 && moves(word, length - (size_t)(word - line)))
         return bad_line(layout->file_name, number, "x, X and @ hold no value, and have no name", "Leave the name out.");

@@ -163,18 +163,18 @@ static const struct option *find_option(const char *argument, const char **joine
     return NULL;
 }
 
-/* What stands behind an option: joined to it, or the next argument. A number may be missing: NULL then. */
+/* What stands after an option: joined to it, or the next argument. A number may be missing: NULL then. */
 static const char *text_of(const struct option *option, const char *argument, const char *joined, char ***next,
                            char **end)
 {
     if (option->takes == ALONE && joined != NULL)
-        bad_option("this option takes nothing behind a =", argument);
+        bad_option("this option takes nothing after a =", argument);
     if (joined != NULL || option->takes == ALONE)
         return joined;
     if (option->takes == WITH_NUMBER)
         return *next < end && all_digits(**next) ? *(*next)++ : NULL;
     if (*next == end)
-        bad_option("it wants something behind it", argument);
+        bad_option("it wants something after it", argument);
     return *(*next)++;
 }
 

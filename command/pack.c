@@ -199,7 +199,7 @@ static int finish(struct packing *packing, struct sink *sink, int status)
     progress_clear();
     if (status != DONE && has(packing->options, OPTION_KEEP_GOING) && !cells_failed(&packing->cells) &&
         packing->bad > 0)
-        complain("the rows behind this one cannot be read");
+        complain("the rows after this one cannot be read");
     if (status != DONE) {
         complain("nothing was written");
         sink_drop(sink);

@@ -18,10 +18,10 @@ static struct words words_of(uint32_t number)
     static const struct words all[] = {
         {"accepted", NULL},
         {"something is larger than its limit", "curlew(1) lists the limits."},
-        {"unknown type", "Types are " TYPES "; a flag u and a count stand directly behind their type."},
+        {"unknown type", "Types are " TYPES "; a flag u and a count stand directly after their type."},
         {"the count is too large", "A count is at most " LIMIT(CURLEW_MAX_COUNT) "."},
         {"an @ without a count, or an x* in packing",
-         "Write the byte behind the @, a number behind the x; reading takes x*."},
+         "Write the byte after the @, a number after the x; reading takes x*."},
         {"more values than there are slots",
          "A layout has at most " LIMIT(CURLEW_MAX_SLOTS) " values: put marks of one kind together, as in Su5."},
         {"it is not marked, and a record has no place for a value that is missing",

@@ -12,7 +12,7 @@
 
 /* ---- cells ---- */
 
-/* What a spreadsheet would compute: =, +, - or @ in front, behind any number of '. */
+/* What a spreadsheet would compute: =, +, - or @ in front, after any number of '. */
 static int looks_like_formula(const uint8_t *bytes, size_t length)
 {
     size_t i = 0;
@@ -188,7 +188,7 @@ static void member(struct text *out, const struct rows *rows, const struct value
 
 /* ---- rows ---- */
 
-/* In JSON the name with its quote in front, as json_string has it, and without the one behind. */
+/* In JSON the name with its quote in front, as json_string has it, and without the one after. */
 static void make_key(const struct rows *rows, const struct names *names, size_t index, struct text *key)
 {
     struct text name = {0};

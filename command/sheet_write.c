@@ -6,7 +6,7 @@
 
 /* ---- one sheet ---- */
 
-/* Bytes behind the last field are in no sheet. */
+/* Bytes after the last field are in no sheet. */
 static int over_noted(const struct options *options, const struct layout *layout, const struct values *values,
                       size_t set, size_t length)
 {
@@ -19,7 +19,7 @@ static int over_noted(const struct options *options, const struct layout *layout
     return over > 0 && strict ? REFUSED : DONE;
 }
 
-/* The values that a record shows; those behind its end stay not marked. */
+/* The values that a record shows; those after its end stay not marked. */
 static int values_from_record(struct values *values, const struct options *options, const struct layout *layout,
                               const char *name)
 {

@@ -60,7 +60,7 @@ static int refuse_it(struct sheets *sheets, size_t told, struct curlew_answer an
     else
         refuse_sheet(sheets_where(sheets), answer);
     if (sheets->lost && source_peek(&sheets->source) != -1)
-        complain("%s: what stands behind it cannot be told apart, and is not read", sheets_where(sheets));
+        complain("%s: what stands after it cannot be told apart, and is not read", sheets_where(sheets));
     return -1;
 }
 

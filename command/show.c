@@ -82,7 +82,7 @@ static void colour_end(struct text *out)
         text_string(out, "\033[m");
 }
 
-/* The sign before or behind a byte: a bracket where a field begins or ends, a star or bar where copies differ or the
+/* The sign before or after a byte: a bracket where a field begins or ends, a star or bar where copies differ or the
  * record ends. */
 static char sign_before(const struct shown_record *record, size_t place)
 {

@@ -100,7 +100,7 @@ static int cut_record(const struct stream *stream, const struct run *run)
     return strict ? REFUSED : DONE;
 }
 
-/* Writes the text of the run once those before it are written, and nothing behind a refusal. Returns 0 where there was
+/* Writes the text of the run once those before it are written, and nothing after a refusal. Returns 0 where there was
  * one. */
 static int run_write(struct stream *stream, struct run *run, struct desk *desk)
 {

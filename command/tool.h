@@ -86,9 +86,9 @@ enum ink { PLAIN, HEAD, MISSING, DIFFERS, GREY, INKS };
 
 void streams_start(void);
 void complain(const char *format, ...);
-void advise(const char *format, ...); /* the line behind a complaint: what to do */
+void advise(const char *format, ...); /* the line after a complaint: what to do */
 void caret(const void *text, size_t length, size_t place);
-/* the same two lines in a text, the first behind `lead` and the second behind as many spaces */
+/* the same two lines in a text, the first after `lead` and the second after as many spaces */
 void text_caret(struct text *to, const char *lead, const void *text, size_t length, size_t place);
 void progress_line(const char *text);
 void progress_clear(void);
@@ -377,12 +377,12 @@ struct fault {
     const char *what, *advice;
 };
 
-/* Puts a value behind the values, as the field wants it. Returns 1, or 0 with the fault. */
+/* Puts a value after the values, as the field wants it. Returns 1, or 0 with the fault. */
 int value_put(struct values *values, const struct field *field, const uint8_t *bytes, size_t length,
               struct fault *fault);
 void value_unset(struct values *values);
 void text_fault(struct text *to, const struct fault *fault); /* "6x" is not an integer of 64 bits */
-/* Puts arguments behind the values, one for each field. Returns DONE, or another status after a complaint. */
+/* Puts arguments after the values, one for each field. Returns DONE, or another status after a complaint. */
 int values_from_arguments(struct values *values, const struct layout *layout, const struct options *options,
                           int for_sheet);
 
@@ -435,7 +435,7 @@ enum row_found {
     ROW_TAKEN,
     ROW_BAD,
     ROW_LOST
-}; /* the last two after a complaint; behind a lost one nothing can be read */
+}; /* the last two after a complaint; after a lost one nothing can be read */
 
 struct cells {
     struct source source;
@@ -553,7 +553,7 @@ void desk_head(struct desk *desk);
 int record_show(struct desk *desk, struct record *record); /* 0 where the library refuses it */
 void record_refused(const struct record *record);
 void note_over(const struct options *options, uint64_t records,
-               uint64_t bytes); /* bytes that belong to no field, in so many records */
+               uint64_t bytes); /* how many records have bytes that belong to no field, and how many bytes */
 
 struct range {
     size_t from, to;
@@ -576,7 +576,7 @@ struct sheets {
     uint64_t number; /* how many were taken */
     uint64_t from; /* the byte of the file at which the last one began */
     int none_is_fine; /* a file of no bytes is no sheet that was cut, but no sheet at all */
-    int several; /* something stands behind the first */
+    int several; /* something stands after the first */
     int lost; /* nobody knows where the next one begins */
     struct text where;
 };

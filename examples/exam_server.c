@@ -425,7 +425,7 @@ static void show_rescue(void)
     print_row(&table, FIELDS);
 }
 
-/* The legs are the three slots behind number and name. A leg that nobody marked leaves the mean as it is. */
+/* The legs are the three slots after number and name. A leg that nobody marked leaves the mean as it is. */
 static void print_mean(const struct table *table)
 {
     uint8_t reply[CURLEW_MEAN_REPLY];
@@ -531,28 +531,28 @@ static int joined(const struct record *whole, const struct record *first, const 
         && memcmp(whole->bytes + first->length, second->bytes, second->length) == 0;
 }
 
-/* The forms office writes a cover and the legs as two layouts. Glued together they make the record of both. */
-static void show_glued(void)
+/* The forms office writes a cover and the legs as two layouts. Joined they make the record of both. */
+static void show_joined(void)
 {
     static const char cover[] = "a6 A12", legs[] = "Su Su Su b10", both[] = "a6 A12" "Su Su Su b10";
     struct table table;
     struct curlew_table front, back;
-    struct record first = {NULL, 0}, second = {NULL, 0}, glued = {NULL, 0};
+    struct record first = {NULL, 0}, second = {NULL, 0}, whole = {NULL, 0};
 
     fill_new(&table, &candidates[0]);
     front = back = table.values;
     front.slots_used = 2 * CURLEW_SLOT_SIZE;
     back.slots += front.slots_used;
     back.slots_used -= front.slots_used;
-    if (pack(both, &table.values, &glued) && pack(cover, &front, &first) && pack(legs, &back, &second)) {
+    if (pack(both, &table.values, &whole) && pack(cover, &front, &first) && pack(legs, &back, &second)) {
         printf("\na cover %s, %u bytes, and legs %s, %u bytes\n",
                cover, (unsigned)first.length, legs, (unsigned)second.length);
-        printf("glued together, %s: %u bytes, %s\n", both, (unsigned)glued.length,
-               joined(&glued, &first, &second) ? "those of the cover and those of the legs" : "and they differ");
+        printf("joined, %s: %u bytes, %s\n", both, (unsigned)whole.length,
+               joined(&whole, &first, &second) ? "those of the cover and those of the legs" : "and they differ");
     }
     drop(&first);
     drop(&second);
-    drop(&glued);
+    drop(&whole);
 }
 
 /* Transcripts are long: records of up to CURLEW_MAX_RECORD bytes, and sheets of version 2 where version 1 cannot hold
@@ -682,7 +682,7 @@ int main(void)
     show_means();
     show_differences();
     show_partner();
-    show_glued();
+    show_joined();
     show_transcripts();
     show_speeds();
     show_points();

@@ -37,7 +37,7 @@
  *
  * SIX MISTAKES THAT ARE EASILY MADE
  *
- * The length of a record is its own and not that of its buffer. The bytes behind the record would be read too, and
+ * The length of a record is its own and not that of its buffer. The bytes after the record would be read too, and
  * zero bytes are marks of 0. The reply of packing has the length; write
  *
  *   curlew_read(layout, strlen(layout), record, curlew_get_answer(packed).first,    and not sizeof record
@@ -114,7 +114,7 @@
  *                               sheet, sizeof sheet, reply, sizeof reply);
  *
  * Each of them answers 1, or 0 where slots or area have no room left. It has added nothing then, and nothing is added
- * behind it, so no value takes the slot of another. A full table has a cut slot at its end, if its run has room for a
+ * after it, so no value takes the slot of another. A full table has a cut slot at its end, if its run has room for a
  * slot at all: every call refuses it with number 1, and nothing is lost without a word.
  *
  * To read into a table give the whole rooms, and say afterwards how many slots the reading set and how many the table
@@ -185,7 +185,7 @@
  * ANSWERS
  *
  * Every call but curlew_version returns a number and writes three big-endian 32-bit numbers into the reply, the same
- * one first. Some calls write more behind them. Where the call is accepted the number is CURLEW_OK, and the two behind
+ * one first. Some calls write more after them. Where the call is accepted the number is CURLEW_OK, and the two after
  * it are said at the call; where it is refused they are the place of the fault, and 0. curlew_get_answer gets the
  * three.
  *
@@ -419,14 +419,14 @@ extern "C" {
  *
  * Takes a layout and a table of values, one slot for each field that takes one, and puts the record at the front of
  * the run `out`. The record is as long as the highest position reached; bytes in it that nothing stored are zero. The
- * bytes of `out` behind it stay as they were. curlew_layout says before how much room a record needs.
+ * bytes of `out` after it stay as they were. curlew_layout says before how much room a record needs.
  *
  * A record may be made of parts: a cover with the candidate's name, a leg with the marks. Put the layout of the leg
- * right behind that of the cover, with or without a space, and its slots behind the cover's slots. Packing by the
- * whole, over one area, then gives the bytes of the cover and behind them the bytes of the leg, just as each layout
+ * right after that of the cover, with or without a space, and its slots after the cover's slots. Packing by the
+ * whole, over one area, then gives the bytes of the cover and after them the bytes of the leg, just as each layout
  * gives them alone: the cover `A8 Iu` and the leg `S2 c` make `A8 IuS2 c`. This is so for every two layouts without
  * X and @, with `*` too, where each part alone is accepted, the whole keeps to the sizes and the output run has
- * room for it. The empty layout, with no slots, adds nothing, in front or behind, and of three parts it does not
+ * room for it. The empty layout, with no slots, adds nothing, before or after, and of three parts it does not
  * matter which two are put together first. A part that has an X or an @ may reach into the part in front of it.
  *
  * RUNS
@@ -466,9 +466,9 @@ uint32_t curlew_pack(const void *layout, size_t layout_len,
  * mark of the next.
  *
  * Where the record has too few bytes left for a field, the reading ends there: that field's slot, and the slots
- * of the fields behind it, stay as they were. It is no error. Clear the slots before you read, and a slot that is
+ * of the fields after it, stay as they were. It is no error. Clear the slots before you read, and a slot that is
  * still CURLEW_UNSET afterwards was not in the record. It never becomes a 0. Slots beyond those of the layout stay
- * as well. A record can only lose its tail, so "not set" comes back for the fields behind its end: every field before
+ * as well. A record can only lose its tail, so "not set" comes back for the fields after its end: every field before
  * one that is set is set, too.
  *
  * A layout without X, @, `*` and counts of 0 may therefore grow: put new fields of the same sort after the old ones,
@@ -490,8 +490,8 @@ uint32_t curlew_pack(const void *layout, size_t layout_len,
  * REPLY
  *
  * CURLEW_READ_REPLY (16) bytes: CURLEW_OK, how many slots were set, the place in the area after the last value, and
- * behind these three the steps: how many fields the reading went through. Fields of x, X and @ count, and so does the
- * one for which the record was too short; fields behind that one do not. The steps are never more than the layout has
+ * after these three the steps: how many fields the reading went through. Fields of x, X and @ count, and so does the
+ * one for which the record was too short; fields after that one do not. The steps are never more than the layout has
  * bytes, and 0 where the reading is refused. curlew_get_steps gets them.
  *
  * REFUSALS
@@ -520,7 +520,7 @@ uint32_t curlew_read(const void *layout, size_t layout_len,
  *
  * A program that packs or reads many records by one layout has it read once. A plan is a run of 32-bit numbers that you
  * own, one for each field of the layout and nothing else; lengths of plans count numbers and not bytes. A plan of
- * CURLEW_MAX_PLAN (256) numbers has room for every layout. Numbers behind the plan stay as they were. Threads may share
+ * CURLEW_MAX_PLAN (256) numbers has room for every layout. Numbers after the plan stay as they were. Threads may share
  * a plan that none of them writes.
  *
  * By the plan of a layout curlew_pack_plan and curlew_read_plan leave and answer all that curlew_pack and curlew_read
@@ -674,7 +674,7 @@ uint32_t curlew_compare(const void *layout, size_t layout_len,
  * keeps every slot of a table, set or not:
  *
  *   byte 0      the version: 1
- *   bytes 1-2   the length of all that is behind them, big-endian
+ *   bytes 1-2   the length of all that is after them, big-endian
  *   then, for each slot in turn, an entry:
  *     2 bytes   the length of the rest of the entry, big-endian
  *     1 byte    the slot's kind
@@ -685,7 +685,7 @@ uint32_t curlew_compare(const void *layout, size_t layout_len,
  *   01  00 13   00 01  00   00 03  01  4f 4b   00 09  02  ff ff ff ff ff ff ff fe
  *
  * and the three bytes 01 00 00 are a table of no slots. Starts and positions are not kept: where a value lay in the
- * area, or in a record, is of no matter. The call writes the slots given to it; the bytes of the run behind the sheet
+ * area, or in a record, is of no matter. The call writes the slots given to it; the bytes of the run after the sheet
  * stay as they were. Where there is room for it, writing a table and reading it back shows the same values, and the
  * slots of a sheet that was read are written as the same sheet, byte for byte.
  *
@@ -733,7 +733,7 @@ uint32_t curlew_sheet_write(const uint8_t *slots, size_t slots_len,
  * A sheet that was cut, or damaged in its lengths or kinds, is refused whole: 13 where its first byte is neither
  * version, 12 at 0 where it is shorter than its header or the length in the header is not that of the rest, 12 at the
  * first byte of the first entry that is wrong: too few bytes left for its length, a length of 0 or beyond the end, a
- * kind above 4, a value behind CURLEW_UNSET, or integers or reals that are no multiple of 8 bytes.
+ * kind above 4, a value in an entry that is not set, or integers or reals that are no multiple of 8 bytes.
  * curlew_sheet_rescue keeps what is whole of it. What a sheet looks like is said at curlew_sheet_write.
  *
  * RUNS
@@ -768,7 +768,7 @@ uint32_t curlew_sheet_read(const uint8_t *sheet, size_t sheet_len,
  *
  * Takes what is left of a sheet, and the number of legs that it should have had. From the front it keeps each entry
  * that is whole and right, as curlew_sheet_read would take it, until it has one for every leg or meets one that is
- * wrong: nothing behind a wrong entry can be trusted. The kept entries go into slots and area as that call puts them,
+ * wrong: nothing after a wrong entry can be trusted. The kept entries go into slots and area as that call puts them,
  * and the slots of the other legs are cleared to CURLEW_UNSET, start 0, length 0, without a position, so that a lost
  * leg reads "not set" and never as a mark. Slots past the legs, and bytes of the area that no kept value covers, stay
  * as they were. The length in the header is not looked at, and both versions are taken, whichever the kept entries
@@ -902,9 +902,9 @@ uint32_t curlew_layout(const void *layout, size_t layout_len,
  *      11       3  '@'      0  16               CURLEW_NO_SLOT  CURLEW_OPEN  0
  *      15       1  'c'      0  CURLEW_NO_COUNT  3               16           1
  *
- * A position that is given is so in every record that is packed by the layout. Behind a starred value it is open,
+ * A position that is given is so in every record that is packed by the layout. After a starred value it is open,
  * until an `@` with a count or `X*` goes to a place that is known again; `@*` goes to the highest position so far,
- * which stays open behind a starred value. Without starred values a record is as long as the largest of all position
+ * which stays open after a starred value. Without starred values a record is as long as the largest of all position
  * + bytes and of all counts of `@`, which is the length that curlew_layout answers. In a layout without X, @, `*` and
  * counts of 0 the positions are those that curlew_read gives to the slots.
  *
@@ -1025,11 +1025,11 @@ uint32_t curlew_extends(const void *old_layout, size_t old_layout_len,
  *   Perl     a   b   B   h   H   x   C    n    N    v    V
  *   layout   a   b   B   h   H   x   cu   Su   Iu   su   iu
  *
- * and groups: items in brackets, one at least, with a number of times from 1 to 64 or none behind the bracket, at
+ * and groups: items in brackets, one at least, with a number of times from 1 to 64 or none after the bracket, at
  * most 8 inside one another. `(n2a3)2 C` becomes `Su2a3Su2a3cu`. An item may have spaces on both sides, but none
  * before its count; numbers have no leading zeros. A count makes one list: `n2` takes one slot of two
  * integers. The other letters of Perl are refused, also `A`, which strips other characters there. An empty
- * template is the empty layout. Bytes of the run behind the layout stay as they were.
+ * template is the empty layout. Bytes of the run after the layout stay as they were.
  *
  * RUNS
  *
@@ -1441,9 +1441,9 @@ static inline struct curlew_slot curlew_table_slot(const struct curlew_table *ta
 }
 
 /*
- * After a reading that set the first `set` slots: the table has `count` slots in use, and those behind the first
+ * After a reading that set the first `set` slots: the table has `count` slots in use, and those after the first
  * `set` are not set. The area is in use up to the last value. Returns 1; or 0 and a full table where there is no room
- * for so many slots, or more were set.
+ * for `count` slots, or `set` is above `count`.
  */
 static inline int curlew_table_use(struct curlew_table *table, size_t set, size_t count)
 {
@@ -1563,8 +1563,8 @@ static inline const char *curlew_refusal(uint32_t number)
  *   a6 c50000
  *       ^
  *
- * Bytes that do not print appear as dots; a place past the end points behind the last byte. Like snprintf it writes at
- * most to_len bytes, the zero byte at the end included, and returns how long the whole text is.
+ * Bytes that do not print appear as dots; for a place past the end the caret stands one column past the last byte. Like
+ * snprintf it writes at most to_len bytes, the zero byte at the end included, and returns how long the whole text is.
  */
 static inline size_t curlew_point(const void *layout, size_t layout_len, size_t place, char *to, size_t to_len)
 {

@@ -42,7 +42,7 @@ class Layout(Generic[Row]):
     >>> legs.read(record)
     Record(code='C00417', name='Ada Lind', written=61, oral=0, steno=88)
 
-    A record that lost its end, or is from last year, has no value for the fields behind its end. Such a field is not
+    A record that lost its end, or is from last year, has no value for the fields after its end. Such a field is not
     marked: None, and never a 0.
 
     >>> legs.read(record[:22])

@@ -33,7 +33,7 @@ def sheet_load(sheet: Bytes, *, encoding: Optional[str] = None, errors: Optional
 
 def sheet_rescue(sheet: Bytes, legs: SupportsIndex, *, encoding: Optional[str] = None,
                  errors: Optional[str] = None) -> Rescued:
-    """What is whole at the front of a damaged sheet of so many legs; None for the legs that are lost.
+    """What is whole at the front of a damaged sheet of `legs` legs; None for the legs that are lost.
 
     >>> sheet_rescue(sheet_dump([61, 88])[:-1], 2)
     Rescued(values=[[61], None], kept=1, cleared=1, dropped=10)

@@ -312,7 +312,7 @@ static PyObject *layout_values(PyObject *self, PyObject *arguments)
 
 /* ---- packing ---- */
 
-/* Another number of values than the layout takes: what the library says of so many slots that are not set. */
+/* Another number of values than the layout takes: what the library says of count slots that are not set. */
 static PyObject *refuse_count(const struct layout *layout, size_t count)
 {
     uint8_t slots[(CURLEW_MAX_SLOTS + 1) * CURLEW_SLOT_SIZE] = {0}, out[1], reply[CURLEW_PACK_REPLY] = {0};
@@ -506,7 +506,7 @@ static PyObject *layout_extends(PyObject *self, PyObject *old)
 
 /* ---- iterating ---- */
 
-/* (block, length): an iterator over the records of a run of bytes, so many bytes each, the last one perhaps fewer. */
+/* (block, length): an iterator over the records of a run of bytes, length bytes each, the last one perhaps fewer. */
 static PyObject *layout_rows(PyObject *self, PyObject *arguments)
 {
     const struct layout *layout = (const struct layout *)self;

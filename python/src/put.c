@@ -215,7 +215,7 @@ static int integer_fits(const struct field *field, struct integer integer)
 struct items {
     const struct field *field; /* null where the values say what they are */
     uint32_t kind;
-    size_t stored; /* so many of them; more are not looked at in packing */
+    size_t stored; /* how many of them are stored; more are not looked at in packing */
     int negative;
     int large;
 };

@@ -57,7 +57,7 @@ def field():
 
 
 def plain(value):
-    """A value as it stands behind --."""
+    """A value as it stands after --."""
     if isinstance(value, bytes):
         return value
     return ",".join(map(repr, value if isinstance(value, list) else [value])).encode()

@@ -51,7 +51,7 @@ static void answers(uint32_t number, uint32_t first)
     expect_run(&reply, 0, answer, sizeof answer);
 }
 
-/* The layout of len bytes has these rows, in a run that has so many bytes more. */
+/* The layout of len bytes has these rows, in a run that is longer by `more` bytes. */
 static void lists_in(const char *text, size_t len, const struct curlew_field *rows, size_t count, size_t more)
 {
     size_t i;

@@ -67,7 +67,7 @@ static void not_prepared(const char *text, size_t len, size_t room, uint32_t num
     prepare_runs(text, number);
 }
 
-/* Prepares a layout into a run that has so many numbers more than it has fields; the plan is the same wherever it is made. */
+/* Prepares a layout into a run with `more` numbers beyond its fields; the plan is the same wherever it is made. */
 static void prepare_in(const char *text, const uint32_t *plan, size_t fields, size_t count, size_t more)
 {
     clear_runs();
@@ -344,7 +344,7 @@ static void test_sizes(void)
     set_run(&lent[REPLY], NULL, CURLEW_READ_REPLY);
     put_answer(CURLEW_BAD_SIZE, 0, 0);
     expect_run(&lent[REPLY], 0, answer, CURLEW_READ_REPLY);
-    read_runs("a mark behind the area", 1, CURLEW_BAD_SIZE);
+    read_runs("a mark after the area", 1, CURLEW_BAD_SIZE);
     set_run(&lent[SLOTS], NULL, CURLEW_SLOT_SIZE + 1);
     read_runs("slots that are not whole", 0, CURLEW_BAD_SIZE);
 }

@@ -115,7 +115,7 @@ static void test_extends(void)
     extends("c", "c x*", CURLEW_BAD_MOVE, 2, 0, 1);
 }
 
-/* n one-letter fields, and a text behind them */
+/* n one-letter fields, and a text after them */
 static const char *fields(size_t n, char type, const char *behind)
 {
     static char texts[2][2 * CURLEW_MAX_LAYOUT];

@@ -21,7 +21,7 @@ static void run_rescue(const char *name, size_t legs, size_t mark, uint32_t numb
     }
 }
 
-/* A sheet with so many slots to go into, and an area of so many bytes. */
+/* A sheet with slot_count slots to go into, and an area of area_bytes bytes. */
 static void lend_damaged(const void *bytes, size_t len, size_t slot_count, size_t area_bytes)
 {
     lend_sheet(bytes, len, slot_count * CURLEW_SLOT_SIZE, area_bytes);
@@ -91,7 +91,7 @@ static void test_damages(void)
     want(3, 0);
     rescues("a header that tells another length", bytes, sizeof three, 3, 0, 0);
     want(3, 0);
-    rescues("bytes behind the last entry", bytes, sizeof bytes, 5, 0, 4);
+    rescues("bytes after the last entry", bytes, sizeof bytes, 5, 0, 4);
     bytes[8] = 5;
     want(1, 2);
     rescues("a kind above the last", bytes, sizeof three, 3, 2, 16);

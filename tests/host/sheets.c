@@ -26,7 +26,7 @@ static void run_write(const char *name, uint32_t number)
     }
 }
 
-/* The table in `given`, with room for so many bytes of a sheet. */
+/* The table in `given`, with room for a sheet of `room` bytes. */
 static void lend_table(size_t room)
 {
     set_run(&slots, given.slots, given.count * CURLEW_SLOT_SIZE);
@@ -179,7 +179,7 @@ static void test_damaged_sheets(void)
         {"a header cut", "\1\0", 2, CURLEW_BAD_SHEET, 0},
         {"another version", "\3\0\0", 3, CURLEW_BAD_VERSION, 0},
         {"another version, cut", "\0", 1, CURLEW_BAD_VERSION, 0},
-        {"a byte behind the end", "\1\0\0\0", 4, CURLEW_BAD_SHEET, 0},
+        {"a byte after the end", "\1\0\0\0", 4, CURLEW_BAD_SHEET, 0},
         {"a length beyond the end", "\1\0\4\0\1\0", 6, CURLEW_BAD_SHEET, 0},
         {"half an entry's length", "\1\0\4\0\1\0\0", 7, CURLEW_BAD_SHEET, 6},
         {"an entry of length 0", "\1\0\5\0\1\0\0\0", 8, CURLEW_BAD_SHEET, 6},
@@ -187,7 +187,7 @@ static void test_damaged_sheets(void)
         {"a kind above the last", "\1\0\6\0\1\0\0\1\5", 9, CURLEW_BAD_SHEET, 6},
         {"a value that is not set", "\1\0\4\0\2\0x", 7, CURLEW_BAD_SHEET, 3},
         {"seven bytes of an integer", "\1\0\12\0\10\2abcdefg", 13, CURLEW_BAD_SHEET, 3},
-        {"a bad entry behind too many", "\1\0\20\0\1\0\0\1\0\0\1\0\0\1\0\0\1\0\0", 19, CURLEW_BAD_SHEET, 18},
+        {"a bad entry after too many", "\1\0\20\0\1\0\0\1\0\0\1\0\0\1\0\0\1\0\0", 19, CURLEW_BAD_SHEET, 18},
         {"version 2 alone", "\2", 1, CURLEW_BAD_SHEET, 0},
         {"a header of version 2, cut", "\2\0\0\0", 4, CURLEW_BAD_SHEET, 0},
         {"no entries in version 2", "\2\0\0\0\0", 5, CURLEW_BAD_SHEET, 0},

@@ -8,7 +8,7 @@
 static struct guard slots, area;
 static struct curlew_table table;
 
-/* A table over runs of so many bytes, with nothing in them that was there before. */
+/* A table over runs of slot_bytes and area_bytes bytes, with nothing in them that was there before. */
 static void over(size_t slot_bytes, size_t area_bytes, enum place place)
 {
     guard_lend(&slots, NULL, slot_bytes, place);
@@ -162,7 +162,7 @@ static void test_take_apart(void)
           && curlew_table_slot(&table, 3).length == 2, "take apart", "slot");
 }
 
-/* What does not fit changes no byte, nothing is added behind it, and no call takes the table. */
+/* What does not fit changes no byte, nothing is added after it, and no call takes the table. */
 static void test_full(const char *name, size_t slot_bytes, size_t area_bytes, size_t cut, enum place place)
 {
     uint8_t reply[CURLEW_SHEET_REPLY], sheet[100];
@@ -170,8 +170,8 @@ static void test_full(const char *name, size_t slot_bytes, size_t area_bytes, si
     over(slot_bytes, area_bytes, place);
     check(curlew_table_add_int(&table, 61), name, "int");
     check(!curlew_table_add_int(&table, 62), name, "did not fit");
-    check(!curlew_table_add_unset(&table) && !curlew_table_add_text(&table, "", 0), name, "nothing behind it");
-    check(!curlew_table_add_uint(&table, 1) && !curlew_table_add_real(&table, 1), name, "no number behind it");
+    check(!curlew_table_add_unset(&table) && !curlew_table_add_text(&table, "", 0), name, "nothing after it");
+    check(!curlew_table_add_uint(&table, 1) && !curlew_table_add_real(&table, 1), name, "no number after it");
     expect_slot(0, CURLEW_SIGNED, 0, 1);
     expect_bytes(0, "\0\0\0\0\0\0\0\x3d", 8);
     holds(name, cut, 8, 1);
@@ -237,7 +237,7 @@ static void test_read(enum place place)
                       table.area_used, reply, sizeof reply) == CURLEW_OK, "read on", "number");
     check(curlew_table_use(&table, 1, 2) && is_text(0, "Ada") && is_nothing(1), "read on", "old slots are not set");
     check(table.slots_used == 2 * CURLEW_SLOT_SIZE && table.area_used == 22, "read on", "sizes");
-    check(curlew_table_slot(&table, 0).start == 19, "read on", "behind the values of the first");
+    check(curlew_table_slot(&table, 0).start == 19, "read on", "after the values of the first");
     check(!curlew_table_use(&table, 2, 1) && table.full, "read", "more set than there are");
     curlew_table_clear(&table);
     check(!curlew_table_use(&table, 0, 5) && table.full, "read", "more than there is room for");

@@ -24,7 +24,7 @@ struct field {
     size_t count;
 };
 
-/* The field at *at, which is moved behind it. */
+/* The field at *at, which is moved past it. */
 static struct field next_field(const uint8_t *layout, size_t len, size_t *at)
 {
     struct field field = {0, 0, 1};

@@ -1,5 +1,5 @@
-//! Compares translated templates with a real perl: `perl ANSWER.PL [templates] [seed]`. Without a seed it takes a fixed one
-//! and then a fresh one, so many templates each.
+//! Compares translated templates with a real perl: `perl ANSWER.PL [templates] [seed]`. Without a seed it takes a fixed
+//! one and then a fresh one, as many templates each.
 //!
 //! Perl packs by the template, the library by the layout that the template becomes; then both read.
 

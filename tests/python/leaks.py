@@ -30,7 +30,7 @@ def refused(call, *given):
 
 
 def used(work, rounds):
-    """Bytes of memory in use after so many rounds more."""
+    """Bytes of memory in use after `rounds` rounds more."""
     for _ in range(rounds):
         work()
     gc.collect()
@@ -38,7 +38,7 @@ def used(work, rounds):
 
 
 def growth(work, rounds):
-    """How much more is in use after so many rounds more, the least of three times: the allocator may grow for its own
+    """How much more is in use after `rounds` rounds more, the least of three times: the allocator may grow for its own
     reasons once, but what the calls lose they lose each time."""
     least = None
     before = used(work, rounds)

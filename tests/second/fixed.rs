@@ -61,7 +61,7 @@ pub fn was_set(call: &Call, values: &[Value]) -> After {
     after
 }
 
-/// What a reading leaves behind that came to so many fields and set these values, whose fields begin at these positions.
+/// What a reading of `steps` steps leaves behind that set these values, whose fields begin at these positions.
 pub fn was_read_at(call: &Call, values: &[Value], positions: &[usize], steps: usize) -> After {
     let mut after = was_set(call, values);
     after.reply[READ_REPLY_BYTES - 4..].copy_from_slice(&(steps as u32).to_be_bytes());
@@ -921,7 +921,7 @@ fn field_positions(t: &mut dyn Judge) {
     at(t, "x6 A2 A", &[text("gh")], &[6]);
 }
 
-/// How many fields a reading came to: moves count, and the field that came up short, but none behind it.
+/// How many fields a reading came to: moves count, and the field that came up short, but none after it.
 fn steps(t: &mut dyn Judge) {
     let takes = |t: &mut dyn Judge, layout: &str, record: &str, steps: u32| {
         let call = reading(layout, record, 5);

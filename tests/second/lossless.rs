@@ -138,7 +138,7 @@ fn random_records(dice: &mut Dice, length: usize) -> Vec<Vec<u8>> {
 
 // Layouts of one type
 
-/// The field, written so many times.
+/// A layout of the field, written `times` times.
 fn repeated(spec: Spec, times: usize) -> Layout {
     let mut text = vec![spec.letter];
     if spec.flag {

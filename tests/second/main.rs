@@ -1,6 +1,7 @@
 //! Compares the library with the twin, call by call: `second [rounds] [seed] [trace]`.
 //!
-//! Without a seed it takes a fixed one and then a fresh one, so many rounds each. With `trace` each call is shown before it is made, to find one that crashes.
+//! Without a seed it takes a fixed one and then a fresh one, as many rounds each. With `trace` each call is shown
+//! before it is made, to find one that crashes.
 
 mod call;
 mod calls;
@@ -11,7 +12,7 @@ mod dice;
 mod evolution;
 mod fields;
 mod fixed;
-mod glue_calls;
+mod join_calls;
 mod layout_calls;
 mod layouts;
 mod library;
@@ -64,7 +65,7 @@ fn roll(seed: u64, rounds: u64, tally: &mut Tally) {
         row_calls::round(&mut dice, &mut scratch, tally);
         plan_calls::round(&mut dice, &mut scratch, tally);
         lossless::round(&mut dice, tally);
-        glue_calls::round(&mut dice, tally);
+        join_calls::round(&mut dice, tally);
         real_calls::round(&mut dice, tally);
     }
 }
@@ -93,7 +94,7 @@ fn main() {
     promises_calls::run(&mut tally);
     row_calls::run(&mut tally);
     lossless::run(&mut tally);
-    glue_calls::run(&mut tally);
+    join_calls::run(&mut tally);
     real_calls::run(&mut tally);
     println!(
         "fixed calls: {} passed, {} failed",

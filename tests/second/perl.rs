@@ -127,7 +127,7 @@ fn fault(text: &str) -> usize {
     good
 }
 
-/// The items with every group written out; of very many only so many that a layout cannot hold them.
+/// The items with every group written out; of very many only the first, one more than a layout can hold.
 fn written_out(mut pieces: Vec<Piece>) -> Vec<Piece> {
     let is_open = |piece: &Piece| matches!(piece, Piece::Open);
     let repeat = |piece: &Piece| match piece {

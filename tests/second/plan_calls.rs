@@ -11,7 +11,7 @@ use crate::rows::{Row, NO_SLOT, STAR};
 const OLD: u32 = 0x6d6d_6d6d;
 const MISUSED: u32 = 4;
 
-/// What the twin says of a layout that is prepared into a run of so many numbers: its rows, or the refusal.
+/// What the twin says of a layout that is prepared into a run of `room` numbers: its rows, or the refusal.
 fn judged(layout: &[u8], room: usize) -> Result<Vec<Row>, [u32; 3]> {
     let runs = Runs {
         layout: layout.to_vec(),
@@ -33,7 +33,7 @@ fn judged(layout: &[u8], room: usize) -> Result<Vec<Row>, [u32; 3]> {
         .collect())
 }
 
-/// Prepares the layout into so many numbers; gives the plan and its rows where it is accepted.
+/// Prepares the layout into `room` numbers; gives the plan and its rows where it is accepted.
 fn prepared(judge: &mut dyn Judge, call: &Call, room: usize) -> Option<(Vec<u32>, Vec<Row>)> {
     let mut run = vec![OLD; room];
     let mut reply = vec![0x6d; REPLY_BYTES];

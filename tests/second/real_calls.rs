@@ -153,7 +153,7 @@ fn not_numbers(t: &mut dyn Judge) {
     }
 }
 
-/// Of two reasons the earlier one counts; 16 stands behind 10 and before the next slot.
+/// Of two reasons the earlier one counts; 16 stands after 10 and before the next slot.
 fn order(t: &mut dyn Judge) {
     let nan = bits(&[QUIET]);
     pack_refused(t, "aR", &[text("a"), nan.clone()], 16, 1);
@@ -256,7 +256,7 @@ fn doubles_of_every_exponent(dice: &mut Dice) -> Vec<u64> {
     inside.filter(|&x| !f64::from_bits(x).is_nan()).collect()
 }
 
-/// The singles of so many doubles as a record may hold, in both orders.
+/// Packs the doubles, no more than a record may hold, as their nearest singles, in both orders.
 fn packs_singles(t: &mut dyn Judge, doubles: &[u64]) {
     let singles: Vec<u32> = doubles.iter().map(|&x| nearest(x)).collect();
     let big: Vec<u8> = singles.iter().flat_map(|s| s.to_be_bytes()).collect();
@@ -279,7 +279,7 @@ pub fn boundaries(t: &mut dyn Judge) {
 
 // All patterns
 
-/// A reading that has just room for so many doubles.
+/// A reading that has just room for `count` doubles.
 fn reading_doubles(layout: &str, record: &[u8], count: usize) -> Call {
     let mut call = reading(layout, record, 1);
     let end = call.mark + count * ITEM_BYTES;
@@ -316,7 +316,8 @@ fn double_of(single: u32) -> u64 {
     (sign as u64) << 63 | magnitude
 }
 
-/// 2 to the 24 singles, one of each run of 256 patterns; an infinity comes back as the largest single, so none is drawn.
+/// 2 to the 24 singles, one of each run of 256 patterns; an infinity comes back as the largest single, so none is
+/// drawn.
 fn spread(t: &mut dyn Judge) {
     let dice = &mut Dice::new(1);
     let mut draw = |run: u32| {

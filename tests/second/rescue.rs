@@ -4,14 +4,14 @@ use crate::limits::{AREA_MAX, LEGS_MAX, NO_POSITION, RESCUE_REPLY_BYTES, SHEET_M
 use crate::sheet::{entry, is_other_version, load, opened};
 use crate::slots::{bad_slot_run, put_slot, refused, replied, Answer};
 
-/// The entries kept, the bytes of their values, and what is left of the sheet behind them.
+/// The entries kept, the bytes of their values, and what is left of the sheet after them.
 struct Kept<'a> {
     entries: usize,
     bytes: usize,
     dropped: &'a [u8],
 }
 
-/// The entries at the front, at most so many. The header's length is not looked at, and neither is whether the
+/// The entries at the front, at most `most`. The header's length is not looked at, and neither is whether the
 /// table could do with another version.
 fn kept(sheet: &[u8], most: usize) -> Kept<'_> {
     let (length, entries) = opened(sheet).unwrap_or((usize::MAX, sheet));
@@ -59,11 +59,11 @@ fn rescued(
         put_slot(slot, 0, 0, 0, NO_POSITION);
     }
     load(sheet, set, area, mark);
-    let blanked = legs - kept.entries;
-    Ok([0, kept.entries, blanked, kept.dropped.len()].map(|n| n as u32))
+    let cleared = legs - kept.entries;
+    Ok([0, kept.entries, cleared, kept.dropped.len()].map(|n| n as u32))
 }
 
-/// Keeps what it can of a damaged sheet of so many legs, values going into the area from the mark on.
+/// Keeps what it can of a damaged sheet of `legs` legs, values going into the area from the mark on.
 pub fn rescue_call(
     sheet: &[u8],
     legs: usize,

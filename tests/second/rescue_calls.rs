@@ -39,9 +39,9 @@ fn rescue(sheet: &[u8], legs: usize, slots: usize, room: usize) -> Call {
 /// What a rescue that kept these values leaves behind.
 fn saved(call: &Call, values: &[Value], dropped: usize) -> After {
     let (slots, area) = table(values, call.mark);
-    let blanked = call.legs - values.len();
-    let (blank, _) = table(&vec![Value::Unset; blanked], 0);
-    let numbers = [0, values.len(), blanked, dropped].map(|n| n as u32);
+    let cleared = call.legs - values.len();
+    let (cleared_slots, _) = table(&vec![Value::Unset; cleared], 0);
+    let numbers = [0, values.len(), cleared, dropped].map(|n| n as u32);
     let mut after = call.answered(numbers);
     after.slots[..slots.len()].copy_from_slice(&slots);
     after.slots[slots.len()..][..blank.len()].copy_from_slice(&blank);

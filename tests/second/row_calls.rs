@@ -14,7 +14,7 @@ use crate::rows::{Row, NO_COUNT, NO_SLOT, OPEN, STAR};
 
 const OLD: u8 = 0x6d;
 
-/// With so many bytes for the rows.
+/// A listing of the layout's fields, with `room` bytes for the rows.
 fn listing(layout: impl AsRef<[u8]>, room: usize) -> Call {
     let runs = Runs {
         layout: layout.as_ref().to_vec(),
@@ -194,8 +194,8 @@ fn reach(row: &Row) -> u32 {
     }
 }
 
-/// A packing that is accepted takes as many slots as the rows say, and is no shorter than each known field reaches; where all
-/// are known it is just so long.
+/// A packing that is accepted takes as many slots as the rows say, and is no shorter than each known field reaches;
+/// where all are known it is just so long.
 fn as_packed(judge: &mut dyn Judge, packing: &Call) {
     let (packed, _) = by_library(packing);
     if packed.returned != 0 {

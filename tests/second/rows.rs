@@ -1,7 +1,7 @@
 //! A layout's fields: a row of eight numbers for each.
 //!
-//! What a row says of the record is found by packing the layout twice, with all starred values empty and with all of them
-//! longer than everything else together: a number that is not the same both times depends on them.
+//! What a row says of the record is found by packing the layout twice, with all starred values empty and with all of
+//! them longer than everything else together: a number that is not the same both times depends on them.
 
 use crate::fields::{parse, NO_FIELDS};
 use crate::limits::{FIELDS_REPLY_BYTES, LAYOUT_MAX, ROW_BYTES};
@@ -57,7 +57,7 @@ fn count(span: &[u8]) -> u32 {
     }
 }
 
-/// Where each field begins and how many bytes it fills, if starred values have so many items.
+/// Where each field begins and how many bytes it fills, if starred values have `long` items.
 fn packed(fields: &[(u8, u32)], long: u64) -> Vec<(u64, u64)> {
     let (mut at, mut high) = (0u64, 0u64);
     let step = |&(letter, count): &(u8, u32)| {

@@ -1,7 +1,7 @@
 //! Tables stored as sheets: a version byte, the length of the rest, then an entry for each slot.
 //!
-//! An entry is the length of what follows in it, the kind, and the value's bytes. A length has two bytes in version 1 and
-//! four in version 2, which only tables have that version 1 cannot hold.
+//! An entry is the length of what follows in it, the kind, and the value's bytes. A length has two bytes in version 1
+//! and four in version 2, which only tables have that version 1 cannot hold.
 
 use crate::limits::{
     AREA_MAX, ITEM_BYTES, KIND_MAX, NO_POSITION, REPLY_BYTES, SHEET_MAX, SHORT_LENGTH_MAX,
@@ -20,7 +20,8 @@ fn length_bytes(version: u8) -> Option<usize> {
     }
 }
 
-/// The version of a table of so many entries, with so many bytes in their values: the first where it can tell the lengths.
+/// The version of a table of `entries` entries, with `bytes` bytes in their values: the first where it can tell the
+/// lengths.
 fn version_of(entries: usize, bytes: usize) -> u8 {
     match entries * (2 + 1) + bytes {
         0..=SHORT_LENGTH_MAX => 1,
@@ -79,8 +80,8 @@ fn written(slots: &[u8], area: &[u8], sheet: &mut [u8]) -> Result<Answer, Answer
 
 // Reading
 
-/// The kind, the value and what follows the entry at the front, whose length has so many bytes; none if
-/// it is not well formed.
+/// The kind, the value and what follows the entry at the front, whose length has `length` bytes; none if it is not well
+/// formed.
 pub fn entry(bytes: &[u8], length: usize) -> Option<(u32, &[u8], &[u8])> {
     let (length, rest) = (bytes.get(..length)?, &bytes[length..]);
     let body = rest.get(..length_of(length))?;

@@ -33,7 +33,7 @@ fn count(text: &str) -> (Option<usize>, &str) {
     }
 }
 
-/// The fields that a reading of so many bytes comes to, by a layout that it accepts.
+/// The fields that a reading of `end` bytes comes to, by a layout that it accepts.
 pub fn walk(layout: &[u8], end: usize) -> Vec<Step> {
     let text = String::from_utf8_lossy(layout);
     let (mut rest, mut at, mut steps) = (text.trim_start(), 0, Vec::new());

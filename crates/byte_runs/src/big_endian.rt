@@ -2,13 +2,14 @@
 ghost use mathlib.Core.Path.{_≡_};
 ghost use Prim.Native.Nat.{_+_, _^_, _≤_, _<_};
 ghost use lib.ListN.{length};
+ghost use Rattle.layout.specs.Lent.{before, after};
 ghost use Rattle.record.specs.Bytes.{storeAt, numberBytes, numberAt};
 ghost use Rattle.record.specs.Table.{integerSize};
 
 // The number that the w bytes from a place on make.
 pub fn number_at(bytes: &[u8], at: usize, w: usize) -> u64
     requires { ⌜ (at + w ≤ length (now bytes)) × (w ≤ integerSize) ⌝ }
-    ensures { λ r. ⌜ (r ≡ numberAt w (now (bytes .entry)) at) × (r < 256 ^ w) ⌝ }
+    ensures { λ r. ⌜ (r ≡ numberAt w (before bytes) at) × (r < 256 ^ w) ⌝ }
 {
     let mut x: u64 = 0;
     let mut j: usize = 0;
@@ -22,7 +23,7 @@ pub fn number_at(bytes: &[u8], at: usize, w: usize) -> u64
 // Puts the eight bytes of a number at a place, the last one first. Written out like this they become one store.
 fn put_eight(out: &mut [u8], at: usize, x: u64)
     requires { ⌜ at + integerSize ≤ length (now out) ⌝ }
-    ensures { λ _. ⌜ now (out .exit) ≡ storeAt (now (out .entry)) at (numberBytes integerSize x) ⌝ }
+    ensures { λ _. ⌜ after out ≡ storeAt (before out) at (numberBytes integerSize x) ⌝ }
 {
     out[at + 7] = (x % 256) as u8;
     let x6 = x / 256;
@@ -44,7 +45,7 @@ fn put_eight(out: &mut [u8], at: usize, x: u64)
 // Puts the w lowest bytes of a number at a place, the last one first.
 pub fn put_number(out: &mut [u8], at: usize, w: usize, x: u64)
     requires { ⌜ at + w ≤ length (now out) ⌝ }
-    ensures { λ _. ⌜ now (out .exit) ≡ storeAt (now (out .entry)) at (numberBytes w x) ⌝ }
+    ensures { λ _. ⌜ after out ≡ storeAt (before out) at (numberBytes w x) ⌝ }
 {
     if w == record::INTEGER_SIZE {
         return put_eight(out, at, x);

@@ -10,11 +10,11 @@ use lib.Dec.{leb}
 use lib.ListN.{length, drop}
 use Rattle.layout.specs.declared.Field.{Field}
 use Rattle.layout.specs.declared.Refusal.{Refusal}
-use Rattle.layout.specs.declared.Refusal.the-variants.{BadSize, WrongSlots, NoRoom}
+use Rattle.layout.specs.declared.Refusal.the-variants.{BadSize, BadSlots, NoRoom}
 use Rattle.layout.specs.Refusals.{Result, ok, refused}
 use Rattle.layout.specs.Layout.{fieldsOf, slotCount}
 use Rattle.layout.proofs.Laws.{bound, demanded, no-number-zero}
-use Rattle.layout.specs.Words.{decoded}
+use Rattle.layout.specs.inside.Parsing.{decoded}
 use Rattle.layout.proofs.Decoded.{Learnt}
 use Rattle.record.specs.declared.Answer.{Answer}
 use Rattle.record.specs.Bytes.{storeAt}
@@ -23,20 +23,20 @@ use Rattle.record.specs.Geometry.{sizesFit}
 use Rattle.record.specs.Packing.{accepted, refusal}
 use Rattle.record.specs.Reading.{Read, valuesFrom, positionsFrom, reads, putInto, read, ReadAll, leftOf}
 use Rattle.record.proofs.Tables.{length-slots}
-use Rattle.reader.specs.checking.Sizes.{lentFits}
-use Rattle.reader.specs.checking.Checks.{checked, fitting}
-use Rattle.reading.specs.measure.Run.{valuesOf}
-use Rattle.reading.specs.Tables.{putAll, TableRoom}
+use Rattle.reader.specs.inside.Sizes.{readLentFits}
+use Rattle.reader.specs.inside.Checks.{readChecked, fitting}
+use Rattle.reading.specs.inside.Run.{valuesOf}
+use Rattle.reading.specs.inside.Tables.{putAll, TableRoom}
 use Rattle.reader.proofs.checking.Calls.{Fit, fit, sizes-refuse, parse-refuses, check-fits}
-use Rattle.reader.specs.passes.{Ready}
+use Rattle.reader.specs.inside.passes.{ReadReady}
 use Rattle.reader.proofs.passes.Calls.{fit-room}
 use Rattle.record.proofs.Readings.{values-few}
-use Rattle.compare.specs.difference.{reportWidth}
-use Rattle.compare.specs.report.Report.{rows}
-use Rattle.compare.specs.Steps.{Opened}
+use Rattle.compare.specs.Difference.{reportWidth}
+use Rattle.compare.specs.Report.{findings}
+use Rattle.compare.specs.inside.Steps.{LayoutOpened}
 use Rattle.compare.specs.Comparing.{Shown, compares, compareEffect, compare}
-use Rattle.compare.specs.report.Shown.{shownBytes, Holds}
-use Rattle.compare.proofs.report.Rows.{length-rows}
+use Rattle.compare.specs.inside.Shown.{shownBytes, Shows}
+use Rattle.compare.proofs.report.Findings.{length-findings}
 use Rattle.compare.proofs.Shown.{put-shows, put-holds}
 
 -- ---- a reading that is accepted
@@ -54,7 +54,7 @@ unfolding reads
 accepted-reads layout bs slots area vs h =
     let (sizes, e₁) = demanded (sizesFit layout slots bs area && leb 0 (length area)) BadSize 0 _ vs h in
     let (fs, fields, e₂) = bound (fieldsOf false layout) _ vs e₁ in
-    let (enough, e₃) = demanded (leb (slotCount fs) (length (slotsOf slots))) WrongSlots 0 _ vs e₂ in
+    let (enough, e₃) = demanded (leb (slotCount fs) (length (slotsOf slots))) BadSlots 0 _ vs e₂ in
     let (fits, e₄) = demanded (leb (0 + length (valueBytes (valuesFrom bs 0 fs))) (length area)) NoRoom 0 _ vs e₃ in
     let lent : slotWidth * slotCount fs ≤ length slots = omega (arith, leb-true (slotCount fs) (length (slotsOf slots)) enough, length-slots slots) in
     let f : Fit (length layout) (length slots) (length bs) (length area) 0 = fit sizes in
@@ -82,15 +82,15 @@ pub record Passes (layout bs slots area : List ℕ) (a : Answer) : Type 0 where
   pub answer : a ≡ accepted (slotCount (run .fs)) 0
 
 module _ (layout bs slots area : List ℕ) where
-  answer-refused : {a : Answer} {why : Refusal} {p : ℕ} → reads layout bs slots area 0 ≡ refused why p → a ≡ checked layout bs slots area 0 → a ≡ refusal why p
-  unfolding checked
+  answer-refused : {a : Answer} {why : Refusal} {p : ℕ} → reads layout bs slots area 0 ≡ refused why p → a ≡ readChecked layout bs slots area 0 → a ≡ refusal why p
+  unfolding readChecked
   answer-refused e q = q ∙ rw e
 
-  answer-accepted : {a : Answer} {vs : List Value} (r : Reads layout bs slots area vs) → a ≡ checked layout bs slots area 0 → a ≡ accepted (slotCount (r .fs)) 0
-  unfolding checked
+  answer-accepted : {a : Answer} {vs : List Value} (r : Reads layout bs slots area vs) → a ≡ readChecked layout bs slots area 0 → a ≡ accepted (slotCount (r .fs)) 0
+  unfolding readChecked
   answer-accepted r q = q ∙ rw (r .values, r .fields)
 
-  module _ {a : Answer} (q : a ≡ checked layout bs slots area 0) where
+  module _ {a : Answer} (q : a ≡ readChecked layout bs slots area 0) where
     fails-by : (o : Result (List Value)) → reads layout bs slots area 0 ≡ o → (a .number ≡ 0 → ⊥) → Fails layout bs slots area a
     fails-by (refused why p) e h = record { why = why; place = p; values = e; answer = answer-refused e q }
     fails-by (ok vs) e h = absurd (h (ap (λ (x : Answer). x .number) (answer-accepted (accepted-reads layout bs slots area vs e) q)))
@@ -105,10 +105,10 @@ module _ (layout bs slots area : List ℕ) where
     pub check-passes : a .number ≡ 0 → Passes layout bs slots area a
     check-passes = passes-by (reads layout bs slots area 0) refl
 
--- ---- the same by the fields of the words, read once for both
+-- ---- the same by the fields of the codes, read once for both
 
 -- a call whose sizes do not fit
-pub sizes-fail : (layout bs slots area : List ℕ) {t : Bool} {a : Answer} → t ≡ lentFits (length layout) (length slots) (length bs) (length area) 0 → t ≡ false → a ≡ refusal BadSize 0
+pub sizes-fail : (layout bs slots area : List ℕ) {t : Bool} {a : Answer} → t ≡ readLentFits (length layout) (length slots) (length bs) (length area) 0 → t ≡ false → a ≡ refusal BadSize 0
     → Fails layout bs slots area a
 sizes-fail layout bs slots area p e q = record { why = BadSize; place = 0; values = sizes-refuse layout bs slots area 0 (sym p ∙ e); answer = q }
 
@@ -119,11 +119,11 @@ layout-fails layout bs slots area {why} {place} sizes e q = record { why = why; 
 
 -- and one that is read
 pub opened : {layout bs slots area : List ℕ} {n taken : ℕ} {ws : List ℕ} → Fit (length layout) (length slots) (length bs) (length area) 0 → Learnt (fieldsOf false layout) n taken ws
-    → Opened n taken ws layout bs slots area
+    → LayoutOpened n taken ws layout bs slots area
 opened sizes l = record { fields = l .fields; count = l .taken; few = l .few; room = l .room; sizes = sizes .test }
 
--- what `fits` answers to either reading, and what is left by the values of the words
-module _ {n taken : ℕ} {ws layout first slots₀ area₀ : List ℕ} (o : Opened n taken ws layout first slots₀ area₀)
+-- what `fits` answers to either reading, and what is left by the values of the codes
+module _ {n taken : ℕ} {ws layout first slots₀ area₀ : List ℕ} (o : LayoutOpened n taken ws layout first slots₀ area₀)
     (bs slots area : List ℕ) (sizes : Fit (length layout) (length slots) (length bs) (length area) 0)
     {a : Answer} (q : a ≡ fitting (length slots) taken (length area) (length (valueBytes (valuesOf n ws bs)))) where
   l : Learnt (fieldsOf false layout) n taken ws
@@ -132,7 +132,7 @@ module _ {n taken : ℕ} {ws layout first slots₀ area₀ : List ℕ} (o : Open
   fits : a ≡ fitting (length slots) taken (length area - 0) (length (valueBytes (valuesOf n ws bs)))
   fits = let e : length area - 0 ≡ length area = omega arith in q ∙ ap (λ (r : ℕ). fitting (length slots) taken r (length (valueBytes (valuesOf n ws bs)))) (sym e)
 
-  ready : Ready n taken ws bs slots area 0
+  ready : ReadReady n taken ws bs slots area 0
   ready =
       record {
         few = l .few;
@@ -144,25 +144,25 @@ module _ {n taken : ℕ} {ws layout first slots₀ area₀ : List ℕ} (o : Open
         start = sizes .start;
       }
 
-  judged : a ≡ checked layout bs slots area 0
+  judged : a ≡ readChecked layout bs slots area 0
   judged = check-fits layout bs slots area 0 sizes l fits
 
-  pub words-fail : (a .number ≡ 0 → ⊥) → Fails layout bs slots area a
-  words-fail = check-fails layout bs slots area judged
+  pub codes-fail : (a .number ≡ 0 → ⊥) → Fails layout bs slots area a
+  codes-fail = check-fails layout bs slots area judged
 
   module _ (z : a .number ≡ 0) where
-    pub words-pass : Passes layout bs slots area a
-    words-pass = check-passes layout bs slots area judged z
+    pub codes-pass : Passes layout bs slots area a
+    codes-pass = check-passes layout bs slots area judged z
 
-    pub words-room : TableRoom (valuesOf n ws bs) slots area 0
-    words-room = fit-room ready fits z
+    pub codes-room : TableRoom (valuesOf n ws bs) slots area 0
+    codes-room = fit-room ready fits z
 
-    pub words-left : {x : ReadAll} → x ≡ putAll n ws bs slots area 0 → leftOf x ≡ read layout bs slots area 0
+    pub codes-left : {x : ReadAll} → x ≡ putAll n ws bs slots area 0 → leftOf x ≡ read layout bs slots area 0
     unfolding read
-    words-left e =
-        let r = words-pass .run in
+    codes-left e =
+        let r = codes-pass .run in
         let same : r .fs ≡ decoded n ws = cc (r .fields, l .fields) in
-        let shown : valuesOf n ws bs ≡ words-pass .vs = ap (valuesFrom bs 0) (sym same) ∙ r .shown in
+        let shown : valuesOf n ws bs ≡ codes-pass .vs = ap (valuesFrom bs 0) (sym same) ∙ r .shown in
         ap leftOf e ∙ rw (r .values, r .fields, shown, same)
 
 -- ---- what a reading leaves
@@ -175,9 +175,9 @@ module _ {layout bs slots area : List ℕ} {a : Answer} (p : Passes layout bs sl
   unfolding read
   put = e ∙ rw (p .run .values, p .run .fields)
 
-  pub read-holds : Holds (r .slots) (r .area) (r .answer .first)
+  pub read-holds : Shows (r .slots) (r .area) (r .answer .first)
   unfolding putInto
-  read-holds = subst (λ (x : Read). Holds (x .slots) (x .area) (x .answer .first)) (sym put) (put-holds (p .vs) slots area at (p .run .room))
+  read-holds = subst (λ (x : Read). Shows (x .slots) (x .area) (x .answer .first)) (sym put) (put-holds (p .vs) slots area at (p .run .room))
 
   read-shows : shownBytes (r .slots) (r .area) (r .answer .first) ≡ map areaBytes (p .vs)
   unfolding putInto
@@ -209,7 +209,7 @@ module _ (layout first second fslots farea sslots sarea report : List ℕ) where
           rw (p .run .values, q .run .values, q .run .fields, lt-leb _ _ l, e)
 
       pub done : {x y : Read} {report′ : List ℕ} → x ≡ read layout first fslots farea 0 → y ≡ read layout second sslots sarea 0 → b .first ≤ length report / reportWidth
-          → report′ ≡ storeAt report 0 (rows (b .first) (shownBytes (x .slots) (x .area) (x .answer .first)) (shownBytes (y .slots) (y .area) (y .answer .first)))
+          → report′ ≡ storeAt report 0 (findings (b .first) (shownBytes (x .slots) (x .area) (x .answer .first)) (shownBytes (y .slots) (y .area) (y .answer .first)))
           → record { answer = b; firstSlots = x .slots; firstArea = x .area; secondSlots = y .slots; secondArea = y .area; report = report′ } ≡ compare layout first second fslots farea sslots sarea report
       unfolding compare compares compareEffect
       done {x} {y} {report′} e f h g =
@@ -217,7 +217,7 @@ module _ (layout first second fslots farea sslots sarea report : List ℕ) where
           let l : reportWidth * n ≤ length report = omega (arith, fields) in
           let vs : List (List ℕ) = map areaBytes (p .vs) in
           let ws : List (List ℕ) = map areaBytes (q .vs) in
-          let w : report′ ≡ rows n vs ws ++ drop (reportWidth * n) report = g ∙ rw (fields, read-shows p e, read-shows q f, length-rows n vs ws, zero-add) in
+          let w : report′ ≡ findings n vs ws ++ drop (reportWidth * n) report = g ∙ rw (fields, read-shows p e, read-shows q f, length-findings n vs ws, zero-add) in
           let same : p .run .fs ≡ q .run .fs = cc (p .run .fields, q .run .fields) in
           rw (p .run .values, q .run .values, q .run .fields, le-leb _ _ l, w, q .answer, put p e, put q f, same)
 

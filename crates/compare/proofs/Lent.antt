@@ -1,5 +1,6 @@
--- What a caller may rely on that lends slots and report in another form and writes back what a call left: which slots stay, and that the report's length counts only up to
--- the rows that there can be. An accepted call sets no slot past those of its fields, of which there are no more than slots.
+-- What a caller may rely on that lends slots and report in another form and writes back what a call left: which slots
+-- stay, and that the report's length counts only up to the findings that there can be. An accepted call sets no slot
+-- past those of its fields, of which there are no more than slots.
 use Prim.Native.Nat.{ℕ, _+_, _-_, _*_, _≤_, min}
 use native.Mathlib.Omega.{arith}
 use mathlib.Core.Path.{_≡_, refl, sym, ap, _∙_, subst}
@@ -17,10 +18,10 @@ use Rattle.record.specs.Table.{slotWidth, maxSlots, Value, areaBytes, slotNumbe
 use Rattle.record.specs.Reading.{reads, putInto}
 use Rattle.record.proofs.Readings.{values-few, length-slot-numbers}
 use Rattle.record.proofs.Fields.{split}
-use Rattle.compare.specs.difference.{reportWidth}
-use Rattle.compare.specs.report.Report.{rows}
+use Rattle.compare.specs.Difference.{reportWidth}
+use Rattle.compare.specs.Report.{findings}
 use Rattle.compare.specs.Comparing.{Shown, compares, compareEffect, Compared, compare}
-use Rattle.compare.proofs.report.Rows.{length-rows}
+use Rattle.compare.proofs.report.Findings.{length-findings}
 use Rattle.compare.proofs.Calls.{accepted-reads, accepted-call, left}
 
 -- a table after a call: as long as before, and the slots from number n on as lent
@@ -58,7 +59,7 @@ reads-kept layout bs slots area at vs fs e f =
 pub record Settled (slots slots′ report : List ℕ) (c : Compared) : Type 0 where
   pub first : Kept (c .answer .first) slots (c .firstSlots)
   pub second : Kept (c .answer .first) slots′ (c .secondSlots)
-  pub rows : reportWidth * c .answer .first ≤ length report
+  pub findings : reportWidth * c .answer .first ≤ length report
   pub long : length (c .report) ≡ length report
 
 module _ (layout first second slots area slots′ area′ report : List ℕ) where
@@ -74,13 +75,13 @@ module _ (layout first second slots area slots′ area′ report : List ℕ) whe
       (record {
         first = reads-kept layout first slots area _ (a .vs) (a .fs) (a .one) (a .fields);
         second = reads-kept layout second slots′ area′ _ (a .ws) (a .fs) (a .two) (a .fields);
-        rows = room;
-        long = length-append (rows n xs ys) (drop (reportWidth * n) report) ∙ rw (length-rows n xs ys, length-drop) (omega arith);
+        findings = room;
+        long = length-append (findings n xs ys) (drop (reportWidth * n) report) ∙ rw (length-findings n xs ys, length-drop) (omega arith);
       })
 
 -- ---- a report of another length
 
--- what a call left, over the report R: the rows that it wrote, and the rest of R
+-- what a call left, over the report R: the findings that it wrote, and the rest of R
 abbrev pub reportOver : List ℕ → Compared → Compared
 reportOver R c =
     record {
@@ -98,7 +99,7 @@ effect-over slots area slots′ area′ R S (ok s) =
     let xs : List (List ℕ) = map areaBytes (s .first) in
     let ys : List (List ℕ) = map areaBytes (s .second) in
     let n : ℕ = s .fields in
-    rw (take-at (rows n xs ys) (drop (reportWidth * n) S) (reportWidth * n) (length-rows n xs ys))
+    rw (take-at (findings n xs ys) (drop (reportWidth * n) S) (reportWidth * n) (length-findings n xs ys))
 effect-over slots area slots′ area′ R S (refused why place) = rw (ne-eqb (numberOf why) 0 (λ z. no-number-zero why z))
 
 module _ (layout first second slots area slots′ area′ R S : List ℕ) (short : length S ≡ min (length R) (reportWidth * maxSlots)) where

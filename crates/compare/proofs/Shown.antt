@@ -17,8 +17,8 @@ use Rattle.record.specs.Slots.{valueEnd}
 use Rattle.record.proofs.NumberLaws.{length-bigEndian}
 use Rattle.record.proofs.Readings.{length-slot-numbers}
 use Rattle.record.proofs.Stores.{length-storeAt}
-use Rattle.reading.specs.Tables.{TableRoom}
-use Rattle.compare.specs.report.Shown.{bytesOf, shownBytes, Holds}
+use Rattle.reading.specs.inside.Tables.{TableRoom}
+use Rattle.compare.specs.inside.Shown.{bytesShown, shownBytes, Shows}
 
 -- an item of a string is a byte of the area, and an integer eight
 pub area-size : (v : Value) → length (areaBytes v) ≡ length (v .items) * itemSize (v .kind)
@@ -30,7 +30,7 @@ area-size v = go (eqb (v .kind) string)
     go false = length-bigEndian integerSize (v .items)
 
 table-shows : (vs : List Value) (start : ℕ) (at area rest more : List ℕ) → drop start area ≡ valueBytes vs ++ rest
-    → map (bytesOf area) (take (length vs) (slotsOf (slotNumbers start at vs ++ more))) ≡ map areaBytes vs
+    → map (bytesShown area) (take (length vs) (slotsOf (slotNumbers start at vs ++ more))) ≡ map areaBytes vs
 unfolding slotNumbers valueBytes slotsOf join
 table-shows [] start at area rest more e = refl
 table-shows (v ∷ vs) start at area rest more e =
@@ -55,7 +55,7 @@ module _ (vs : List Value) (slots area at : List ℕ) (room : TableRoom vs slots
   unfolding putInto shownBytes
   put-shows = table-shows vs 0 at (storeAt area 0 (valueBytes vs)) (drop (0 + length (valueBytes vs)) area) (drop (slotWidth * length vs) slots) refl
 
-  pub put-holds : Holds (putInto slots area 0 at vs .slots) (putInto slots area 0 at vs .area) (length vs)
+  pub put-holds : Shows (putInto slots area 0 at vs .slots) (putInto slots area 0 at vs .area) (length vs)
   unfolding putInto
   put-holds =
       let long : length (storeAt area 0 (valueBytes vs)) ≡ length area = length-storeAt area 0 (valueBytes vs) (room .room) in

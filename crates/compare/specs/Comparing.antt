@@ -1,4 +1,5 @@
--- Two copies of one record compared, value field by value field (02, M-102): THE EFFECT OF A CALL is `compare`, at the end.
+-- Two copies of one record compared, value field by value field (02, M-102): THE EFFECT OF A CALL is `compare`, at the
+-- end.
 use Prim.Native.Nat.{ℕ, _*_}
 use mathlib.Core.Path.{_≡_}
 use mathlib.Core.Bool.{false}
@@ -13,8 +14,8 @@ use Rattle.record.specs.declared.Answer.{Answer}
 use Rattle.record.specs.Table.{Value, areaBytes}
 use Rattle.record.specs.Packing.{accepted, refusal}
 use Rattle.record.specs.Reading.{reads, positionsFrom, putInto}
-use Rattle.compare.specs.difference.{reportWidth}
-use Rattle.compare.specs.report.Report.{rows}
+use Rattle.compare.specs.Difference.{reportWidth}
+use Rattle.compare.specs.Report.{findings}
 
 -- the value fields of a layout, the values that the two readings set, and the positions of their fields
 pub record Shown : Type 0 where
@@ -24,7 +25,8 @@ pub record Shown : Type 0 where
   pub firstAt : List ℕ
   pub secondAt : List ℕ
 
--- the lines of the table: for reading the first from mark 0, then for the second; then 11 for the report
+-- the two readings, each from mark 0, or the first refusal: those of the first, then those of the second, then 11 for
+-- the report
 unfoldable pub compares : List ℕ → List ℕ → List ℕ → List ℕ → List ℕ → List ℕ → List ℕ → List ℕ → Result Shown
 unfolding reads positionsFrom fieldsOf slotCount
 compares layout first second firstSlots firstArea secondSlots secondArea report = do
@@ -50,9 +52,10 @@ pub record Compared : Type 0 where
   pub secondArea : List ℕ
   pub report : List ℕ
 
--- each table and area as its reading leaves it, and what the rows do not cover of the report as lent; a refusal changes nothing
+-- each table and area as its reading leaves it, and what the findings do not cover of the report as lent; a refusal
+-- changes nothing
 unfoldable pub compareEffect : List ℕ → List ℕ → List ℕ → List ℕ → List ℕ → Result Shown → Compared
-unfolding putInto rows areaBytes
+unfolding putInto findings areaBytes
 compareEffect firstSlots firstArea secondSlots secondArea report (ok s) =
     let p = putInto firstSlots firstArea 0 (s .firstAt) (s .first) in
     let q = putInto secondSlots secondArea 0 (s .secondAt) (s .second) in
@@ -62,7 +65,9 @@ compareEffect firstSlots firstArea secondSlots secondArea report (ok s) =
       firstArea = p .area;
       secondSlots = q .slots;
       secondArea = q .area;
-      report = rows (s .fields) (map areaBytes (s .first)) (map areaBytes (s .second)) ++ drop (reportWidth * s .fields) report;
+      report =
+          findings (s .fields) (map areaBytes (s .first)) (map areaBytes (s .second))
+          ++ drop (reportWidth * s .fields) report;
     }
 compareEffect firstSlots firstArea secondSlots secondArea report (refused why place) =
     record {
@@ -77,7 +82,8 @@ compareEffect firstSlots firstArea secondSlots secondArea report (refused why pl
 unfoldable pub compare : List ℕ → List ℕ → List ℕ → List ℕ → List ℕ → List ℕ → List ℕ → List ℕ → Compared
 unfolding compares compareEffect
 compare layout first second firstSlots firstArea secondSlots secondArea report =
-    compareEffect firstSlots firstArea secondSlots secondArea report (compares layout first second firstSlots firstArea secondSlots secondArea report)
+    compareEffect firstSlots firstArea secondSlots secondArea report
+    (compares layout first second firstSlots firstArea secondSlots secondArea report)
 
 -- what a call promises that answered r
 abbrev pub Compares : Lent → Lent → Lent → Lent → Lent → Lent → Lent → Lent → Answer → Type 0
@@ -90,4 +96,5 @@ Compares layout first second firstSlots firstArea secondSlots secondArea report 
       secondArea = after secondArea;
       report = after report;
     }
-    ≡ compare (before layout) (before first) (before second) (before firstSlots) (before firstArea) (before secondSlots) (before secondArea) (before report)
+    ≡ compare (before layout) (before first) (before second) (before firstSlots) (before firstArea)
+    (before secondSlots) (before secondArea) (before report)

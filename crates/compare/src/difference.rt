@@ -3,10 +3,11 @@ ghost use mathlib.Core.Path.{_≡_};
 ghost use Prim.Native.Nat.{_+_, _*_, _≤_};
 ghost use mathlib.Core.Bool.{true, _&&_};
 ghost use lib.ListN.{length};
+ghost use Rattle.layout.specs.Lent.{before};
 ghost use Rattle.record.specs.Bytes.{part, digits};
 ghost use Rattle.record.specs.Table.{maxArea};
-ghost use Rattle.compare.specs.difference.{same, firstDifference, differing, differingBits, plainRow, bothRow};
-ghost use Rattle.compare.specs.difference.{numbers};
+ghost use Rattle.compare.specs.Difference.{sameBytes, firstDifference, differing, differingBits, plainFinding, bothFinding};
+ghost use Rattle.compare.specs.Difference.{findingNumbers};
 
 // The verdicts on a value field.
 const BOTH_SAME: u32 = 0;
@@ -19,21 +20,21 @@ pub const IN_NEITHER: u32 = 3;
 
 const BOTH_DIFFER: u32 = 4;
 
-// So many bytes are looked at together.
+// The bytes that are looked at together.
 const BLOCK: usize = 16;
 
-// A row of the report: the verdict; for values that differ, where they part, and how many bits differ.
-pub struct Row {
+// A finding of the report: the verdict; for values that differ, where they part, and how many bits differ.
+pub struct Finding {
     pub verdict: u32,
     pub place: u32,
     pub bits: u32,
 }
 
-// A row that says no more than its verdict.
-pub fn plain_row(verdict: u32) -> Row
-    ensures { λ r. ⌜ numbers r ≡ plainRow verdict ⌝ }
+// A finding that says no more than its verdict.
+pub fn plain_finding(verdict: u32) -> Finding
+    ensures { λ r. ⌜ findingNumbers r ≡ plainFinding verdict ⌝ }
 {
-    Row {
+    Finding {
         verdict: verdict,
         place: 0,
         bits: 0,
@@ -46,10 +47,11 @@ fn both(a: bool, b: bool) -> bool
     if a { b } else { false }
 }
 
-// Whether n bytes of both are the same, from the places `at` and `to` on. The loop looks at all of them: without an exit it is done many bytes at a time.
+// Whether n bytes of both are the same, from the places `at` and `to` on. The loop looks at all of them: without an
+// exit it is done many bytes at a time.
 fn same_bytes(first: &[u8], at: usize, second: &[u8], to: usize, n: usize) -> bool
     requires { ⌜ (at + n ≤ length (now first)) × (to + n ≤ length (now second)) ⌝ }
-    ensures { λ r. ⌜ r ≡ same (part (now (first .entry)) at n) (part (now (second .entry)) to n) ⌝ }
+    ensures { λ r. ⌜ r ≡ sameBytes (part (before first) at n) (part (before second) to n) ⌝ }
 {
     let mut good = true;
     let mut i: usize = 0;
@@ -63,7 +65,7 @@ fn same_bytes(first: &[u8], at: usize, second: &[u8], to: usize, n: usize) -> bo
 // Whether n bytes of the first from the place `at` on are the m bytes of the second from `to` on.
 fn same(first: &[u8], at: usize, n: usize, second: &[u8], to: usize, m: usize) -> bool
     requires { ⌜ (at + n ≤ length (now first)) × (to + m ≤ length (now second)) ⌝ }
-    ensures { λ r. ⌜ r ≡ same (part (now (first .entry)) at n) (part (now (second .entry)) to m) ⌝ }
+    ensures { λ r. ⌜ r ≡ sameBytes (part (before first) at n) (part (before second) to m) ⌝ }
 {
     if n != m {
         return false;
@@ -74,7 +76,7 @@ fn same(first: &[u8], at: usize, n: usize, second: &[u8], to: usize, m: usize) -
 // The bytes at the front of both that are the same, in whole blocks.
 fn equal_blocks(first: &[u8], at: usize, second: &[u8], to: usize, n: usize) -> usize
     requires { ⌜ (at + n ≤ length (now first)) × (to + n ≤ length (now second)) ⌝ }
-    ensures { λ r. ⌜ (r ≤ n) × (same (part (now (first .entry)) at r) (part (now (second .entry)) to r) ≡ true) ⌝ }
+    ensures { λ r. ⌜ (r ≤ n) × (sameBytes (part (before first) at r) (part (before second) to r) ≡ true) ⌝ }
 {
     let mut i: usize = 0;
     while BLOCK <= n - i {
@@ -89,7 +91,7 @@ fn equal_blocks(first: &[u8], at: usize, second: &[u8], to: usize, n: usize) -> 
 // The first of n bytes at which the two part; n where none does.
 fn first_difference(first: &[u8], at: usize, second: &[u8], to: usize, n: usize) -> usize
     requires { ⌜ (at + n ≤ length (now first)) × (to + n ≤ length (now second)) ⌝ }
-    ensures { λ r. ⌜ r ≡ firstDifference (part (now (first .entry)) at n) (part (now (second .entry)) to n) ⌝ }
+    ensures { λ r. ⌜ r ≡ firstDifference (part (before first) at n) (part (before second) to n) ⌝ }
 {
     let mut i = equal_blocks(first, at, second, to, n);
     while i < n {
@@ -108,10 +110,11 @@ fn byte_bits(a: u8, b: u8) -> u32
     u8::count_ones(a ^ b)
 }
 
-// The bits that differ over the n bytes of a block at most: their sum has room in a byte, so that the bytes of a block are summed all at once.
+// The bits that differ over the n bytes of a block at most: their sum has room in a byte, so that the bytes of a block
+// are summed all at once.
 fn block_bits(first: &[u8], at: usize, second: &[u8], to: usize, n: usize) -> u8
     requires { ⌜ (at + n ≤ length (now first)) × (to + n ≤ length (now second)) × (n ≤ 16) ⌝ }
-    ensures { λ r. ⌜ (r ≡ differingBits (part (now (first .entry)) at n) (part (now (second .entry)) to n)) × (r ≤ 8 * n) ⌝ }
+    ensures { λ r. ⌜ (r ≡ differingBits (part (before first) at n) (part (before second) to n)) × (r ≤ 8 * n) ⌝ }
 {
     let mut sum: u8 = 0;
     let mut i: usize = 0;
@@ -125,7 +128,7 @@ fn block_bits(first: &[u8], at: usize, second: &[u8], to: usize, n: usize) -> u8
 // The bits that differ over n bytes of both.
 fn differing_bits(first: &[u8], at: usize, second: &[u8], to: usize, n: usize) -> u32
     requires { ⌜ (at + n ≤ length (now first)) × (to + n ≤ length (now second)) × (n ≤ maxArea) ⌝ }
-    ensures { λ r. ⌜ r ≡ differingBits (part (now (first .entry)) at n) (part (now (second .entry)) to n) ⌝ }
+    ensures { λ r. ⌜ r ≡ differingBits (part (before first) at n) (part (before second) to n) ⌝ }
 {
     let mut sum: u32 = 0;
     let mut i: usize = 0;
@@ -138,18 +141,26 @@ fn differing_bits(first: &[u8], at: usize, second: &[u8], to: usize, n: usize) -
     sum
 }
 
-// The row of two values that are both set: n bytes of the first area from the place `at` on, and m of the second from `to` on.
-pub fn both_row(first: &[u8], at: usize, n: usize, second: &[u8], to: usize, m: usize) -> Row
+// The finding of two values that are both set: n bytes of the first area from the place `at` on, and m of the second
+// from `to` on.
+pub fn both_finding(
+    first: &[u8],
+    at: usize,
+    n: usize,
+    second: &[u8],
+    to: usize,
+    m: usize,
+) -> Finding
     requires { ⌜ (at + n ≤ length (now first)) × (to + m ≤ length (now second)) × (length (now first) ≤ maxArea) ⌝ }
-    ensures { λ r. ⌜ numbers r ≡ bothRow (part (now (first .entry)) at n) (part (now (second .entry)) to m) ⌝ }
+    ensures { λ r. ⌜ findingNumbers r ≡ bothFinding (part (before first) at n) (part (before second) to m) ⌝ }
 {
     if same(first, at, n, second, to, m) {
-        return plain_row(BOTH_SAME);
+        return plain_finding(BOTH_SAME);
     }
     let common = record::least(n, m);
     let place = first_difference(first, at, second, to, common);
     let bits = differing_bits(first, at, second, to, common);
-    Row {
+    Finding {
         verdict: BOTH_DIFFER,
         place: place as u32,
         bits: bits,

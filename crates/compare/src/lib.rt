@@ -1,7 +1,7 @@
-// Two copies of one record compared by their layout: for each value field whether both show the same value, and if not where and how far they differ.
-// Both readings are checked before anything is written.
+// Two copies of one record compared by their layout: for each value field whether both show the same value, and if not
+// where and how far they differ. Both readings are checked before anything is written.
 ghost use Rattle.compare.specs.Comparing.{Compares};
-ghost use Rattle.compare.specs.Steps.{Opened};
+ghost use Rattle.compare.specs.inside.Steps.{LayoutOpened};
 use layout::Parsed;
 use layout::Refusal;
 use layout::parser;
@@ -11,12 +11,13 @@ use report::REPORT_WIDTH;
 
 // Two values by themselves.
 pub mod difference;
-// The rows of the report.
+// The findings of the report.
 pub mod report;
 
-// What is left once the layout is read, and what the first reading is lent keeps to its size: the first n words are its fields, of which so many take a slot.
-fn compare_words(
-    words: &[u32],
+// What is left of a comparison once the layout is read, and what the first reading is lent keeps to its size: the first
+// n codes are the fields of the layout, of which `taken` take a slot.
+fn compare_codes(
+    codes: &[u32],
     n: usize,
     taken: usize,
     layout: &[u8],
@@ -28,10 +29,10 @@ fn compare_words(
     second_area: &mut [u8],
     report: &mut [u32],
 ) -> Answer
-    requires { ⌜ Opened n taken (now words) (now layout) (now first) (now «first_slots») (now «first_area») ⌝ }
+    requires { ⌜ LayoutOpened n taken (now codes) (now layout) (now first) (now «first_slots») (now «first_area») ⌝ }
     ensures { λ r. ⌜ Compares layout first second «first_slots» «first_area» «second_slots» «second_area» report r ⌝ }
 {
-    let a = checking::fits(words, n, taken, first, first_slots.len(), first_area.len());
+    let a = checking::fits(codes, n, taken, first, first_slots.len(), first_area.len());
     if a.number != 0 {
         return a;
     }
@@ -45,7 +46,7 @@ fn compare_words(
         return Answer::refused(Refusal::BadSize, 0);
     }
     let b = checking::fits(
-        words,
+        codes,
         n,
         taken,
         second,
@@ -59,8 +60,8 @@ fn compare_words(
     if report.len() / REPORT_WIDTH < fields {
         return Answer::refused(Refusal::NoRoom, 0);
     }
-    let p = reading::fill(words, n, first, first_slots, first_area, 0);
-    let q = reading::fill(words, n, second, second_slots, second_area, 0);
+    let p = reading::fill(codes, n, first, first_slots, first_area, 0);
+    let q = reading::fill(codes, n, second, second_slots, second_area, 0);
     report::write(
         report,
         fields,
@@ -74,7 +75,8 @@ fn compare_words(
     b
 }
 
-// Reads both copies, each into its own table and area, and writes three numbers for each value field into the report. A refusal changes nothing.
+// Reads both copies, each into its own table and area, and writes three numbers for each value field into the report. A
+// refusal changes nothing.
 pub fn compare(
     layout: &[u8],
     first: &[u8],
@@ -96,12 +98,12 @@ pub fn compare(
     ) {
         return Answer::refused(Refusal::BadSize, 0);
     }
-    let mut words: [u32; layout::MAX_LAYOUT] = [0; layout::MAX_LAYOUT];
-    let p = parser::parse(layout, false, &mut words);
+    let mut codes: [u32; layout::MAX_LAYOUT] = [0; layout::MAX_LAYOUT];
+    let p = parser::parse(layout, false, &mut codes);
     match p {
         Parsed::Refused(why, place) => Answer::refused(why, place as u32),
-        Parsed::Fields(n, taken) => compare_words(
-            &words,
+        Parsed::Fields(n, taken) => compare_codes(
+            &codes,
             n,
             taken,
             layout,

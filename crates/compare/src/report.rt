@@ -1,18 +1,18 @@
-// The report of a comparison: a row for each value field, by what the two readings left in their tables and areas.
+// The report of a comparison: a finding for each value field, by what the two readings left in their tables and areas.
 ghost use mathlib.Core.Path.{_≡_};
 ghost use Prim.Native.Nat.{_+_, _*_, _≤_};
 ghost use lib.ListN.{length};
 ghost use Rattle.layout.specs.Lent.{before, after};
 ghost use Rattle.record.specs.Bytes.{storeAt};
 ghost use Rattle.record.specs.Table.{slotWidth};
-ghost use Rattle.compare.specs.difference.{reportWidth};
-ghost use Rattle.compare.specs.report.Report.{rows};
-ghost use Rattle.compare.specs.difference.{numbers};
-ghost use Rattle.compare.specs.report.Shown.{spanAt, shownBy, rowAt, Holds};
+ghost use Rattle.compare.specs.Difference.{reportWidth};
+ghost use Rattle.compare.specs.Report.{findings};
+ghost use Rattle.compare.specs.Difference.{findingNumbers};
+ghost use Rattle.compare.specs.inside.Shown.{spanAt, shownLent, findingAt, Shows};
 use super::difference;
-use super::difference::Row;
+use super::difference::Finding;
 
-// The numbers of a row of the report.
+// The numbers of a finding of the report.
 pub const REPORT_WIDTH: usize = 3;
 
 // A value's bytes in the area: where they start, and how many there are.
@@ -24,7 +24,7 @@ pub struct Span {
 // Where the value of slot i lies in the area.
 fn value_span(slots: &[u32], i: usize) -> Span
     requires { ⌜ slotWidth * i + slotWidth ≤ length (now slots) ⌝ }
-    ensures { λ r. ⌜ r ≡ spanAt (now (slots .entry)) i ⌝ }
+    ensures { λ r. ⌜ r ≡ spanAt (before slots) i ⌝ }
 {
     let s = slot_table::slot_at(slots, i);
     Span {
@@ -33,8 +33,8 @@ fn value_span(slots: &[u32], i: usize) -> Span
     }
 }
 
-// The row of field i. The first reading set n slots, and the second m.
-fn field_row(
+// The finding of field i. The first reading set n slots, and the second m.
+fn field_finding(
     i: usize,
     first_slots: &[u32],
     first_area: &[u8],
@@ -42,27 +42,35 @@ fn field_row(
     second_slots: &[u32],
     second_area: &[u8],
     m: usize,
-) -> Row
-    requires { ⌜ Holds (now «first_slots») (now «first_area») n × Holds (now «second_slots») (now «second_area») m ⌝ }
-    ensures { λ r. ⌜ numbers r ≡ rowAt i (shownBy «first_slots» «first_area» n) (shownBy «second_slots» «second_area» m) ⌝ }
+) -> Finding
+    requires { ⌜ Shows (now «first_slots») (now «first_area») n × Shows (now «second_slots») (now «second_area») m ⌝ }
+    ensures { λ r. ⌜ findingNumbers r
+        ≡ findingAt i (shownLent «first_slots» «first_area» n) (shownLent «second_slots» «second_area» m) ⌝ }
 {
     if i < n {
         if i < m {
             let a = value_span(first_slots, i);
             let b = value_span(second_slots, i);
-            return difference::both_row(first_area, a.start, a.size, second_area, b.start, b.size);
+            return difference::both_finding(
+                first_area,
+                a.start,
+                a.size,
+                second_area,
+                b.start,
+                b.size,
+            );
         }
-        return difference::plain_row(difference::ONLY_FIRST);
+        return difference::plain_finding(difference::ONLY_FIRST);
     }
     if i < m {
-        return difference::plain_row(difference::ONLY_SECOND);
+        return difference::plain_finding(difference::ONLY_SECOND);
     }
-    difference::plain_row(difference::IN_NEITHER)
+    difference::plain_finding(difference::IN_NEITHER)
 }
 
-fn put_row(report: &mut [u32], i: usize, r: Row)
+fn put_finding(report: &mut [u32], i: usize, r: Finding)
     requires { ⌜ reportWidth * i + reportWidth ≤ length (now report) ⌝ }
-    ensures { λ _. ⌜ now (report .exit) ≡ storeAt (now (report .entry)) (reportWidth * i) (numbers r) ⌝ }
+    ensures { λ _. ⌜ after report ≡ storeAt (before report) (reportWidth * i) (findingNumbers r) ⌝ }
 {
     let at = REPORT_WIDTH * i;
     report[at] = r.verdict;
@@ -70,7 +78,7 @@ fn put_row(report: &mut [u32], i: usize, r: Row)
     report[at + 2] = r.bits;
 }
 
-// The rows of so many fields, from the front of the report on.
+// Writes the findings of `fields` value fields, from the front of the report on.
 pub fn write(
     report: &mut [u32],
     fields: usize,
@@ -82,13 +90,15 @@ pub fn write(
     m: usize,
 )
     requires { ⌜ reportWidth * fields ≤ length (now report) ⌝ }
-    requires { ⌜ Holds (now «first_slots») (now «first_area») n × Holds (now «second_slots») (now «second_area») m ⌝ }
-    ensures { λ _. ⌜ after report ≡ storeAt (before report) 0 (rows fields (shownBy «first_slots» «first_area» n) (shownBy «second_slots» «second_area» m)) ⌝ }
+    requires { ⌜ Shows (now «first_slots») (now «first_area») n × Shows (now «second_slots») (now «second_area») m ⌝ }
+    ensures { λ _. ⌜ after report
+        ≡ storeAt (before report) 0
+        (findings fields (shownLent «first_slots» «first_area» n) (shownLent «second_slots» «second_area» m)) ⌝ }
 {
     let mut i: usize = 0;
     while i < fields {
-        let r = field_row(i, first_slots, first_area, n, second_slots, second_area, m);
-        put_row(report, i, r);
+        let r = field_finding(i, first_slots, first_area, n, second_slots, second_area, m);
+        put_finding(report, i, r);
         i += 1;
     }
 }

@@ -1,5 +1,6 @@
--- The claims: two equal values say "same" and no others do; bits are the ones of the exclusive or; a record compared with itself; two records the other way round.
--- Each is a law of rows, by induction over the fields, and then of the calls, whose readings do not depend on where they put the values.
+-- The claims: two equal values say "same" and no others do; bits are the ones of the exclusive or; a record compared
+-- with itself; two records the other way round. Each is a law of findings, by induction over the fields, and then of
+-- the calls, whose readings do not depend on where they put the values.
 use Prim.Native.Nat.{ℕ, zero, suc, _+_, _*_}
 use mathlib.Core.Path.{_≡_, refl, sym, ap, ap₂, _∙_}
 use mathlib.Core.Bool.{Bool, true, false, _&&_, true≢false}
@@ -15,8 +16,8 @@ use Rattle.layout.proofs.Laws.{bound, demanded, no-number-zero}
 use Rattle.record.specs.Table.{Value, areaBytes}
 use Rattle.record.specs.Reading.{valuesFrom, reads}
 use Rattle.record.proofs.Bytes.{and-true}
-use Rattle.compare.specs.difference.{same, firstDifference, differing, bitsOf, differingBits, reportWidth, bothSame, onlyFirst, onlySecond, inNeither, bothDiffer, plainRow, bothRow}
-use Rattle.compare.specs.report.Report.{row, rows}
+use Rattle.compare.specs.Difference.{sameBytes, firstDifference, differing, bitsOf, differingBits, reportWidth, bothSame, onlyFirst, onlySecond, inNeither, bothDiffer, plainFinding, bothFinding}
+use Rattle.compare.specs.Report.{findingOf, findings}
 use Rattle.compare.specs.Comparing.{Shown, compares, compareEffect, compare}
 use Rattle.compare_claims.specs.Claims.{SameIsEqual, onesOfXor, BitsAreOnes, sameOrNeither, WithItself, swapped, otherWay, OtherWayRound}
 use Rattle.compare.proofs.difference.Bits.{xor-bits, bits-cons, bits-none, none-bits}
@@ -24,17 +25,17 @@ use Rattle.compare.proofs.Calls.{accepted-reads, Accepted, accepted-call, left}
 
 -- ---- two values
 
-same-itself : (xs : List ℕ) → same xs xs ≡ true
-unfolding same
+same-itself : (xs : List ℕ) → sameBytes xs xs ≡ true
+unfolding sameBytes
 same-itself [] = refl
 same-itself (x ∷ xs) = rw (eq-eqb x x refl, same-itself xs)
 
-same-equal : (xs ys : List ℕ) → same xs ys ≡ true → xs ≡ ys
-unfolding same
+same-equal : (xs ys : List ℕ) → sameBytes xs ys ≡ true → xs ≡ ys
+unfolding sameBytes
 same-equal [] [] e = refl
 same-equal [] (y ∷ ys) e = absurd (true≢false (sym e))
 same-equal (x ∷ xs) [] e = absurd (true≢false (sym e))
-same-equal (x ∷ xs) (y ∷ ys) e = let (p, q) = and-true (eqb x y) (same xs ys) e in rw (eqb-true x y p, same-equal xs ys q)
+same-equal (x ∷ xs) (y ∷ ys) e = let (p, q) = and-true (eqb x y) (sameBytes xs ys) e in rw (eqb-true x y p, same-equal xs ys q)
 
 pub same-is-equal : SameIsEqual
 unfolding SameIsEqual
@@ -55,8 +56,8 @@ equal-swap x y = step (eqb x y) refl
     step true q = sym (eq-eqb y x (sym (eqb-true x y q)))
     step false q = sym (ne-eqb y x (λ e. eqb-false x y q (sym e)))
 
-same-swap : (xs ys : List ℕ) → same xs ys ≡ same ys xs
-unfolding same
+same-swap : (xs ys : List ℕ) → sameBytes xs ys ≡ sameBytes ys xs
+unfolding sameBytes
 same-swap [] [] = refl
 same-swap [] (y ∷ ys) = refl
 same-swap (x ∷ xs) [] = refl
@@ -76,38 +77,38 @@ differing-swap [] (y ∷ ys) = refl
 differing-swap (x ∷ xs) [] = refl
 differing-swap (x ∷ xs) (y ∷ ys) = rw (equal-swap x y, differing-swap xs ys)
 
-both-swap : (xs ys : List ℕ) → bothRow xs ys ≡ bothRow ys xs
-unfolding bothRow
+both-swap : (xs ys : List ℕ) → bothFinding xs ys ≡ bothFinding ys xs
+unfolding bothFinding
 both-swap xs ys = rw (same-swap xs ys, difference-swap xs ys, differing-swap (bitsOf xs) (bitsOf ys))
 
--- ---- rows
+-- ---- findings
 
-itself-rows : (n : ℕ) (xs : List (List ℕ)) (rest : List ℕ) → T (sameOrNeither n (rows n xs xs ++ rest))
-unfolding sameOrNeither rows row bothRow
-itself-rows zero xs rest = tt
-itself-rows (suc n) [] rest = itself-rows n [] rest
-itself-rows (suc n) (x ∷ xs) rest = rw (same-itself x) (itself-rows n xs rest)
+itself-findings : (n : ℕ) (xs : List (List ℕ)) (rest : List ℕ) → T (sameOrNeither n (findings n xs xs ++ rest))
+unfolding sameOrNeither findings findingOf bothFinding
+itself-findings zero xs rest = tt
+itself-findings (suc n) [] rest = itself-findings n [] rest
+itself-findings (suc n) (x ∷ xs) rest = rw (same-itself x) (itself-findings n xs rest)
 
-swapped-both : (n : ℕ) (xs ys rest : List ℕ) → swapped (suc n) (bothRow xs ys ++ rest) ≡ bothRow xs ys ++ swapped n rest
-unfolding swapped bothRow
-swapped-both n xs ys rest = step (same xs ys)
+swapped-both : (n : ℕ) (xs ys rest : List ℕ) → swapped (suc n) (bothFinding xs ys ++ rest) ≡ bothFinding xs ys ++ swapped n rest
+unfolding swapped bothFinding
+swapped-both n xs ys rest = step (sameBytes xs ys)
   where
-    step : (t : Bool) → swapped (suc n) ((if t then plainRow bothSame else (bothDiffer ∷ firstDifference xs ys ∷ differingBits xs ys ∷ [])) ++ rest) ≡ (if t then plainRow bothSame else (bothDiffer ∷ firstDifference xs ys ∷ differingBits xs ys ∷ [])) ++ swapped n rest
+    step : (t : Bool) → swapped (suc n) ((if t then plainFinding bothSame else (bothDiffer ∷ firstDifference xs ys ∷ differingBits xs ys ∷ [])) ++ rest) ≡ (if t then plainFinding bothSame else (bothDiffer ∷ firstDifference xs ys ∷ differingBits xs ys ∷ [])) ++ swapped n rest
     step true = refl
     step false = refl
 
-swapped-rows : (n : ℕ) (xs ys : List (List ℕ)) (rest : List ℕ) → rows n ys xs ++ rest ≡ swapped n (rows n xs ys ++ rest)
-unfolding swapped rows row
-swapped-rows zero xs ys rest = refl
-swapped-rows (suc n) [] [] rest = ap (λ (l : List ℕ). inNeither ∷ 0 ∷ 0 ∷ l) (swapped-rows n [] [] rest)
-swapped-rows (suc n) (x ∷ xs) [] rest = ap (λ (l : List ℕ). onlySecond ∷ 0 ∷ 0 ∷ l) (swapped-rows n xs [] rest)
-swapped-rows (suc n) [] (y ∷ ys) rest = ap (λ (l : List ℕ). onlyFirst ∷ 0 ∷ 0 ∷ l) (swapped-rows n [] ys rest)
-swapped-rows (suc n) (x ∷ xs) (y ∷ ys) rest =
-    append-assoc (bothRow y x) (rows n ys xs) rest
-    ∙ ap (λ (l : List ℕ). bothRow y x ++ l) (swapped-rows n xs ys rest)
-    ∙ ap (λ (l : List ℕ). l ++ swapped n (rows n xs ys ++ rest)) (both-swap y x)
-    ∙ sym (swapped-both n x y (rows n xs ys ++ rest))
-    ∙ ap (swapped (suc n)) (sym (append-assoc (bothRow x y) (rows n xs ys) rest))
+swapped-findings : (n : ℕ) (xs ys : List (List ℕ)) (rest : List ℕ) → findings n ys xs ++ rest ≡ swapped n (findings n xs ys ++ rest)
+unfolding swapped findings findingOf
+swapped-findings zero xs ys rest = refl
+swapped-findings (suc n) [] [] rest = ap (λ (l : List ℕ). inNeither ∷ 0 ∷ 0 ∷ l) (swapped-findings n [] [] rest)
+swapped-findings (suc n) (x ∷ xs) [] rest = ap (λ (l : List ℕ). onlySecond ∷ 0 ∷ 0 ∷ l) (swapped-findings n xs [] rest)
+swapped-findings (suc n) [] (y ∷ ys) rest = ap (λ (l : List ℕ). onlyFirst ∷ 0 ∷ 0 ∷ l) (swapped-findings n [] ys rest)
+swapped-findings (suc n) (x ∷ xs) (y ∷ ys) rest =
+    append-assoc (bothFinding y x) (findings n ys xs) rest
+    ∙ ap (λ (l : List ℕ). bothFinding y x ++ l) (swapped-findings n xs ys rest)
+    ∙ ap (λ (l : List ℕ). l ++ swapped n (findings n xs ys ++ rest)) (both-swap y x)
+    ∙ sym (swapped-both n x y (findings n xs ys ++ rest))
+    ∙ ap (swapped (suc n)) (sym (append-assoc (bothFinding x y) (findings n xs ys) rest))
 
 -- ---- the claims
 
@@ -125,7 +126,7 @@ with-itself layout bs slots area slots′ area′ report e =
     let a = accepted-call layout bs bs slots area slots′ area′ report e in
     let n : ℕ = slotCount (a .fs) in
     let rest : List ℕ = drop (reportWidth * n) report in
-    let t : T (sameOrNeither n (rows n (map areaBytes (a .vs)) (map areaBytes (a .ws)) ++ rest)) = rw (← one-reading layout bs slots area slots′ area′ (a .one) (a .two)) (itself-rows n (map areaBytes (a .vs)) rest) in
+    let t : T (sameOrNeither n (findings n (map areaBytes (a .vs)) (map areaBytes (a .ws)) ++ rest)) = rw (← one-reading layout bs slots area slots′ area′ (a .one) (a .two)) (itself-findings n (map areaBytes (a .vs)) rest) in
     rw (left layout bs bs slots area slots′ area′ report a) t
 
 pub other-way-round : OtherWayRound
@@ -134,4 +135,4 @@ other-way-round layout first second slots area slots′ area′ report e =
     let a = accepted-call layout first second slots area slots′ area′ report e in
     let b : Accepted layout second first slots′ area′ slots area report = record { vs = a .ws; ws = a .vs; fs = a .fs; one = a .two; two = a .one; fields = a .fields; fits = a .fits } in
     let n : ℕ = slotCount (a .fs) in
-    rw (left layout first second slots area slots′ area′ report a, left layout second first slots′ area′ slots area report b, swapped-rows n (map areaBytes (a .vs)) (map areaBytes (a .ws)) (drop (reportWidth * n) report))
+    rw (left layout first second slots area slots′ area′ report a, left layout second first slots′ area′ slots area report b, swapped-findings n (map areaBytes (a .vs)) (map areaBytes (a .ws)) (drop (reportWidth * n) report))

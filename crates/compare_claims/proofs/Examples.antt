@@ -1,4 +1,5 @@
--- The examples hold: one statement, which the checker computes. Then the theorems on one record each: their premises can be met.
+-- The examples hold: one statement, which the checker computes. Then the theorems on one record each: their premises
+-- can be met.
 use native.Mathlib.Omega.{arith}
 use mathlib.Core.List.{List, []}
 use mathlib.Core.Path.{_≡_, refl}
@@ -10,7 +11,7 @@ use Rattle.record.specs.Table.{slotWidth}
 use Rattle.compare.specs.Comparing.{Compared, compare}
 use Rattle.compare_claims.specs.Claims.{WithItself, sameOrNeither, OtherWayRound, otherWay}
 use Rattle.compare_claims.specs.Examples.{all, examples}
-use Rattle.compare_claims.specs.Verdicts.{Lent, compared, firstShown, secondShown}
+use Rattle.compare_claims.specs.Verdicts.{LentToCompare, compared, firstShown, secondShown}
 use Rattle.compare_claims.proofs.Claims.{with-itself, other-way-round}
 use Rattle.compare_claims.proofs.Verdicts.{verdicts-say}
 
@@ -40,7 +41,7 @@ unfolding OtherWayRound compare
 other-way = other-way-round layout (bytes "ab c") (bytes "ab") slots area slots area (replicate 9 7) refl
 
 -- the first field gets 0, so its slots show the same in both tables
-abbrev lent : Lent
+abbrev lent : LentToCompare
 lent = record {
   layout = layout;
   first = bytes "ab c";

@@ -1,5 +1,5 @@
--- An accepted comparing leaves what two readings leave, and its rows compare the bytes of the values that these set.
--- Values of one field are of one kind, so their slots show the same exactly where the bytes are the same.
+-- An accepted comparing leaves what two readings leave, and its findings compare the bytes of the values that these
+-- set. Values of one field are of one kind, so their slots show the same exactly where the bytes are the same.
 use Prim.Native.Nat.{ℕ, zero, suc, _+_, _-_, _*_, _≤_, _<_}
 use native.Mathlib.Nat.{not-suc-le-zero}
 use native.Mathlib.Omega.{arith}
@@ -10,8 +10,8 @@ use mathlib.Core.List.{List, [], _∷_, _++_, map, append-assoc}
 use lib.Dec.{eqb, leb}
 use lib.ListN.{length, take, drop, getD, length-map, drop-of-length-le}
 use lib.Seq.{drop-nil, drop-drop, drop-at, take-at}
-use Rattle.layout.specs.declared.Code.{Code}
-use Rattle.layout.specs.declared.Code.the-variants.{Data, Move}
+use Rattle.layout.specs.declared.Role.{Role}
+use Rattle.layout.specs.declared.Role.the-variants.{Data, Move}
 use Rattle.layout.specs.declared.Shape.{Shape}
 use Rattle.layout.specs.declared.Shape.the-variants.{Text, Digits, Integers, Reals}
 use Rattle.layout.specs.declared.Count.{Count}
@@ -29,18 +29,18 @@ use Rattle.record.proofs.Bytes.{All}
 use Rattle.record.proofs.Fields.{split}
 use Rattle.record.proofs.SlotLaws.{next-slot}
 use Rattle.runs.proofs.Told.{bytesIn, InBytes, numbers-bytes, shown-told}
-use Rattle.compare.specs.difference.{same, firstDifference, differingBits, reportWidth, bothSame, onlyFirst, onlySecond, inNeither, bothDiffer, plainRow, bothRow}
-use Rattle.compare.specs.report.Report.{row, rows}
+use Rattle.compare.specs.Difference.{sameBytes, firstDifference, differingBits, reportWidth, bothSame, onlyFirst, onlySecond, inNeither, bothDiffer, plainFinding, bothFinding}
+use Rattle.compare.specs.Report.{findingOf, findings}
 use Rattle.compare.specs.Comparing.{Compared, compareEffect}
 use Rattle.compare.proofs.Shown.{area-size, put-holds}
 use Rattle.compare.proofs.Calls.{accepted-reads, Accepted, accepted-call, left}
 use Rattle.compare_claims.specs.Claims.{SameIsEqual}
 use Rattle.compare_claims.proofs.Claims.{same-is-equal}
-use Rattle.compare_claims.specs.Verdicts.{Lent, compared, firstRead, secondRead, Readings, AsReadings, verdictAt, Says, VerdictsSay}
+use Rattle.compare_claims.specs.Verdicts.{LentToCompare, compared, firstRead, secondRead, Readings, AsReadings, verdictAt, Says, VerdictsSay}
 
 -- ---- the readings
 
-module _ (c : Lent) where
+module _ (c : LentToCompare) where
   abbrev Call : Type 0
   Call =
       Accepted (c .layout) (c .first) (c .second) (c .firstSlots) (c .firstArea) (c .secondSlots) (c .secondArea)
@@ -81,50 +81,50 @@ pub as-readings : AsReadings
 as-readings c z =
     readings c (accepts c z)
 
--- ---- the verdict of a row
+-- ---- the verdict of a finding
 
--- the first number of the row of the first of these values
+-- the first number of the finding of the first of these values
 verdictOf : List (List ℕ) → List (List ℕ) → ℕ
-unfolding same
+unfolding sameBytes
 verdictOf [] [] = inNeither
 verdictOf (x ∷ xs) [] = onlyFirst
 verdictOf [] (y ∷ ys) = onlySecond
-verdictOf (x ∷ xs) (y ∷ ys) = if same x y then bothSame else bothDiffer
+verdictOf (x ∷ xs) (y ∷ ys) = if sameBytes x y then bothSame else bothDiffer
 
-row-starts : (xs ys : List (List ℕ)) (rest : List ℕ)
-    → (p : ℕ) × (b : ℕ) × (row xs ys ++ rest ≡ verdictOf xs ys ∷ p ∷ b ∷ rest)
-unfolding row bothRow verdictOf
-row-starts [] [] rest = (0, 0, refl)
-row-starts (x ∷ xs) [] rest = (0, 0, refl)
-row-starts [] (y ∷ ys) rest = (0, 0, refl)
-row-starts (x ∷ xs) (y ∷ ys) rest = by-same (same x y)
+finding-starts : (xs ys : List (List ℕ)) (rest : List ℕ)
+    → (p : ℕ) × (b : ℕ) × (findingOf xs ys ++ rest ≡ verdictOf xs ys ∷ p ∷ b ∷ rest)
+unfolding findingOf bothFinding verdictOf
+finding-starts [] [] rest = (0, 0, refl)
+finding-starts (x ∷ xs) [] rest = (0, 0, refl)
+finding-starts [] (y ∷ ys) rest = (0, 0, refl)
+finding-starts (x ∷ xs) (y ∷ ys) rest = by-same (sameBytes x y)
   where
     different : List ℕ
     different = bothDiffer ∷ firstDifference x y ∷ differingBits x y ∷ []
 
     by-same : (t : Bool)
-        → (p : ℕ) × (b : ℕ) × ((if t then plainRow bothSame else different) ++ rest
+        → (p : ℕ) × (b : ℕ) × ((if t then plainFinding bothSame else different) ++ rest
         ≡ (if t then bothSame else bothDiffer) ∷ p ∷ b ∷ rest)
     by-same true = (0, 0, refl)
     by-same false = (firstDifference x y, differingBits x y, refl)
 
-verdict-row : (n : ℕ) (xs ys : List (List ℕ)) (rest : List ℕ) (i : ℕ) → i < n
-    → verdictAt (rows n xs ys ++ rest) i ≡ verdictOf (drop i xs) (drop i ys)
-unfolding rows
-verdict-row zero xs ys rest i h = absurd (not-suc-le-zero h)
-verdict-row (suc n) xs ys rest zero h =
-    let later : List ℕ = rows n (drop 1 xs) (drop 1 ys) ++ rest in
-    let (p, b, e) = row-starts xs ys later in
-    ap (λ (l : List ℕ). getD l 0 0) (append-assoc (row xs ys) (rows n (drop 1 xs) (drop 1 ys)) rest ∙ e)
-verdict-row (suc n) xs ys rest (suc i) h =
-    let later : List ℕ = rows n (drop 1 xs) (drop 1 ys) ++ rest in
-    let (p, b, e) = row-starts xs ys later in
+verdict-finding : (n : ℕ) (xs ys : List (List ℕ)) (rest : List ℕ) (i : ℕ) → i < n
+    → verdictAt (findings n xs ys ++ rest) i ≡ verdictOf (drop i xs) (drop i ys)
+unfolding findings
+verdict-finding zero xs ys rest i h = absurd (not-suc-le-zero h)
+verdict-finding (suc n) xs ys rest zero h =
+    let later : List ℕ = findings n (drop 1 xs) (drop 1 ys) ++ rest in
+    let (p, b, e) = finding-starts xs ys later in
+    ap (λ (l : List ℕ). getD l 0 0) (append-assoc (findingOf xs ys) (findings n (drop 1 xs) (drop 1 ys)) rest ∙ e)
+verdict-finding (suc n) xs ys rest (suc i) h =
+    let later : List ℕ = findings n (drop 1 xs) (drop 1 ys) ++ rest in
+    let (p, b, e) = finding-starts xs ys later in
     let on : reportWidth * suc i ≡ suc (suc (suc (reportWidth * i))) = omega arith in
-    let one : row xs ys ++ rows n (drop 1 xs) (drop 1 ys) ++ rest ≡ verdictOf xs ys ∷ p ∷ b ∷ later =
-    append-assoc (row xs ys) (rows n (drop 1 xs) (drop 1 ys)) rest ∙ e in
+    let one : findingOf xs ys ++ findings n (drop 1 xs) (drop 1 ys) ++ rest ≡ verdictOf xs ys ∷ p ∷ b ∷ later =
+    append-assoc (findingOf xs ys) (findings n (drop 1 xs) (drop 1 ys)) rest ∙ e in
     rw on
     (ap (λ (l : List ℕ). getD l (suc (suc (suc (reportWidth * i)))) 0) one
-    ∙ verdict-row n (drop 1 xs) (drop 1 ys) rest i (omega arith)
+    ∙ verdict-finding n (drop 1 xs) (drop 1 ys) rest i (omega arith)
     ∙ ap₂ verdictOf (next xs i) (next ys i))
   where
     next : (l : List (List ℕ)) (i : ℕ) → drop i (drop 1 l) ≡ drop (suc i) l
@@ -184,9 +184,9 @@ module _ (i m n : ℕ) (same-shown : Type 0) where
 
   -- both set: by their bytes
   both : (xs ys : List ℕ) → i < m → i < n → (xs ≡ ys) ↔ same-shown
-      → Says i m n same-shown (if same xs ys then bothSame else bothDiffer)
+      → Says i m n same-shown (if sameBytes xs ys then bothSame else bothDiffer)
   unfolding SameIsEqual
-  both xs ys h k e = by-bytes (same xs ys) (λ t. same-is-equal xs ys .0 t) (λ t. same-is-equal xs ys .1 t)
+  both xs ys h k e = by-bytes (sameBytes xs ys) (λ t. same-is-equal xs ys .0 t) (λ t. same-is-equal xs ys .1 t)
     where
       by-bytes : (t : Bool) → (t ≡ true → xs ≡ ys) → (xs ≡ ys → t ≡ true)
           → Says i m n same-shown (if t then bothSame else bothDiffer)
@@ -288,9 +288,9 @@ one-more v w vs ws false u e later i h k = absurd (not-suc-le-zero h)
 
 module _ (bs cs : List ℕ) where
   field-kind : (fs : List Field) → ((at to : ℕ) → SameKind (valuesFrom bs at fs) (valuesFrom cs to fs))
-      → (at to : ℕ) (k : Code) (u : Bool) (n : Count)
-      → SameKind (valuesFrom bs at (record { code = k; unsigned = u; count = n } ∷ fs))
-      (valuesFrom cs to (record { code = k; unsigned = u; count = n } ∷ fs))
+      → (at to : ℕ) (k : Role) (u : Bool) (n : Count)
+      → SameKind (valuesFrom bs at (record { role = k; unsigned = u; count = n } ∷ fs))
+      (valuesFrom cs to (record { role = k; unsigned = u; count = n } ∷ fs))
   unfolding valuesFrom
   field-kind fs ih at to (Data s) u n =
       let left : ℕ = length bs - at in
@@ -308,7 +308,7 @@ module _ (bs cs : List ℕ) where
   unfolding valuesFrom
   same-kind [] at to i h k = absurd (not-suc-le-zero h)
   same-kind (f ∷ fs) at to i h k =
-      field-kind fs (λ a b. same-kind fs a b) at to (f .code) (f .unsigned) (f .count) i h k
+      field-kind fs (λ a b. same-kind fs a b) at to (f .role) (f .unsigned) (f .count) i h k
 
 -- ---- the claim
 
@@ -349,7 +349,7 @@ values-are layout bs slots area vs fs e f =
     ap (valuesFrom bs 0) same-fields ∙ r .shown
 
 -- the bytes of two slots that were set by one field are the same exactly where the slots show the same
-module _ (c : Lent) (a : Call c) (i : ℕ) where
+module _ (c : LentToCompare) (a : Call c) (i : ℕ) where
   kinds : SameKind (a .vs) (a .ws)
   kinds =
       let vs : valuesFrom (c .first) 0 (a .fs) ≡ a .vs =
@@ -394,7 +394,7 @@ verdicts-say c z i inside =
     (c .report) a in
     let n : ℕ = slotCount (a .fs) in
     let fields : compared c .answer .first ≡ n = ap (λ (x : Compared). x .answer .first) is in
-    let row-is =
-    verdict-row n (map areaBytes (a .vs)) (map areaBytes (a .ws)) (drop (reportWidth * n) (c .report)) i
+    let finding-is =
+    verdict-finding n (map areaBytes (a .vs)) (map areaBytes (a .ws)) (drop (reportWidth * n) (c .report)) i
     (rw fields at inside) in
-    rw (is, first-is c a, second-is c a, row-is) (says (a .vs) (a .ws) i _ (shown-alike c a i))
+    rw (is, first-is c a, second-is c a, finding-is) (says (a .vs) (a .ws) i _ (shown-alike c a i))

@@ -11,8 +11,8 @@ use Rattle.record.specs.Table.{slotWidth}
 use Rattle.record.specs.Reading.{Read, read}
 use Rattle.compare.specs.Comparing.{compare}
 
--- Layout, the two copies, the slots lent to each, the bytes of each area, how many numbers the report has (sevens, as lent);
--- then the answer's three numbers and the report.
+-- Layout, the two copies, the slots lent to each, the bytes of each area, how many numbers the report has (sevens, as
+-- lent); then the answer's three numbers and the report.
 pub record Example : Type 0 where
   pub layout : List ℕ
   pub first : List ℕ
@@ -71,7 +71,7 @@ unfolding both
 examples =
     -- same; the rest of the report stays
     both "a3" (bytes "abc") (bytes "abc") (0 ∷ 1 ∷ 0 ∷ []) (0 ∷ 0 ∷ 0 ∷ replicate 7 7)
-    -- `c` and `d` differ in three bits: 01100011, 01100100; a move has no row
+    -- `c` and `d` differ in three bits: 01100011, 01100100; a move has no finding
     ∷ both "a2xa" (bytes "abxc") (bytes "abyd") (0 ∷ 2 ∷ 0 ∷ []) (0 ∷ 0 ∷ 0 ∷ 4 ∷ 0 ∷ 3 ∷ replicate 4 7)
     -- one begins the other: the shorter length, and no bit
     ∷ both "A*" (bytes "ab  ") (bytes "abc ") (0 ∷ 1 ∷ 0 ∷ []) (4 ∷ 2 ∷ 0 ∷ replicate 7 7)
@@ -82,7 +82,7 @@ examples =
     ∷ both "ca2" (1 ∷ []) (1 ∷ 65 ∷ 66 ∷ []) (0 ∷ 2 ∷ 0 ∷ []) (0 ∷ 0 ∷ 0 ∷ 2 ∷ 0 ∷ 0 ∷ replicate 4 7)
     -- an empty value is in both, or parts from another at 0
     ∷ both "a0s*" [] (65 ∷ []) (0 ∷ 2 ∷ 0 ∷ []) (0 ∷ 0 ∷ 0 ∷ 0 ∷ 0 ∷ 0 ∷ replicate 4 7)
-    -- no value field: no row, and the report may be empty
+    -- no value field: no finding, and the report may be empty
     ∷ both "x" [] [] (0 ∷ 0 ∷ 0 ∷ []) (replicate 10 7)
     -- a report with two numbers for one field; what reading the first and the second refuse comes before
     ∷ record { layout = bytes "c"; first = 1 ∷ []; second = []; slots = (1, 1); areas = (8, 0); numbers = 2; answer = 11 ∷ 0 ∷ 0 ∷ []; report = replicate 2 7 }

@@ -8,13 +8,13 @@ use lib.ListN.{getD}
 use Rattle.record.specs.Table.{Value, shown}
 use Rattle.record.specs.Slots.{slotAt}
 use Rattle.record.specs.Reading.{Read, read}
-use Rattle.compare.specs.difference.{reportWidth, bothSame, onlyFirst, onlySecond, inNeither, bothDiffer}
+use Rattle.compare.specs.Difference.{reportWidth, bothSame, onlyFirst, onlySecond, inNeither, bothDiffer}
 use Rattle.compare.specs.Comparing.{Compared, compare}
 
 -- ---- the calls
 
 -- what a comparing is lent
-pub record Lent : Type 0 where
+pub record LentToCompare : Type 0 where
   pub layout : List ℕ
   pub first : List ℕ
   pub second : List ℕ
@@ -24,22 +24,22 @@ pub record Lent : Type 0 where
   pub secondArea : List ℕ
   pub report : List ℕ
 
-abbrev pub compared : Lent → Compared
+abbrev pub compared : LentToCompare → Compared
 compared c =
     compare (c .layout) (c .first) (c .second) (c .firstSlots) (c .firstArea) (c .secondSlots) (c .secondArea)
     (c .report)
 
 -- the two readings
-abbrev pub firstRead : Lent → Read
+abbrev pub firstRead : LentToCompare → Read
 firstRead c = read (c .layout) (c .first) (c .firstSlots) (c .firstArea) 0
 
-abbrev pub secondRead : Lent → Read
+abbrev pub secondRead : LentToCompare → Read
 secondRead c = read (c .layout) (c .second) (c .secondSlots) (c .secondArea) 0
 
 -- ---- tables and areas
 
 -- both readings are accepted, and what they leave is what the comparing leaves
-pub record Readings (c : Lent) : Type 0 where
+pub record Readings (c : LentToCompare) : Type 0 where
   pub first-accepted : firstRead c .answer .number ≡ 0
   pub second-accepted : secondRead c .answer .number ≡ 0
   pub first-slots : compared c .firstSlots ≡ firstRead c .slots
@@ -48,11 +48,11 @@ pub record Readings (c : Lent) : Type 0 where
   pub second-area : compared c .secondArea ≡ secondRead c .area
 
 abbrev pub AsReadings : Type 0
-AsReadings = (c : Lent) → compared c .answer .number ≡ 0 → Readings c
+AsReadings = (c : LentToCompare) → compared c .answer .number ≡ 0 → Readings c
 
 -- ---- verdicts
 
--- the verdict on field number i: the first number of its row
+-- the verdict on field number i: the first number of its finding
 abbrev pub verdictAt : List ℕ → ℕ → ℕ
 verdictAt report i = getD report (reportWidth * i) 0
 
@@ -71,10 +71,10 @@ pub record Says (i m n : ℕ) (same : Type 0) (verdict : ℕ) : Type 0 where
   pub is-neither : (verdict ≡ inNeither) ↔ ((m ≤ i) × (n ≤ i))
   pub is-different : (verdict ≡ bothDiffer) ↔ ((i < m) × (i < n) × (same → ⊥))
 
--- So it is with every row, where "same" is that both slots show the same.
+-- Every finding has the verdict that `Says` gives it, where "same" is that both slots show the same.
 abbrev pub VerdictsSay : Type 0
 VerdictsSay =
-    (c : Lent) → compared c .answer .number ≡ 0 → (i : ℕ) → i < compared c .answer .first
+    (c : LentToCompare) → compared c .answer .number ≡ 0 → (i : ℕ) → i < compared c .answer .first
     → Says i (firstRead c .answer .first) (secondRead c .answer .first)
     (firstShown (compared c) i ≡ secondShown (compared c) i)
     (verdictAt (compared c .report) i)

@@ -1,16 +1,16 @@
 // The calls that a C host links to, each under its C name: the crates host_* hold what they do.
-ghost use Rattle.host_record.specs.pack.{HostPacks};
-ghost use Rattle.host_record.specs.read.Calls.{HostReads};
-ghost use Rattle.host_sheet.specs.write.{HostWritesSheet};
-ghost use Rattle.host_sheet.specs.read.{HostReadsSheet};
-ghost use Rattle.host_sheet.specs.damaged.{HostRescues};
+ghost use Rattle.host_record.specs.Packing.{HostPacks};
+ghost use Rattle.host_record.specs.Reading.{HostReads};
+ghost use Rattle.host_sheet.specs.Writing.{HostWritesSheet};
+ghost use Rattle.host_sheet.specs.Reading.{HostReadsSheet};
+ghost use Rattle.host_sheet.specs.Rescuing.{HostRescues};
 ghost use Rattle.host_compare.specs.Calls.{HostCompares};
 ghost use Rattle.host_mean.specs.Calls.{HostMeans};
-ghost use Rattle.host_layout.specs.templates.{HostConverts};
-ghost use Rattle.host_layout.specs.layouts.{HostDescribes};
-ghost use Rattle.host_layout.specs.rows.{HostLists};
+ghost use Rattle.host_layout.specs.Templates.{HostConverts};
+ghost use Rattle.host_layout.specs.Layouts.{HostDescribes};
+ghost use Rattle.host_layout.specs.Fields.{HostLists};
 ghost use Rattle.host_plans.specs.Calls.{HostPrepares, HostPacksPlan, HostReadsPlan};
-ghost use Rattle.host_layout.specs.theorems.{HostPromises, HostExtends};
+ghost use Rattle.host_layout.specs.Theorems.{HostPromises, HostExtends};
 ghost use Rattle.curlew.specs.Version.{version};
 ghost use mathlib.Core.Path.{_≡_};
 
@@ -122,7 +122,8 @@ pub extern "C" fn curlew_sheet_rescue(
     host_sheet::damaged::rescue(sheet, legs, slots, area, mark, reply)
 }
 
-// Reads two copies of a record by their layout, each into its own table and area, and says for each value field what differs.
+// Reads two copies of a record by their layout, each into its own table and area, and says for each value field what
+// differs.
 #[no_mangle]
 pub extern "C" fn curlew_compare(
     layout: &[u8],
@@ -135,7 +136,8 @@ pub extern "C" fn curlew_compare(
     report: &mut [u8],
     reply: &mut [u8],
 ) -> u32
-    ensures { λ r. ⌜ HostCompares layout first second «first_slots» «first_area» «second_slots» «second_area» report reply r ⌝ }
+    ensures { λ r. ⌜ HostCompares layout first second «first_slots» «first_area» «second_slots» «second_area» report
+        reply r ⌝ }
 {
     host_compare::compare(
         layout,

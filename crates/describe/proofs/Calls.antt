@@ -12,18 +12,19 @@ use Rattle.layout.specs.declared.Refusal.{Refusal}
 use Rattle.layout.specs.declared.Refusal.the-variants.{BadSize}
 use Rattle.layout.specs.Refusals.{if_then_else_, ok, refused}
 use Rattle.layout.specs.Layout.{maxLayout, takesSlot, fieldsOf, slotCount}
-use Rattle.layout.specs.Words.{fieldOf, decoded, FieldOf}
+use Rattle.layout.specs.Codes.{fieldOf}
+use Rattle.layout.specs.inside.Parsing.{decoded, FieldOf}
 use Rattle.layout.proofs.Laws.{AllSound, packed-reads}
-use Rattle.describe.proofs.placed.Counts.{AllCounted, counts-limited}
+use Rattle.describe.proofs.Counts.{AllCounted, counts-limited}
 use Rattle.layout.proofs.Decoded.{next-field, no-field}
 use Rattle.record.specs.declared.Answer.{Answer}
 use Rattle.record.specs.declared.Cursor.{Cursor}
-use Rattle.record.specs.Cursor.{origin}
+use Rattle.record.specs.inside.Cursor.{origin}
 use Rattle.record.specs.Packing.{accepted, refusal}
-use Rattle.pack_check.specs.measuring.{advance}
+use Rattle.pack_check.specs.inside.measuring.{advance}
 use Rattle.pack_check.proofs.measuring.Bounds.{advance-within}
 use Rattle.describe.specs.Description.{leastLength, fieldReach, layoutReach, described}
-use Rattle.describe.specs.Measure.{passed, Holds, Least}
+use Rattle.describe.specs.inside.Measure.{passed, Holds, Least}
 use Rattle.describe.proofs.Passing.{passed-length, advance-near}
 
 -- ---- the loop, in front of field i
@@ -52,16 +53,16 @@ module _ (n : ℕ) (ws : List ℕ) (h : Holds n ws) where
     pub passing-near : c .at < 1152921504606846976
     passing-near = omega (arith, p .within, p .near, p .few, h .few, h .room)
 
-    pub passing-next : i < n → (f : Field) → f ≡ fieldOf (getD ws i 0) → (d : Cursor) → d ≡ advance c (f .code) (f .count) 0 → Passing n ws (i + 1) d
+    pub passing-next : i < n → (f : Field) → f ≡ fieldOf (getD ws i 0) → (d : Cursor) → d ≡ advance c (f .role) (f .count) 0 → Passing n ws (i + 1) d
     unfolding passed
     passing-next l f found d e =
         let here : drop i (decoded n ws) ≡ f ∷ drop (i + 1) (decoded n ws) = rw found (next-field n ws (h .few) i l) in
         let sound : AllSound (f ∷ drop (i + 1) (decoded n ws)) = rw here at (p .sound) in
         let counted : AllCounted (f ∷ drop (i + 1) (decoded n ws)) = rw here at (p .counted) in
-        let one : d .end ≤ c .end + fieldReach = rw e (advance-near c (f .code) (f .count) (sound .0) (counted .0) (p .within)) in
+        let one : d .end ≤ c .end + fieldReach = rw e (advance-near c (f .role) (f .count) (sound .0) (counted .0) (p .within)) in
         record {
           few = omega arith;
-          within = rw e (advance-within c (f .code) (f .count) 0 (p .within));
+          within = rw e (advance-within c (f .role) (f .count) 0 (p .within));
           near = omega (arith, p .near);
           sound = sound .1;
           counted = counted .1;
@@ -81,7 +82,7 @@ module _ (n : ℕ) (ws : List ℕ) (h : Holds n ws) where
 pub slots-few : (fs : List Field) → slotCount fs ≤ length fs
 unfolding slotCount
 slots-few [] = omega arith
-slots-few (f ∷ fs) = step (takesSlot (f .code)) (slots-few fs)
+slots-few (f ∷ fs) = step (takesSlot (f .role)) (slots-few fs)
   where
     step : (t : Bool) → slotCount fs ≤ length fs → (if t then suc (slotCount fs) else slotCount fs) ≤ suc (length fs)
     step true h = omega arith

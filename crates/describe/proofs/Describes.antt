@@ -1,5 +1,5 @@
--- The proof of the claim: an accepted packing has passed every test, its pass over the fields ends at its length, and the pass with starred values empty is
--- never ahead of that.
+-- The proof of the claim: an accepted packing has passed every test, its pass over the fields ends at its length, and
+-- the pass with starred values empty is never ahead of that.
 use Prim.Native.Nat.{ℕ, _+_, _*_, _≤_}
 use native.Mathlib.Omega.{arith}
 use mathlib.Core.Path.{_≡_, refl, sym, ap, _∙_}
@@ -13,19 +13,19 @@ use Rattle.layout.specs.declared.Refusal.the-variants.{BadSize}
 use Rattle.layout.specs.Refusals.{Result, ok, refused, _>>=_, demand}
 use Rattle.layout.specs.Layout.{maxLayout, fieldsOf, slotCount}
 use Rattle.layout.proofs.Laws.{ok-inj, no-number-zero, packed-reads}
-use Rattle.describe.proofs.placed.Counts.{counts-limited, fields-few}
+use Rattle.describe.proofs.Counts.{counts-limited, fields-few}
 use Rattle.record.specs.declared.Answer.{Answer}
 use Rattle.record.specs.declared.Cursor.{Cursor}
 use Rattle.record.specs.Table.{slotsOf}
-use Rattle.record.specs.Cursor.{origin}
-use Rattle.record.specs.Packing.{start, cursorOf, packAll, packed, filled, accepted, packs, pack, packEffect, Packed}
+use Rattle.record.specs.inside.Cursor.{origin, cursorOf}
+use Rattle.record.specs.Packing.{start, packAll, packed, filled, accepted, packs, pack, packEffect, Packed}
 use Rattle.record.proofs.Sizes.{Sized, sized}
-use Rattle.pack_check.specs.measuring.{checked}
+use Rattle.pack_check.specs.inside.measuring.{argumentsChecked}
 use Rattle.pack_store.proofs.writing.RunLaws.{measured-as}
 use Rattle.runs.proofs.Calls.{Passed, packs-passed, accepted-result}
 use Rattle.describe.specs.Description.{leastLength, layoutReach, fieldReach, answerOf, described}
 use Rattle.describe.specs.Claim.{starsEmpty, starless, Packing, lengthOf, Describes}
-use Rattle.describe.specs.Measure.{passed}
+use Rattle.describe.specs.inside.Measure.{passed}
 use Rattle.describe.proofs.Passing.{passed-length, never-behind, just-there, starless-empty, passed-near}
 
 -- what a layout that fits answers
@@ -63,7 +63,7 @@ module _ (layout : List ℕ) where
     end : Cursor
     end = cursorOf (packAll start (filled (p .area) (slotsOf (p .slots)) fs))
 
-    pass : checked (p .area) 0 (slotsOf (p .slots)) fs origin ≡ ok end
+    pass : argumentsChecked (p .area) 0 (slotsOf (p .slots)) fs origin ≡ ok end
     unfolding fs end
     pass = measured-as (p .area) fs 0 (slotsOf (p .slots)) start (omega arith) ∙ rw (known p .tests .served)
 

@@ -1,11 +1,12 @@
--- The premises of the claim can be met: a packing by `a* Su2x`, whose starred value is empty, and one by `Su2x`, which has no star.
+-- The premises of the claim can be met: a packing by `a* Su2x`, whose starred value is empty, and one by `Su2x`, which
+-- has no star.
 use mathlib.Core.Path.{_≡_, refl}
 use mathlib.Core.Bool.{true, false}
 use mathlib.Core.List.{List, [], _∷_, _++_}
 use Prim.Native.Nat.{ℕ}
 use lib.ListN.{replicate}
 use lib.Dec.{T}
-use Rattle.layout.specs.declared.Code.the-variants.{Data, Move}
+use Rattle.layout.specs.declared.Role.the-variants.{Data, Move}
 use Rattle.layout.specs.declared.Motion.the-variants.{Skip}
 use Rattle.layout.specs.declared.Shape.the-variants.{Text, Integers}
 use Rattle.layout.specs.declared.Count.the-variants.{Absent, Star, Times}
@@ -29,10 +30,10 @@ unfolding pack
 plain = record { slots = 3 ∷ 0 ∷ 2 ∷ 9 ∷ []; area = integers; output = replicate 6 9; accepted = refl }
 
 abbrev fields : List Field
-fields = record { code = Data (Integers 2 true); unsigned = true; count = Times 2 } ∷ record { code = Move Skip; unsigned = false; count = Absent } ∷ []
+fields = record { role = Data (Integers 2 true); unsigned = true; count = Times 2 } ∷ record { role = Move Skip; unsigned = false; count = Absent } ∷ []
 
 abbrev starredFields : List Field
-starredFields = record { code = Data (Text 0); unsigned = false; count = Star } ∷ fields
+starredFields = record { role = Data (Text 0); unsigned = false; count = Star } ∷ fields
 
 have : (fieldsOf true (bytes "a* Su2x") ≡ ok starredFields) × (fieldsOf true (bytes "Su2x") ≡ ok fields)
 unfolding fieldsOf

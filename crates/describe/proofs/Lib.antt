@@ -3,3 +3,6 @@ pub mod Passing
 pub mod Describes
 mod Calls
 mod Instance
+pub mod Counts
+pub mod Places
+pub mod Spelled

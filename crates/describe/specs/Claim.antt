@@ -1,12 +1,12 @@
--- What a description has to do with packing: one claim about a layout and every packing by it that is accepted. The proof is in
--- proofs/Describes.antt.
+-- What a description has to do with packing: one claim about a layout and every packing by it that is accepted. The
+-- proof is in proofs/Describes.antt.
 use Prim.Native.Nat.{ℕ, _≤_}
 use mathlib.Core.Path.{_≡_}
 use mathlib.Core.Bool.{Bool, true, false, _&&_}
 use mathlib.Core.List.{List, [], _∷_}
 use lib.ListN.{length, drop}
 use lib.Dec.{T, eqb}
-use Rattle.layout.specs.declared.Code.the-variants.{Data, Move}
+use Rattle.layout.specs.declared.Role.the-variants.{Data, Move}
 use Rattle.layout.specs.declared.Count.{Count}
 use Rattle.layout.specs.declared.Count.the-variants.{Absent, Star, Times}
 use Rattle.layout.specs.declared.Field.{Field}
@@ -20,7 +20,7 @@ use Rattle.describe.specs.Description.{layoutReach, described}
 
 -- ---- starred values
 
--- a value of so many items is empty where its count is a star
+-- a value of `items` items is empty where its count is a star
 abbrev pub emptyStar : Count → ℕ → Bool
 emptyStar Absent items = true
 emptyStar Star items = eqb items 0
@@ -29,7 +29,7 @@ emptyStar (Times n) items = true
 -- every starred value is empty
 unfoldable pub starsEmpty : List Slot → List Field → Bool
 starsEmpty ts [] = true
-starsEmpty ts (f ∷ fs) = elim (f .code) [
+starsEmpty ts (f ∷ fs) = elim (f .role) [
   | Data s ↦ emptyStar (f .count) (nextSlot ts .len) && starsEmpty (drop 1 ts) fs
   | Move m ↦ starsEmpty ts fs
 ]
@@ -42,7 +42,7 @@ noStar (Times n) = true
 
 unfoldable pub starless : List Field → Bool
 starless [] = true
-starless (f ∷ fs) = elim (f .code) [ Data s ↦ noStar (f .count) && starless fs | Move m ↦ starless fs ]
+starless (f ∷ fs) = elim (f .role) [ Data s ↦ noStar (f .count) && starless fs | Move m ↦ starless fs ]
 
 -- ---- the claim
 
@@ -59,13 +59,15 @@ lengthOf {layout} p = pack layout (p .slots) (p .area) (p .output) .answer .firs
 pub record Describes (layout : List ℕ) (a : Answer) : Type 0 where
   -- a layout by which something is packed is described, not refused
   pub accepts : Packing layout → a .number ≡ 0
-  -- it takes the slots that were lent
+  -- the layout takes as many slots as the packing was lent
   pub slots : (p : Packing layout) → length (slotsOf (p .slots)) ≡ a .first
-  -- no record is shorter ..
+  -- no record is shorter than the answer says
   pub shortest : (p : Packing layout) → a .second ≤ lengthOf p
-  -- .. and where every starred value is empty, none is longer
-  pub emptied : (p : Packing layout) (fs : List Field) → fieldsOf true layout ≡ ok fs → T (starsEmpty (slotsOf (p .slots)) fs) → lengthOf p ≡ a .second
-  -- without stars all records have this length
-  pub fixed : (p : Packing layout) (fs : List Field) → fieldsOf true layout ≡ ok fs → T (starless fs) → lengthOf p ≡ a .second
-  -- a length keeps to a bound, so that the answer holds it
+  -- where every starred value is empty, the record has just the length that the answer says
+  pub emptied : (p : Packing layout) (fs : List Field) → fieldsOf true layout ≡ ok fs
+      → T (starsEmpty (slotsOf (p .slots)) fs) → lengthOf p ≡ a .second
+  -- without stars all records have the length that the answer says
+  pub fixed : (p : Packing layout) (fs : List Field) → fieldsOf true layout ≡ ok fs → T (starless fs)
+      → lengthOf p ≡ a .second
+  -- the length keeps to a bound, so that the answer holds it
   pub bounded : a .number ≡ 0 → a .second ≤ layoutReach

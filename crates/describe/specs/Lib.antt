@@ -1,6 +1,8 @@
--- What a layout says of the packings by it, what that has to do with them, and what the code computes.
+-- A layout before it is used: its slots and its shortest record (Description, with its Claim), its fields with their
+-- places (Placed, with the claim Places), and a row of numbers for each field (Rows).
 pub mod Description
 pub mod Claim
-pub mod Measure
-pub mod placed
-pub mod fields
+pub mod Placed
+pub mod Places
+pub mod Rows
+pub mod inside

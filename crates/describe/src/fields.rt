@@ -4,21 +4,21 @@
 ghost use mathlib.Core.Path.{_≡_};
 ghost use Prim.Native.Nat.{_+_, _*_, _≤_, _<_, max};
 ghost use lib.ListN.{length};
-ghost use Rattle.layout.specs.declared.Code.the-variants.{Data};
+ghost use Rattle.layout.specs.declared.Role.the-variants.{Data};
 ghost use Rattle.layout.specs.Lent.{before, after};
 ghost use Rattle.layout.specs.Layout.{maxLayout, takesSlot, toNat};
-ghost use Rattle.layout.specs.Words.{FitCode, FitCount};
+ghost use Rattle.layout.specs.inside.Parsing.{FitRole, FitCount};
 ghost use Rattle.record.specs.Bytes.{storeAt, bigEndian};
-ghost use Rattle.describe.specs.placed.Placed.{placedAt};
-ghost use Rattle.describe.specs.fields.Rows.{plus, highest, less, asked, bytesOf, filling, back, behind, onward, countNumber, slotNumber, number, rowOf, numberSize, rowSize, numbersOf, listed};
-ghost use Rattle.describe.specs.fields.Walk.{AtMost, layoutReach, Safe, Holds, Written};
+ghost use Rattle.describe.specs.inside.Texts.{placedAt};
+ghost use Rattle.describe.specs.Rows.{plus, highest, less, asked, extentOf, filling, back, positionAfter, onward, countShown, slotShown, numberShown, rowOf, numberSize, rowSize, rowNumbers, listed};
+ghost use Rattle.describe.specs.inside.Walk.{AtMost, layoutReach, Safe, Holds, Written};
 use byte_runs::big_endian;
-use layout::Code;
 use layout::Count;
 use layout::Field;
 use layout::Motion;
 use layout::Parsed;
 use layout::Refusal;
+use layout::Role;
 use layout::Shape;
 use layout::parser;
 use layout::scanner;
@@ -113,8 +113,8 @@ fn asked(n: Count, all: Extent) -> Extent
 }
 
 fn bytes_of(s: Shape, n: Extent) -> Extent
-    requires { ⌜ FitCode (Data s) × AtMost layoutReach n ⌝ }
-    ensures { λ r. ⌜ r ≡ bytesOf s n ⌝ }
+    requires { ⌜ FitRole (Data s) × AtMost layoutReach n ⌝ }
+    ensures { λ r. ⌜ r ≡ extentOf s n ⌝ }
 {
     match n {
         Extent::Fixed(m) => Extent::Fixed(sizes::bytes_for(s, m)),
@@ -123,13 +123,13 @@ fn bytes_of(s: Shape, n: Extent) -> Extent
 }
 
 // The bytes that a field fills.
-fn filling(k: Code, n: Count) -> Extent
-    requires { ⌜ FitCode k × FitCount n ⌝ }
+fn filling(k: Role, n: Count) -> Extent
+    requires { ⌜ FitRole k × FitCount n ⌝ }
     ensures { λ r. ⌜ r ≡ filling k n ⌝ }
 {
     match k {
-        Code::Data(s) => bytes_of(s, asked(n, Extent::Open)),
-        Code::Move(m) => match m {
+        Role::Data(s) => bytes_of(s, asked(n, Extent::Open)),
+        Role::Move(m) => match m {
             Motion::Skip => asked(n, Extent::Open),
             Motion::Back => Extent::Fixed(0),
             Motion::Goto => Extent::Fixed(0),
@@ -147,17 +147,17 @@ fn back(at: Extent, n: Count) -> Extent
     }
 }
 
-// The position behind a field.
-fn behind(t: Track, k: Code, n: Count) -> Extent
+// The position after a field.
+fn position_after(t: Track, k: Role, n: Count) -> Extent
     requires { ⌜ Safe k n t ⌝ }
-    ensures { λ r. ⌜ r ≡ behind t k n ⌝ }
+    ensures { λ r. ⌜ r ≡ positionAfter t k n ⌝ }
 {
     let at = t.at;
     let highest = t.highest;
     let forward = plus(at, filling(k, n));
     match k {
-        Code::Data(_s) => forward,
-        Code::Move(m) => match m {
+        Role::Data(_s) => forward,
+        Role::Move(m) => match m {
             Motion::Skip => forward,
             Motion::Back => back(at, n),
             Motion::Goto => asked(n, highest),
@@ -165,13 +165,13 @@ fn behind(t: Track, k: Code, n: Count) -> Extent
     }
 }
 
-// The track behind a field.
-fn onward(t: Track, k: Code, n: Count) -> Track
+// The track after a field.
+fn onward(t: Track, k: Role, n: Count) -> Track
     requires { ⌜ Safe k n t ⌝ }
     ensures { λ r. ⌜ r ≡ onward t k n ⌝ }
 {
     let before = t.highest;
-    let at = behind(t, k, n);
+    let at = position_after(t, k, n);
     let top = highest(before, at);
     Track {
         at: at,
@@ -183,7 +183,7 @@ fn onward(t: Track, k: Code, n: Count) -> Track
 
 fn count_number(n: Count) -> u32
     requires { ⌜ FitCount n ⌝ }
-    ensures { λ r. ⌜ r ≡ countNumber n ⌝ }
+    ensures { λ r. ⌜ r ≡ countShown n ⌝ }
 {
     match n {
         Count::Absent => NONE,
@@ -192,29 +192,29 @@ fn count_number(n: Count) -> u32
     }
 }
 
-// How many slots a type takes, and the number of the slot that a field takes before which so many are taken.
-fn taken(k: Code) -> usize
+// How many slots a role takes; and the number of the slot that a field takes, where `slot` slots are taken before it.
+fn taken(k: Role) -> usize
     ensures { λ r. ⌜ r ≡ toNat (takesSlot k) ⌝ }
 {
     match k {
-        Code::Data(_s) => 1,
-        Code::Move(_m) => 0,
+        Role::Data(_s) => 1,
+        Role::Move(_m) => 0,
     }
 }
 
-fn slot_number(k: Code, slot: usize) -> u32
+fn slot_number(k: Role, slot: usize) -> u32
     requires { ⌜ slot ≤ maxLayout ⌝ }
-    ensures { λ r. ⌜ r ≡ slotNumber k slot ⌝ }
+    ensures { λ r. ⌜ r ≡ slotShown k slot ⌝ }
 {
     match k {
-        Code::Data(_s) => slot as u32,
-        Code::Move(_m) => NONE,
+        Role::Data(_s) => slot as u32,
+        Role::Move(_m) => NONE,
     }
 }
 
 fn number(e: Extent) -> u32
     requires { ⌜ AtMost layoutReach e ⌝ }
-    ensures { λ r. ⌜ r ≡ number e ⌝ }
+    ensures { λ r. ⌜ r ≡ numberShown e ⌝ }
 {
     match e {
         Extent::Fixed(n) => n as u32,
@@ -230,10 +230,11 @@ fn bit(b: bool) -> u32
 
 // The row of the field f, whose type character stands at a place of the text.
 fn row_at(text: &[u8], at: usize, f: Field, slot: usize, t: Track) -> Row
-    requires { ⌜ (at < length (now text)) × (length (now text) ≤ maxLayout) × (slot ≤ maxLayout) × Safe (f .code) (f .count) t ⌝ }
+    requires { ⌜ (at < length (now text)) × (length (now text) ≤ maxLayout) × (slot ≤ maxLayout)
+        × Safe (f .role) (f .count) t ⌝ }
     ensures { λ r. ⌜ r ≡ rowOf slot t (placedAt (before text) at f) ⌝ }
 {
-    let k = f.code;
+    let k = f.role;
     let n = f.count;
     let begins = t.at;
     let tail = scanner::tail_at(text, at + 1);
@@ -267,7 +268,7 @@ fn put_numbers(out: &mut [u8], at: usize, numbers: &[u32])
 
 fn put_row(out: &mut [u8], at: usize, r: Row)
     requires { ⌜ at + rowSize ≤ length (now out) ⌝ }
-    ensures { λ _. ⌜ after out ≡ storeAt (before out) at (bigEndian numberSize (numbersOf r)) ⌝ }
+    ensures { λ _. ⌜ after out ≡ storeAt (before out) at (bigEndian numberSize (rowNumbers r)) ⌝ }
 {
     let eight: [u32; 8] = [
         r.place,
@@ -282,9 +283,9 @@ fn put_row(out: &mut [u8], at: usize, r: Row)
     put_numbers(out, at, &eight);
 }
 
-// Writes the rows of a text's fields; the words are the fields.
-fn put_rows(text: &[u8], words: &[u32], n: usize, out: &mut [u8])
-    requires { ⌜ Holds (now text) n (now words) × (n * rowSize ≤ length (now out)) ⌝ }
+// Writes the rows of a text's fields; the codes are the fields.
+fn put_rows(text: &[u8], codes: &[u32], n: usize, out: &mut [u8])
+    requires { ⌜ Holds (now text) n (now codes) × (n * rowSize ≤ length (now out)) ⌝ }
     ensures { λ _. ⌜ Written (before text) (before out) (after out) ⌝ }
 {
     let mut t = Track {
@@ -299,8 +300,8 @@ fn put_rows(text: &[u8], words: &[u32], n: usize, out: &mut [u8])
         if c == b' ' {
             at += 1;
         } else {
-            let f = layout::field_of(words[i]);
-            let k = f.code;
+            let f = layout::field_of(codes[i]);
+            let k = f.role;
             let m = f.count;
             let r = row_at(text, at, f, slot, t);
             put_row(out, i * ROW_SIZE, r);
@@ -323,8 +324,8 @@ pub fn fields(layout: &[u8], out: &mut [u8]) -> Answer
     if layout::MAX_LAYOUT < layout.len() {
         return Answer::refused(Refusal::BadSize, 0);
     }
-    let mut words: [u32; layout::MAX_LAYOUT] = [0; layout::MAX_LAYOUT];
-    let p = parser::parse(layout, false, &mut words);
+    let mut codes: [u32; layout::MAX_LAYOUT] = [0; layout::MAX_LAYOUT];
+    let p = parser::parse(layout, false, &mut codes);
     match p {
         Parsed::Refused(why, place) => Answer::refused(why, place as u32),
         Parsed::Fields(n, _slots) => {
@@ -332,7 +333,7 @@ pub fn fields(layout: &[u8], out: &mut [u8]) -> Answer
                 return Answer::refused(Refusal::NoRoom, 0);
             }
             let count = n as u32;
-            put_rows(layout, &words, n, out);
+            put_rows(layout, &codes, n, out);
             Answer::accepted(count, 0)
         }
     }

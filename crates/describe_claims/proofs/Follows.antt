@@ -8,8 +8,8 @@ use mathlib.Core.List.{List, [], _∷_, map}
 use mathlib.Core.Logic.{_⊎_, inl, inr}
 use lib.ListN.{length, drop, replicate, length-replicate}
 use lib.Dec.{T}
-use Rattle.layout.specs.declared.Code.{Code}
-use Rattle.layout.specs.declared.Code.the-variants.{Data, Move}
+use Rattle.layout.specs.declared.Role.{Role}
+use Rattle.layout.specs.declared.Role.the-variants.{Data, Move}
 use Rattle.layout.specs.declared.Motion.the-variants.{Skip, Back, Goto}
 use Rattle.layout.specs.declared.Count.{Count}
 use Rattle.layout.specs.declared.Count.the-variants.{Absent, Star, Times}
@@ -20,20 +20,21 @@ use Rattle.layout.proofs.Laws.{bound}
 use Rattle.record.specs.Table.{shown}
 use Rattle.record.specs.declared.Cursor.{Cursor}
 use Rattle.record.specs.declared.slots.Slot.{Slot}
-use Rattle.layout.specs.Words.{slotsTaken}
+use Rattle.layout.specs.Layout.{slotsTaken}
 use Rattle.record.specs.Geometry.{amount, bytesFor}
-use Rattle.record.specs.Packing.{Run, cursorOf, stored, packOne, Filled, nextSlot, argumentFits, argumentsFit, filled}
+use Rattle.record.specs.Packing.{Run, stored, packOne, Filled, nextSlot, argumentFits, argumentsFit, filled}
+use Rattle.record.specs.inside.Cursor.{cursorOf}
 use Rattle.record.proofs.Fields.{Served, length-stored}
 use Rattle.record.proofs.Moves.{Within, cursor-store, cursor-goto, pack-within}
-use Rattle.runs.specs.Ends.{plainCode}
-use Rattle.pack_check.specs.measuring.{advance}
+use Rattle.runs.specs.Ends.{plainRole}
+use Rattle.pack_check.specs.inside.measuring.{advance}
 use Rattle.pack_check.proofs.arguments.ArgumentLaws.{Checked, checked-argument}
 use Rattle.pack_store.proofs.stores.StoreLaws.{length-shown, served}
 use Rattle.describe.specs.declared.fields.Extent.{Extent}
 use Rattle.describe.specs.declared.fields.Extent.the-variants.{Fixed, Open}
 use Rattle.describe.specs.declared.fields.Track.{Track}
-use Rattle.describe.specs.placed.Placed.{Placed, fieldsIn}
-use Rattle.describe.specs.fields.Rows.{plus, highest, less, asked, filling, back, onward, none, number, rowOf, rowsFrom}
+use Rattle.describe.specs.Placed.{Placed, fieldsIn}
+use Rattle.describe.specs.Rows.{plus, highest, less, asked, filling, back, onward, none, numberShown, rowOf, rowsFrom}
 use Rattle.describe_claims.specs.Claim.{Met, AllMet}
 
 -- a number that is fixed is this one
@@ -65,12 +66,12 @@ is-asked Absent all x h = refl
 is-asked Star all x h = h
 is-asked (Times n) all x h = refl
 
--- the bytes that a field fills where its value has so many items
-abbrev pub fillsOf : Code → Count → ℕ → ℕ
+-- the bytes that a field fills where its value has `have` items
+abbrev pub fillsOf : Role → Count → ℕ → ℕ
 fillsOf (Data s) n have = bytesFor s (amount n have)
 fillsOf (Move m) n have = amount n 0
 
-is-filling : (k : Code) (n : Count) (have : ℕ) → T (plainCode k) → Is (filling k n) (fillsOf k n have)
+is-filling : (k : Role) (n : Count) (have : ℕ) → T (plainRole k) → Is (filling k n) (fillsOf k n have)
 is-filling (Data s) Absent have h = refl
 is-filling (Data s) Star have h = tt
 is-filling (Data s) (Times n) have h = refl
@@ -84,14 +85,14 @@ abbrev pub Follows : Track → Cursor → Type 0
 Follows t c = Is (t .at) (c .at) × Is (t .highest) (c .end)
 
 module _ (t : Track) (c : Cursor) (n : Count) (h : Follows t c) where
-  forward : (k : Code) (have : ℕ) → T (plainCode k) → Is (plus (t .at) (filling k n)) (c .at + fillsOf k n have)
+  forward : (k : Role) (have : ℕ) → T (plainRole k) → Is (plus (t .at) (filling k n)) (c .at + fillsOf k n have)
   forward k have l = is-plus (t .at) (filling k n) (c .at) (fillsOf k n have) (h .0) (is-filling k n have l)
 
   -- the highest position, where the cursor goes on to y
   up : (b : Extent) (y : ℕ) → Is b y → Is (highest (t .highest) b) (max (c .end) y)
   up b y k = is-highest (t .highest) b (c .end) y (h .1) k
 
-  pub follows-on : (k : Code) (have : ℕ) → c .at ≤ c .end → Follows (onward t k n) (advance c k n have)
+  pub follows-on : (k : Role) (have : ℕ) → c .at ≤ c .end → Follows (onward t k n) (advance c k n have)
   follows-on (Data s) have w = let there = forward (Data s) have tt in (there, up _ _ there)
   follows-on (Move Skip) have w = let there = forward (Move Skip) have tt in (there, up _ _ there)
   follows-on (Move Back) have w =
@@ -105,11 +106,11 @@ module _ (t : Track) (c : Cursor) (n : Count) (h : Follows t c) where
 -- ---- the cursor of the run is that of the passes
 
 -- the items serve their field
-abbrev pub ServedBy : Code → Count → List ℕ → Type 0
+abbrev pub ServedBy : Role → Count → List ℕ → Type 0
 ServedBy (Data s) n xs = Served s (amount n (length xs)) xs
 ServedBy (Move m) n xs = Unit {0}
 
-pub packs-on : (r : Run) (k : Code) (n : Count) (xs : List ℕ) → Within r → ServedBy k n xs
+pub packs-on : (r : Run) (k : Role) (n : Count) (xs : List ℕ) → Within r → ServedBy k n xs
     → cursorOf (packOne r k n xs) ≡ advance (cursorOf r) k n (length xs)
 unfolding packOne
 packs-on r (Data s) n xs w h =
@@ -123,21 +124,21 @@ packs-on r (Move Goto) n xs w h = cursor-goto r n
 
 -- a field with its argument's items
 abbrev pub Serves : Filled → Type 0
-Serves f = ServedBy (f .field .code) (f .field .count) (f .items)
+Serves f = ServedBy (f .field .role) (f .field .count) (f .items)
 
 abbrev pub AllServe : List Filled → Type 0
 AllServe [] = Unit {0}
 AllServe (f ∷ fs) = Serves f × AllServe fs
 
-fixed-or : (a : Extent) (x : ℕ) → Is a x → (number a ≡ none) ⊎ (number a ≡ x)
+fixed-or : (a : Extent) (x : ℕ) → Is a x → (numberShown a ≡ none) ⊎ (numberShown a ≡ x)
 fixed-or (Fixed a) x h = inr h
 fixed-or Open x h = inl refl
 
-fixed-sum : (a : Extent) (x y z : ℕ) → Is a x → y ≡ z + x → (number a ≡ none) ⊎ (y ≡ z + number a)
+fixed-sum : (a : Extent) (x y z : ℕ) → Is a x → y ≡ z + x → (numberShown a ≡ none) ⊎ (y ≡ z + numberShown a)
 fixed-sum (Fixed a) x y z h e = inr (omega arith)
 fixed-sum Open x y z h e = inl refl
 
-goes-by : (c : Cursor) (k : Code) (n : Count) (have : ℕ) → T (plainCode k)
+goes-by : (c : Cursor) (k : Role) (n : Count) (have : ℕ) → T (plainRole k)
     → advance c k n have .at ≡ c .at + fillsOf k n have
 goes-by c (Data s) n have h = refl
 goes-by c (Move Skip) n have h = refl
@@ -146,21 +147,21 @@ goes-by c (Move Goto) n have h = absurd h
 
 module _ (r : Run) (f : Filled) (w : Within r) (s : Serves f) where
   abbrev pub next : Run
-  next = packOne r (f .field .code) (f .field .count) (f .items)
+  next = packOne r (f .field .role) (f .field .count) (f .items)
 
   pub next-within : Within next
-  next-within = pack-within r (f .field .code) (f .field .count) (f .items) w
+  next-within = pack-within r (f .field .role) (f .field .count) (f .items) w
 
   pub next-follows : (t : Track) → Follows t (cursorOf r)
-      → Follows (onward t (f .field .code) (f .field .count)) (cursorOf next)
+      → Follows (onward t (f .field .role) (f .field .count)) (cursorOf next)
   next-follows t h =
-      subst (Follows (onward t (f .field .code) (f .field .count))) (sym (packs-on r (f .field .code) (f .field .count) (f .items) w s))
-      (follows-on t (cursorOf r) (f .field .count) h (f .field .code) (length (f .items)) w)
+      subst (Follows (onward t (f .field .role) (f .field .count))) (sym (packs-on r (f .field .role) (f .field .count) (f .items) w s))
+      (follows-on t (cursorOf r) (f .field .count) h (f .field .role) (length (f .items)) w)
 
-  further : T (plainCode (f .field .code))
-      → (number (filling (f .field .code) (f .field .count)) ≡ none) ⊎ (next .at ≡ r .at + number (filling (f .field .code) (f .field .count)))
+  further : T (plainRole (f .field .role))
+      → (numberShown (filling (f .field .role) (f .field .count)) ≡ none) ⊎ (next .at ≡ r .at + numberShown (filling (f .field .role) (f .field .count)))
   further l =
-      let k : Code = f .field .code in
+      let k : Role = f .field .role in
       let n : Count = f .field .count in
       let by : next .at ≡ r .at + fillsOf k n (length (f .items)) =
       ap (λ (c : Cursor). c .at) (packs-on r k n (f .items) w s) ∙ goes-by (cursorOf r) k n (length (f .items)) l in
@@ -182,9 +183,9 @@ all-met (p ∷ ps) [] k t r e s w h = let z : _≡_ {A = ℕ} 0 1 = cc in absurd
 all-met (p ∷ ps) (f ∷ fs) k t r e s w h =
     let first : f .field ≡ p .what = cc in
     let rest : fieldsOn fs ≡ fieldsIn ps = cc in
-    let on : Follows (onward t (p .what .code) (p .what .count)) (cursorOf (next r f w (s .0))) = rw (← first) (next-follows r f w (s .0) t h) in (
+    let on : Follows (onward t (p .what .role) (p .what .count)) (cursorOf (next r f w (s .0))) = rw (← first) (next-follows r f w (s .0) t h) in (
       one-met r f w (s .0) k t p first h,
-      all-met ps fs (k + slotsTaken (p .what)) (onward t (p .what .code) (p .what .count)) (next r f w (s .0)) rest (s .1) (next-within r f w (s .0)) on,
+      all-met ps fs (k + slotsTaken (p .what)) (onward t (p .what .role) (p .what .count)) (next r f w (s .0)) rest (s .1) (next-within r f w (s .0)) on,
     )
 
 -- ---- the arguments of an accepted packing serve their fields
@@ -193,13 +194,13 @@ module _ (area : List ℕ) where
   pub fields-filled : (fs : List Field) (ts : List Slot) → fieldsOn (filled area ts fs) ≡ fs
   unfolding filled
   fields-filled [] ts = refl
-  fields-filled (f ∷ fs) ts = step (f .code) (f .unsigned) (f .count) (λ us. fields-filled fs us)
+  fields-filled (f ∷ fs) ts = step (f .role) (f .unsigned) (f .count) (λ us. fields-filled fs us)
     where
-      step : (c : Code) (u : Bool) (n : Count) → ((us : List Slot) → fieldsOn (filled area us fs) ≡ fs)
-          → fieldsOn (filled area ts (record { code = c; unsigned = u; count = n } ∷ fs)) ≡ record { code = c; unsigned = u; count = n } ∷ fs
+      step : (c : Role) (u : Bool) (n : Count) → ((us : List Slot) → fieldsOn (filled area us fs) ≡ fs)
+          → fieldsOn (filled area ts (record { role = c; unsigned = u; count = n } ∷ fs)) ≡ record { role = c; unsigned = u; count = n } ∷ fs
       step (Data s) u n ih =
-          ap (λ (gs : List Field). record { code = Data s; unsigned = u; count = n } ∷ gs) (ih (drop 1 ts))
-      step (Move m) u n ih = ap (λ (gs : List Field). record { code = Move m; unsigned = u; count = n } ∷ gs) (ih ts)
+          ap (λ (gs : List Field). record { role = Data s; unsigned = u; count = n } ∷ gs) (ih (drop 1 ts))
+      step (Move m) u n ih = ap (λ (gs : List Field). record { role = Move m; unsigned = u; count = n } ∷ gs) (ih ts)
 
   served-items : (s : Shape) (n : Count) (i : ℕ) (t : Slot) → argumentFits area s n i t ≡ ok tt
       → ServedBy (Data s) n (shown area t .items)
@@ -211,12 +212,12 @@ module _ (area : List ℕ) where
       → AllServe (filled area ts fs)
   unfolding argumentsFit filled
   all-serve [] i ts e = tt
-  all-serve (f ∷ fs) i ts e = step (f .code) (f .unsigned) (f .count) (λ j us k. all-serve fs j us k) e
+  all-serve (f ∷ fs) i ts e = step (f .role) (f .unsigned) (f .count) (λ j us k. all-serve fs j us k) e
     where
-      step : (c : Code) (u : Bool) (n : Count)
+      step : (c : Role) (u : Bool) (n : Count)
           → ((j : ℕ) (us : List Slot) → argumentsFit area j us fs ≡ ok tt → AllServe (filled area us fs))
-          → argumentsFit area i ts (record { code = c; unsigned = u; count = n } ∷ fs) ≡ ok tt
-          → AllServe (filled area ts (record { code = c; unsigned = u; count = n } ∷ fs))
+          → argumentsFit area i ts (record { role = c; unsigned = u; count = n } ∷ fs) ≡ ok tt
+          → AllServe (filled area ts (record { role = c; unsigned = u; count = n } ∷ fs))
       step (Data s) u n ih k =
           let (x, k₁, k₂) =
           bound (argumentFits area s n i (nextSlot ts)) (λ _. argumentsFit area (suc i) (drop 1 ts) fs) tt k in

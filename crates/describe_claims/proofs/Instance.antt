@@ -6,7 +6,7 @@ use mathlib.Core.Bool.{true, false}
 use mathlib.Core.List.{List, [], _∷_, _++_}
 use lib.ListN.{replicate}
 use lib.Dec.{T}
-use Rattle.layout.specs.declared.Code.the-variants.{Data, Move}
+use Rattle.layout.specs.declared.Role.the-variants.{Data, Move}
 use Rattle.layout.specs.declared.Motion.the-variants.{Skip}
 use Rattle.layout.specs.declared.Shape.the-variants.{Text, Integers}
 use Rattle.layout.specs.declared.Count.the-variants.{Absent, Times}
@@ -16,34 +16,34 @@ use Rattle.record.specs.Packing.{pack}
 use Rattle.runs.specs.Ends.{endOf}
 use Rattle.describe.specs.Claim.{Packing, starless}
 use Rattle.evolution.specs.Claim.{plain}
-use Rattle.describe.specs.placed.Placed.{Placed, placedFields}
-use Rattle.describe_claims.specs.Claim.{Taken, fieldsBy, Packs}
+use Rattle.describe.specs.Placed.{Placed, placedFields}
+use Rattle.describe_claims.specs.Claim.{Taken, fieldsTaken, PackedToo}
 
 abbrev three : List Placed
 three =
-    record { what = record { code = Data (Text 32); unsigned = false; count = Times 2 }; place = 0; letter = 65; size = 2 }
-    ∷ record { what = record { code = Move Skip; unsigned = false; count = Absent }; place = 3; letter = 120; size = 1 }
-    ∷ record { what = record { code = Data (Integers 2 true); unsigned = true; count = Absent }; place = 4; letter = 83; size = 2 }
+    record { what = record { role = Data (Text 32); unsigned = false; count = Times 2 }; place = 0; letter = 65; size = 2 }
+    ∷ record { what = record { role = Move Skip; unsigned = false; count = Absent }; place = 3; letter = 120; size = 1 }
+    ∷ record { what = record { role = Data (Integers 2 true); unsigned = true; count = Absent }; place = 4; letter = 83; size = 2 }
     ∷ []
 
 taken : Taken (bytes "A2 xSu")
 unfolding placedFields
 taken = record { placed = three; short = omega arith; has-fields = refl }
 
-packs : Packs taken
+packs : PackedToo taken
 unfolding taken fieldsOf
 packs = refl
 
-is-plain : T (plain (fieldsBy taken))
+is-plain : T (plain (fieldsTaken taken))
 unfolding taken plain
 is-plain = tt
 
-no-star : T (starless (fieldsBy taken))
+no-star : T (starless (fieldsTaken taken))
 unfolding taken starless
 no-star = tt
 
 -- its fields fill five bytes
-ends : endOf (fieldsBy taken) ≡ 5
+ends : endOf (fieldsTaken taken) ≡ 5
 unfolding taken endOf
 ends = refl
 

@@ -7,29 +7,28 @@ use mathlib.Core.Bool.{true, _&&_, true≢false}
 use mathlib.Core.List.{List, [], _∷_}
 use lib.Dec.{T, eqb, ltb}
 use borrow.Author.Tests.{lt-ltb, leb-true}
-use Rattle.layout.specs.declared.Code.{Code}
-use Rattle.layout.specs.declared.Code.the-variants.{Data, Move}
+use Rattle.layout.specs.declared.Role.{Role}
+use Rattle.layout.specs.declared.Role.the-variants.{Data, Move}
 use Rattle.layout.specs.declared.Motion.the-variants.{Skip, Back, Goto}
 use Rattle.layout.specs.declared.Count.{Count}
 use Rattle.layout.specs.declared.Count.the-variants.{Absent, Star, Times}
 use Rattle.layout.specs.declared.Field.{Field}
 use Rattle.layout.specs.Refusals.{if_then_else_}
-use Rattle.layout.specs.Layout.{maxCount, inLimit, hasMeaning}
-use Rattle.layout.specs.Words.{slotsTaken}
+use Rattle.layout.specs.Layout.{maxCount, inLimit, hasMeaning, slotsTaken}
 use Rattle.record.specs.declared.Cursor.{Cursor}
-use Rattle.pack_check.specs.measuring.{advance}
+use Rattle.pack_check.specs.inside.measuring.{advance}
 use Rattle.pack_check.proofs.measuring.Bounds.{advance-within}
 use Rattle.describe.specs.Claim.{noStar, starless}
-use Rattle.record.specs.Cursor.{origin}
+use Rattle.record.specs.inside.Cursor.{origin}
 use Rattle.record.proofs.Bytes.{both}
 use Rattle.describe.specs.Description.{leastLength}
-use Rattle.describe.specs.Measure.{passed}
+use Rattle.describe.specs.inside.Measure.{passed}
 use Rattle.describe.proofs.Passing.{passed-length}
-use Rattle.describe.specs.placed.Placed.{Placed, fieldsIn}
-use Rattle.describe.proofs.placed.Counts.{AllKept}
+use Rattle.describe.specs.Placed.{Placed, fieldsIn}
+use Rattle.describe.proofs.Counts.{AllKept}
 use Rattle.describe.specs.declared.fields.Extent.the-variants.{Fixed}
 use Rattle.describe.specs.declared.fields.Track.{Track}
-use Rattle.describe.specs.fields.Rows.{filling, onward, star, countNumber, number, rowOf, rowsFrom, rowsOf}
+use Rattle.describe.specs.Rows.{filling, onward, star, countShown, numberShown, rowOf, rowsFrom, rowsOf}
 use Rattle.describe_claims.specs.Claim.{reach, furthest}
 use Rattle.describe_claims.proofs.Letters.{isGoto, AllLetters}
 
@@ -40,14 +39,14 @@ abbrev fixedAt : Cursor → Track
 fixedAt c = record { at = Fixed (c .at); highest = Fixed (c .end) }
 
 -- a value without a star
-abbrev Unstarred : Code → Count → Type 0
+abbrev Unstarred : Role → Count → Type 0
 Unstarred (Data s) n = T (noStar n)
 Unstarred (Move m) n = Unit {0}
 
 same-track : {a b x y : ℕ} → a ≡ b → x ≡ y → _≡_ {A = Track} (record { at = Fixed a; highest = Fixed x }) (record { at = Fixed b; highest = Fixed y })
 same-track e f = cc
 
-fixed-on : (c : Cursor) (k : Code) (n : Count) → c .at ≤ c .end → Unstarred k n → hasMeaning true k n ≡ true
+fixed-on : (c : Cursor) (k : Role) (n : Count) → c .at ≤ c .end → Unstarred k n → hasMeaning true k n ≡ true
     → onward (fixedAt c) k n ≡ fixedAt (advance c k n 0)
 fixed-on c (Data s) Absent w u m = refl
 fixed-on c (Data s) Star w u m = absurd u
@@ -66,10 +65,10 @@ fixed-on c (Move Goto) n w u m = moved n
     moved (Times n) = refl
 
 -- how far a field reaches, by its type
-abbrev reachOf : Cursor → Code → Count → ℕ
-reachOf c k n = if isGoto k && ltb (countNumber n) star then countNumber n else (c .at + number (filling k n))
+abbrev reachOf : Cursor → Role → Count → ℕ
+reachOf c k n = if isGoto k && ltb (countShown n) star then countShown n else (c .at + numberShown (filling k n))
 
-reach-on : (c : Cursor) (k : Code) (n : Count) → c .at ≤ c .end → Unstarred k n → inLimit n ≡ true
+reach-on : (c : Cursor) (k : Role) (n : Count) → c .at ≤ c .end → Unstarred k n → inLimit n ≡ true
     → hasMeaning true k n ≡ true → max (c .end) (reachOf c k n) ≡ advance c k n 0 .end
 reach-on c (Data s) Absent w u l m = refl
 reach-on c (Data s) Star w u l m = absurd u
@@ -85,11 +84,11 @@ reach-on c (Move Goto) (Times n) w u l m = rw (lt-ltb n star (omega (arith, leb-
 -- ---- all fields
 
 starless-split : (f : Field) (fs : List Field) → T (starless (f ∷ fs))
-    → Unstarred (f .code) (f .count) × T (starless fs)
+    → Unstarred (f .role) (f .count) × T (starless fs)
 unfolding starless
-starless-split f fs h = step (f .code) h
+starless-split f fs h = step (f .role) h
   where
-    step : (k : Code) → T (elim k [ Data s ↦ noStar (f .count) && starless fs | Move m ↦ starless fs ])
+    step : (k : Role) → T (elim k [ Data s ↦ noStar (f .count) && starless fs | Move m ↦ starless fs ])
         → Unstarred k (f .count) × T (starless fs)
     step (Data s) h = both (noStar (f .count)) (starless fs) h
     step (Move m) h = (tt, h)
@@ -102,15 +101,15 @@ reach-far [] k c w s l y = omega arith
 reach-far (p ∷ ps) k c w s l y =
     let f : Field = p .what in
     let (u, rest) = starless-split f (fieldsIn ps) s in
-    let d : Cursor = advance c (f .code) (f .count) 0 in
-    let letter : eqb (p .letter) 64 ≡ isGoto (f .code) = y .0 .goto in
-    let here : reach (rowOf k (fixedAt c) p) ≡ reachOf c (f .code) (f .count) = rw letter in
-    let one : max (c .end) (reachOf c (f .code) (f .count)) ≡ d .end =
-    reach-on c (f .code) (f .count) w u (l .0 .0) (l .0 .1) in
-    let on : onward (fixedAt c) (f .code) (f .count) ≡ fixedAt d = fixed-on c (f .code) (f .count) w u (l .0 .1) in
+    let d : Cursor = advance c (f .role) (f .count) 0 in
+    let letter : eqb (p .letter) 64 ≡ isGoto (f .role) = y .0 .goto in
+    let here : reach (rowOf k (fixedAt c) p) ≡ reachOf c (f .role) (f .count) = rw letter in
+    let one : max (c .end) (reachOf c (f .role) (f .count)) ≡ d .end =
+    reach-on c (f .role) (f .count) w u (l .0 .0) (l .0 .1) in
+    let on : onward (fixedAt c) (f .role) (f .count) ≡ fixedAt d = fixed-on c (f .role) (f .count) w u (l .0 .1) in
     let ih : max (d .end) (furthest (rowsFrom (k + slotsTaken f) (fixedAt d) ps)) ≡ passed d (fieldsIn ps) .end =
-    reach-far ps (k + slotsTaken f) d (advance-within c (f .code) (f .count) 0 w) rest (l .1) (y .1) in
-    rw (here, on) (three (c .end) (reachOf c (f .code) (f .count)) _ (d .end) _ one ih)
+    reach-far ps (k + slotsTaken f) d (advance-within c (f .role) (f .count) 0 w) rest (l .1) (y .1) in
+    rw (here, on) (three (c .end) (reachOf c (f .role) (f .count)) _ (d .end) _ one ih)
   where
     three : (a b x d y : ℕ) → max a b ≡ d → max d x ≡ y → max a (max b x) ≡ y
     three a b x d y e f = omega arith

@@ -7,27 +7,27 @@ use mathlib.Core.Bool.{Bool, true, false}
 use mathlib.Core.List.{List, [], _∷_}
 use lib.Dec.{eqb, ltb}
 use borrow.Author.Tests.{eqb-true, ltb-true}
-use Rattle.layout.specs.declared.Code.{Code}
-use Rattle.layout.specs.declared.Code.the-variants.{Data, Move}
+use Rattle.layout.specs.declared.Role.{Role}
+use Rattle.layout.specs.declared.Role.the-variants.{Data, Move}
 use Rattle.layout.specs.declared.Motion.the-variants.{Skip, Back, Goto}
 use Rattle.layout.specs.declared.Typed.{Typed}
 use Rattle.layout.specs.declared.Typed.the-variants.{Known, Unknown}
 use Rattle.layout.specs.Refusals.{if_then_else_}
 use Rattle.layout.specs.Layout.{typeOf}
-use Rattle.layout.specs.Words.{FitCode}
+use Rattle.layout.specs.inside.Parsing.{FitRole}
 use Rattle.layout.proofs.Laws.{AllSound}
-use Rattle.describe.specs.placed.Placed.{Placed, fieldsIn}
-use Rattle.describe.specs.placed.Claim.{MadeOf}
+use Rattle.describe.specs.Placed.{Placed, fieldsIn}
+use Rattle.describe.specs.Places.{MadeOf}
 
-abbrev pub isGoto : Code → Bool
+abbrev pub isGoto : Role → Bool
 isGoto (Data s) = false
 isGoto (Move Skip) = false
 isGoto (Move Back) = false
 isGoto (Move Goto) = true
 
-pub record Letter (c : ℕ) (k : Code) : Type 0 where
+pub record Letter (c : ℕ) (k : Role) : Type 0 where
   pub goto : eqb c 64 ≡ isGoto k
-  pub fit : FitCode k
+  pub fit : FitRole k
   pub small : c < 128
 
 -- ---- letter by letter
@@ -37,7 +37,7 @@ Told c (Known k) = Letter c k
 Told c Unknown = Unit {0}
 
 module _ (c : ℕ) where
-  other : (n : ℕ) (k : Code) (rest : Typed) → ltb n 128 ≡ true → eqb n 64 ≡ isGoto k → FitCode k → Told c rest
+  other : (n : ℕ) (k : Role) (rest : Typed) → ltb n 128 ≡ true → eqb n 64 ≡ isGoto k → FitRole k → Told c rest
       → Told c (if eqb c n then Known k else rest)
   other n k rest l g f h = go (eqb c n) refl
     where
@@ -74,20 +74,20 @@ module _ (c : ℕ) where
       last true e = record { goto = e; fit = tt; small = let same : c ≡ 64 = eqb-true c 64 e in omega arith }
       last false e = tt
 
-  letter-told : (k : Code) → typeOf c ≡ Known k → Letter c k
+  letter-told : (k : Role) → typeOf c ≡ Known k → Letter c k
   letter-told k e = rw e at letter
 
 -- ---- all fields
 
 abbrev pub AllLetters : List Placed → Type 0
 AllLetters [] = Unit {0}
-AllLetters (p ∷ ps) = Letter (p .letter) (p .what .code) × AllLetters ps
+AllLetters (p ∷ ps) = Letter (p .letter) (p .what .role) × AllLetters ps
 
 pub made-letters : (packing : Bool) (text : List ℕ) (at : ℕ) (ps : List Placed) → MadeOf packing text at ps
     → AllLetters ps
 made-letters packing text at [] m = tt
 made-letters packing text at (p ∷ ps) m =
-    (letter-told (p .letter) (p .what .code) (m .0 .type), made-letters packing text (p .place + p .size) ps (m .1))
+    (letter-told (p .letter) (p .what .role) (m .0 .type), made-letters packing text (p .place + p .size) ps (m .1))
 
 pub letters-sound : (ps : List Placed) → AllLetters ps → AllSound (fieldsIn ps)
 letters-sound [] h = tt

@@ -8,31 +8,32 @@ use mathlib.Core.Bool.{true, false, true≢false}
 use mathlib.Core.List.{List, [], _∷_}
 use lib.ListN.{length, replicate, length-replicate}
 use borrow.Author.Tests.{leb-true}
-use Rattle.layout.specs.declared.Code.{Code}
-use Rattle.layout.specs.declared.Code.the-variants.{Data, Move}
+use Rattle.layout.specs.declared.Role.{Role}
+use Rattle.layout.specs.declared.Role.the-variants.{Data, Move}
 use Rattle.layout.specs.declared.Motion.the-variants.{Skip, Back, Goto}
 use Rattle.layout.specs.declared.Shape.{Shape}
 use Rattle.layout.specs.declared.Shape.the-variants.{Text, Digits, Integers, Reals}
 use Rattle.layout.specs.declared.Count.{Count}
 use Rattle.layout.specs.declared.Count.the-variants.{Absent, Star, Times}
 use Rattle.layout.specs.declared.Field.{Field}
-use Rattle.layout.specs.Layout.{maxLayout, maxCount, inLimit, hasMeaning}
-use Rattle.layout.specs.Words.{FitCode, slotsTaken}
+use Rattle.layout.specs.Layout.{maxLayout, maxCount, inLimit, hasMeaning, slotsTaken}
+use Rattle.layout.specs.inside.Parsing.{FitRole}
 use Rattle.layout.proofs.Laws.{AllSound}
 use Rattle.record.specs.declared.Cursor.{Cursor}
 use Rattle.record.specs.Geometry.{amount, bytesFor}
-use Rattle.record.specs.Packing.{Run, start, cursorOf, packOne}
+use Rattle.record.specs.Packing.{Run, start, packOne}
+use Rattle.record.specs.inside.Cursor.{cursorOf}
 use Rattle.record.proofs.Stores.{add-run}
 use Rattle.record.proofs.Moves.{Within, pack-within}
-use Rattle.pack_check.specs.measuring.{advance}
+use Rattle.pack_check.specs.inside.measuring.{advance}
 use Rattle.describe.specs.Description.{fewest, fieldReach, layoutReach}
 use Rattle.describe.proofs.Passing.{served-fewest, advance-near}
-use Rattle.describe.specs.placed.Placed.{Placed, fieldsIn}
-use Rattle.describe.proofs.placed.Counts.{Kept, AllKept}
+use Rattle.describe.specs.Placed.{Placed, fieldsIn}
+use Rattle.describe.proofs.Counts.{Kept, AllKept}
 use Rattle.describe.specs.declared.fields.Extent.{Extent}
 use Rattle.describe.specs.declared.fields.Extent.the-variants.{Fixed, Open}
 use Rattle.describe.specs.declared.fields.Track.{Track}
-use Rattle.describe.specs.fields.Rows.{plus, highest, less, filling, behind, onward, origin, none, number, rowsFrom, rowsOf}
+use Rattle.describe.specs.Rows.{plus, highest, less, filling, positionAfter, onward, trackStart, none, numberShown, rowsFrom, rowsOf}
 use Rattle.describe_claims.specs.Claim.{_⇔_, having, Decided, manyItems}
 use Rattle.describe_claims.proofs.Follows.{Is, Follows, follows-on, ServedBy, packs-on}
 
@@ -43,17 +44,17 @@ amount-again Absent many = refl
 amount-again Star many = refl
 amount-again (Times n) many = refl
 
-zeros-serve : (k : Code) (n : Count) (many : ℕ) → ServedBy k n (replicate (amount n many) 48)
+zeros-serve : (k : Role) (n : Count) (many : ℕ) → ServedBy k n (replicate (amount n many) 48)
 zeros-serve (Data s) n many =
     let m : ℕ = amount n many in
     rw (length-replicate {A = ℕ} m 48, amount-again n many) (served-fewest s m)
 zeros-serve (Move m) n many = tt
 
-advance-again : (c : Cursor) (k : Code) (n : Count) (many : ℕ) → advance c k n (amount n many) ≡ advance c k n many
+advance-again : (c : Cursor) (k : Role) (n : Count) (many : ℕ) → advance c k n (amount n many) ≡ advance c k n many
 advance-again c (Data s) n many = rw (amount-again n many)
 advance-again c (Move m) n many = refl
 
-zeros-on : (r : Run) (k : Code) (n : Count) (many : ℕ) → Within r
+zeros-on : (r : Run) (k : Role) (n : Count) (many : ℕ) → Within r
     → cursorOf (packOne r k n (replicate (amount n many) 48)) ≡ advance (cursorOf r) k n many
 zeros-on r k n many w =
     packs-on r k n (replicate (amount n many) 48) w (zeros-serve k n many)
@@ -64,7 +65,7 @@ zeros-on r k n many w =
 abbrev far : ℕ
 far = 2 * layoutReach + 1
 
--- a number that is open is far, but for so many bytes that the fields before may have taken off
+-- a number that is open is far, but for `off` bytes that the fields before may have taken off
 abbrev Far : ℕ → Extent → ℕ → Type 0
 Far off (Fixed n) x = Unit {0}
 Far off Open x = far ≤ x + off
@@ -83,8 +84,8 @@ far-highest off (Fixed a) (Fixed b) x y h k = tt
 far-highest off (Fixed a) Open x y h k = omega arith
 far-highest off Open b x y h k = omega arith
 
--- so many items fill far more bytes
-far-items : (s : Shape) (many : ℕ) → FitCode (Data s) → manyItems ≤ many → far ≤ bytesFor s many
+-- `many` items fill far more bytes
+far-items : (s : Shape) (many : ℕ) → FitRole (Data s) → manyItems ≤ many → far ≤ bytesFor s many
 far-items (Text pad) many f h = omega arith
 far-items (Digits true high) many f h = omega arith
 far-items (Digits false high) many f h = omega arith
@@ -92,7 +93,7 @@ far-items (Integers w big) many f h = let one : many * 1 ≤ many * w = mul-le-m
 far-items (Reals true big) many f h = omega arith
 far-items (Reals false big) many f h = omega arith
 
-far-filling : (off : ℕ) (s : Shape) (n : Count) (many : ℕ) → FitCode (Data s) → manyItems ≤ many
+far-filling : (off : ℕ) (s : Shape) (n : Count) (many : ℕ) → FitRole (Data s) → manyItems ≤ many
     → Far off (filling (Data s) n) (bytesFor s (amount n many))
 far-filling off s Absent many f h = tt
 far-filling off s Star many f h = omega (arith, far-items s many f h)
@@ -114,8 +115,8 @@ module _ (off : ℕ) (t : Track) (c : Cursor) (h : FarOff off t c) (many : ℕ) 
   at-more : Far more (t .at) (c .at)
   at-more = far-more off more (t .at) (c .at) (c .at) (omega arith) (h .0)
 
-  behind-far : (k : Code) (n : Count) → FitCode k → inLimit n ≡ true → hasMeaning true k n ≡ true
-      → Far more (behind t k n) (advance c k n many .at)
+  behind-far : (k : Role) (n : Count) → FitRole k → inLimit n ≡ true → hasMeaning true k n ≡ true
+      → Far more (positionAfter t k n) (advance c k n many .at)
   behind-far (Data s) n f l m =
       far-plus more (t .at) (filling (Data s) n) (c .at) (bytesFor s (amount n many)) at-more (far-filling more s n many f enough)
   behind-far (Move Skip) Absent f l m = far-plus more (t .at) (Fixed 1) (c .at) 1 at-more tt
@@ -129,21 +130,21 @@ module _ (off : ℕ) (t : Track) (c : Cursor) (h : FarOff off t c) (many : ℕ) 
   behind-far (Move Goto) (Times n) f l m = tt
 
   -- the highest position is no lower than the one before and than the new one
-  end-over : (k : Code) (n : Count) → c .at ≤ c .end → max (c .end) (advance c k n many .at) ≤ advance c k n many .end
+  end-over : (k : Role) (n : Count) → c .at ≤ c .end → max (c .end) (advance c k n many .at) ≤ advance c k n many .end
   end-over (Data s) n w = omega arith
   end-over (Move Skip) n w = omega arith
   end-over (Move Back) n w = omega arith
   end-over (Move Goto) n w = omega arith
 
-  onward-far : (k : Code) (n : Count) → c .at ≤ c .end → FitCode k → inLimit n ≡ true → hasMeaning true k n ≡ true
+  onward-far : (k : Role) (n : Count) → c .at ≤ c .end → FitRole k → inLimit n ≡ true → hasMeaning true k n ≡ true
       → FarOff more (onward t k n) (advance c k n many)
   onward-far k n w f l m =
-      let there : Far more (behind t k n) (advance c k n many .at) = behind-far k n f l m in
+      let there : Far more (positionAfter t k n) (advance c k n many .at) = behind-far k n f l m in
       let before : Far more (t .highest) (c .end) =
       far-more off more (t .highest) (c .end) (c .end) (omega arith) (h .1) in
-      let top : Far more (highest (t .highest) (behind t k n)) (max (c .end) (advance c k n many .at)) =
-      far-highest more (t .highest) (behind t k n) (c .end) (advance c k n many .at) before there in
-      (there, far-more more more (highest (t .highest) (behind t k n)) _ _ (omega (arith, end-over k n w)) top)
+      let top : Far more (highest (t .highest) (positionAfter t k n)) (max (c .end) (advance c k n many .at)) =
+      far-highest more (t .highest) (positionAfter t k n) (c .end) (advance c k n many .at) before there in
+      (there, far-more more more (highest (t .highest) (positionAfter t k n)) _ _ (omega (arith, end-over k n w)) top)
 
 -- ---- all fields
 
@@ -157,15 +158,15 @@ record Apart (i : ℕ) (t : Track) (r q : Run) : Type 0 where
   far-off : FarOff (i * fieldReach) t (cursorOf q)
 
 told : (a : Extent) (i x y : ℕ) → i ≤ maxLayout → x ≤ i * fieldReach → Is a x → Is a y → Far (i * fieldReach) a y
-    → (number a ≡ none) ⇔ (x ≡ y → ⊥)
+    → (numberShown a ≡ none) ⇔ (x ≡ y → ⊥)
 told (Fixed a) i x y few low h k f = (λ e. absurd (omega arith), λ z. absurd (z (sym h ∙ k)))
 told Open i x y few low h k f = (λ e z. omega arith, λ z. refl)
 
 module _ (many : ℕ) (enough : manyItems ≤ many) where
-  apart-next : (i : ℕ) (t : Track) (r q : Run) → Apart i t r q → (f : Field) → FitCode (f .code) → Kept true f
-      → Apart (i + 1) (onward t (f .code) (f .count)) (packOne r (f .code) (f .count) (fewest f .items)) (packOne q (f .code) (f .count) (having many f .items))
+  apart-next : (i : ℕ) (t : Track) (r q : Run) → Apart i t r q → (f : Field) → FitRole (f .role) → Kept true f
+      → Apart (i + 1) (onward t (f .role) (f .count)) (packOne r (f .role) (f .count) (fewest f .items)) (packOne q (f .role) (f .count) (having many f .items))
   apart-next i t r q a f fit kept =
-      let k : Code = f .code in
+      let k : Role = f .role in
       let n : Count = f .count in
       let c : Cursor = cursorOf r in
       let d : Cursor = cursorOf q in
@@ -189,13 +190,13 @@ module _ (many : ℕ) (enough : manyItems ≤ many) where
   all-decided [] i k t r q a few s l = tt
   all-decided (p ∷ ps) i k t r q a few s l = (
     told (t .at) i (r .at) (q .at) (omega arith) (omega (arith, a .low, a .r-within)) (a .r-follows .0) (a .q-follows .0) (a .far-off .0),
-    all-decided ps (i + 1) (k + slotsTaken (p .what)) (onward t (p .what .code) (p .what .count)) _ _ (apart-next i t r q a (p .what) (s .0) (l .0)) (omega arith) (s .1) (l .1),
+    all-decided ps (i + 1) (k + slotsTaken (p .what)) (onward t (p .what .role) (p .what .count)) _ _ (apart-next i t r q a (p .what) (s .0) (l .0)) (omega arith) (s .1) (l .1),
   )
 
   pub rows-decided : (ps : List Placed) → length ps ≤ maxLayout → AllSound (fieldsIn ps) → AllKept true (fieldsIn ps)
       → Decided many start start (fieldsIn ps) (rowsOf ps)
   unfolding rowsOf
   rows-decided ps few s l =
-      let at-start : Apart 0 origin start start =
+      let at-start : Apart 0 trackStart start start =
       record { low = omega arith; r-within = omega arith; q-within = omega arith; r-follows = (refl, refl); q-follows = (refl, refl); far-off = (tt, tt) } in
-      all-decided ps 0 0 origin start start at-start (omega arith) s l
+      all-decided ps 0 0 trackStart start start at-start (omega arith) s l

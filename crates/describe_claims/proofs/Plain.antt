@@ -11,8 +11,8 @@ use mathlib.Core.List.{List, [], _∷_}
 use lib.ListN.{length, take, length-map}
 use lib.Dec.{T, leb}
 use borrow.Author.Tests.{ne-eqb, le-leb, lt-leb, leb-true}
-use Rattle.layout.specs.declared.Code.{Code}
-use Rattle.layout.specs.declared.Code.the-variants.{Data, Move}
+use Rattle.layout.specs.declared.Role.{Role}
+use Rattle.layout.specs.declared.Role.the-variants.{Data, Move}
 use Rattle.layout.specs.declared.Motion.the-variants.{Skip, Back, Goto}
 use Rattle.layout.specs.declared.Count.{Count}
 use Rattle.layout.specs.declared.Count.the-variants.{Absent, Star, Times}
@@ -23,36 +23,36 @@ use Rattle.record.specs.Geometry.{amount, bytesFor, itemsIn}
 use Rattle.record.specs.Reading.{positionsFrom}
 use Rattle.record.proofs.Bytes.{both}
 use Rattle.record.proofs.Fields.{fills-some, split}
-use Rattle.runs.specs.Ends.{plainCode, plainCount, fills, endOf}
+use Rattle.runs.specs.Ends.{plainRole, plainCount, fills, endOf}
 use Rattle.runs.specs.OneRun.{run}
 use Rattle.runs.proofs.Calls.{T→true}
 use Rattle.evolution.specs.Claim.{plain, startsFrom}
-use Rattle.describe.specs.placed.Placed.{Placed, fieldsIn}
+use Rattle.describe.specs.Placed.{Placed, fieldsIn}
 use Rattle.describe.specs.declared.fields.Extent.{Extent}
 use Rattle.describe.specs.declared.fields.Extent.the-variants.{Fixed}
 use Rattle.describe.specs.declared.fields.Track.{Track}
-use Rattle.describe.specs.fields.Rows.{none, filling, onward, origin, rowsFrom, rowsOf}
-use Rattle.describe_claims.specs.Claim.{takers, slotNumbers, positions, countUp}
+use Rattle.describe.specs.Rows.{none, filling, onward, trackStart, rowsFrom, rowsOf}
+use Rattle.describe_claims.specs.Claim.{takers, slotsShown, positions, countUp}
 
 -- ---- slots
 
 slots-from : (ps : List Placed) (k : ℕ) (t : Track) → k + length ps ≤ maxLayout
-    → slotNumbers (rowsFrom k t ps) ≡ countUp k (slotCount (fieldsIn ps))
+    → slotsShown (rowsFrom k t ps) ≡ countUp k (slotCount (fieldsIn ps))
 unfolding rowsFrom takers countUp slotCount
 slots-from [] k t few = refl
-slots-from (p ∷ ps) k t few = step (p .what .code) refl (λ j u l. slots-from ps j u l)
+slots-from (p ∷ ps) k t few = step (p .what .role) refl (λ j u l. slots-from ps j u l)
   where
-    step : (c : Code) → p .what .code ≡ c
-        → ((j : ℕ) (u : Track) → j + length ps ≤ maxLayout → slotNumbers (rowsFrom j u ps) ≡ countUp j (slotCount (fieldsIn ps)))
-        → slotNumbers (rowsFrom k t (p ∷ ps)) ≡ countUp k (slotCount (fieldsIn (p ∷ ps)))
+    step : (c : Role) → p .what .role ≡ c
+        → ((j : ℕ) (u : Track) → j + length ps ≤ maxLayout → slotsShown (rowsFrom j u ps) ≡ countUp j (slotCount (fieldsIn ps)))
+        → slotsShown (rowsFrom k t (p ∷ ps)) ≡ countUp k (slotCount (fieldsIn (p ∷ ps)))
     step (Data s) e ih =
         rw (e, ne-eqb k none (λ z. omega arith), add-one) (ap (λ (xs : List ℕ). k ∷ xs) (ih (suc k) (onward t (Data s) (p .what .count)) (omega arith)))
     step (Move m) e ih = rw (e, add-zero) (ih k (onward t (Move m) (p .what .count)) (omega arith))
 
 pub rows-slots : (ps : List Placed) → length ps ≤ maxLayout
-    → slotNumbers (rowsOf ps) ≡ countUp 0 (slotCount (fieldsIn ps))
+    → slotsShown (rowsOf ps) ≡ countUp 0 (slotCount (fieldsIn ps))
 unfolding rowsOf
-rows-slots ps few = slots-from ps 0 origin (omega arith)
+rows-slots ps few = slots-from ps 0 trackStart (omega arith)
 
 length-up : (k n : ℕ) → length (countUp k n) ≡ n
 unfolding countUp
@@ -66,14 +66,14 @@ rows-taken ps few =
 -- ---- a plain field
 
 -- how far it goes, in packing and in reading
-abbrev Plain : Code → Count → Type 0
+abbrev Plain : Role → Count → Type 0
 Plain (Data s) n =
     (filling (Data s) n ≡ Fixed (fills (Data s) n)) × (0 < amount n 0) × ((all : ℕ) → amount n all ≡ amount n 0)
 Plain (Move Skip) n = (filling (Move Skip) n ≡ Fixed (fills (Move Skip) n)) × ((all : ℕ) → amount n all ≡ amount n 0)
 Plain (Move Back) n = ⊥
 Plain (Move Goto) n = ⊥
 
-plain-field : (k : Code) (n : Count) → T (plainCode k) → T (plainCount n) → Plain k n
+plain-field : (k : Role) (n : Count) → T (plainRole k) → T (plainCount n) → Plain k n
 unfolding fills
 plain-field (Data s) Absent h l = (refl, omega arith, λ all. refl)
 plain-field (Data s) Star h l = absurd l
@@ -86,15 +86,15 @@ plain-field (Move Goto) n h l = absurd h
 
 abbrev AllPlain : List Field → Type 0
 AllPlain [] = Unit {0}
-AllPlain (f ∷ fs) = Plain (f .code) (f .count) × AllPlain fs
+AllPlain (f ∷ fs) = Plain (f .role) (f .count) × AllPlain fs
 
 pub all-plain : (fs : List Field) → T (plain fs) → AllPlain fs
 unfolding plain
 all-plain [] h = tt
 all-plain (f ∷ fs) h =
-    let (own, others) = both (plainCode (f .code) && plainCount (f .count)) (plain fs) h in
-    let (code, count) = both (plainCode (f .code)) (plainCount (f .count)) own in
-    (plain-field (f .code) (f .count) code count, all-plain fs others)
+    let (own, others) = both (plainRole (f .role) && plainCount (f .count)) (plain fs) h in
+    let (role, count) = both (plainRole (f .role)) (plainCount (f .count)) own in
+    (plain-field (f .role) (f .count) role count, all-plain fs others)
 
 -- ---- positions
 
@@ -102,8 +102,8 @@ abbrev Begin : List Placed → Type 0
 Begin ps =
     (k a : ℕ) (h : Extent) → k + length ps ≤ maxLayout → AllPlain (fieldsIn ps) → positions (rowsFrom k (record { at = Fixed a; highest = h }) ps) ≡ startsFrom a (fieldsIn ps)
 
-begin-step : (ps : List Placed) → Begin ps → (c : Code) (u : Bool) (n : Count) (place letter size : ℕ)
-    → Begin (record { what = record { code = c; unsigned = u; count = n }; place = place; letter = letter; size = size } ∷ ps)
+begin-step : (ps : List Placed) → Begin ps → (c : Role) (u : Bool) (n : Count) (place letter size : ℕ)
+    → Begin (record { what = record { role = c; unsigned = u; count = n }; place = place; letter = letter; size = size } ∷ ps)
 unfolding rowsFrom takers startsFrom fills
 begin-step ps ih (Data s) u n place letter size k a h few l =
     rw (ne-eqb k none (λ z. omega arith), l .0 .0) (ap (λ (xs : List ℕ). a ∷ xs) (ih (k + 1) (a + fills (Data s) n) _ (omega arith) (l .1)))
@@ -116,7 +116,7 @@ begin : (ps : List Placed) → Begin ps
 unfolding rowsFrom takers startsFrom
 begin [] k a h few l = refl
 begin (p ∷ ps) k a h few l =
-    begin-step ps (begin ps) (p .what .code) (p .what .unsigned) (p .what .count) (p .place) (p .letter) (p .size) k a h few l
+    begin-step ps (begin ps) (p .what .role) (p .what .unsigned) (p .what .count) (p .place) (p .letter) (p .size) k a h few l
 
 pub rows-begin : (ps : List Placed) → length ps ≤ maxLayout → T (plain (fieldsIn ps))
     → positions (rowsOf ps) ≡ startsFrom 0 (fieldsIn ps)
@@ -128,7 +128,7 @@ rows-begin ps few h = begin ps 0 0 (Fixed 0) (omega arith) (all-plain (fieldsIn 
 abbrev Whole : ℕ → List Field → Type 0
 Whole size fs = (at : ℕ) → at + endOf fs ≤ size → AllPlain fs → positionsFrom size at fs ≡ startsFrom at fs
 
-whole-step : (size : ℕ) (fs : List Field) → Whole size fs → (c : Code) (u : Bool) (n : Count) → Whole size (record { code = c; unsigned = u; count = n } ∷ fs)
+whole-step : (size : ℕ) (fs : List Field) → Whole size fs → (c : Role) (u : Bool) (n : Count) → Whole size (record { role = c; unsigned = u; count = n } ∷ fs)
 unfolding positionsFrom startsFrom fills endOf
 whole-step size fs ih (Data s) u n at h l =
     rw (l .0 .2 (itemsIn s (size - at))) (ap (λ (xs : List ℕ). at ∷ xs) (ih (at + bytesFor s (amount n 0)) (omega arith) (l .1)))
@@ -141,7 +141,7 @@ whole-step size fs ih (Move Goto) u n at h l = absurd (l .0)
 whole : (size : ℕ) (fs : List Field) → Whole size fs
 unfolding positionsFrom startsFrom
 whole size [] at h l = refl
-whole size (f ∷ fs) at h l = whole-step size fs (whole size fs) (f .code) (f .unsigned) (f .count) at h l
+whole size (f ∷ fs) at h l = whole-step size fs (whole size fs) (f .role) (f .unsigned) (f .count) at h l
 
 pub reads-whole : (fs : List Field) → T (plain fs) → (size : ℕ) → endOf fs ≤ size
     → positionsFrom size 0 fs ≡ startsFrom 0 fs
@@ -155,7 +155,7 @@ module _ (bs : List ℕ) where
   Nothing fs =
       AllPlain fs → AllSound fs → (run bs (length bs) fs .values ≡ []) × (run bs (length bs) fs .positions ≡ [])
 
-  nothing-step : (fs : List Field) → Nothing fs → (c : Code) (u : Bool) (n : Count) → Nothing (record { code = c; unsigned = u; count = n } ∷ fs)
+  nothing-step : (fs : List Field) → Nothing fs → (c : Role) (u : Bool) (n : Count) → Nothing (record { role = c; unsigned = u; count = n } ∷ fs)
   unfolding run
   nothing-step fs ih (Data s) u n l y =
       let some : length bs - length bs < bytesFor s (amount n 0) =
@@ -169,13 +169,13 @@ module _ (bs : List ℕ) where
   nothing-found : (fs : List Field) → Nothing fs
   unfolding run
   nothing-found [] l y = (refl, refl)
-  nothing-found (f ∷ fs) l y = nothing-step fs (nothing-found fs) (f .code) (f .unsigned) (f .count) l y
+  nothing-found (f ∷ fs) l y = nothing-step fs (nothing-found fs) (f .role) (f .unsigned) (f .count) l y
 
   abbrev Cut : List Field → Type 0
   Cut fs =
       (at : ℕ) → at ≤ length bs → AllPlain fs → AllSound fs → run bs at fs .positions ≡ take (length (run bs at fs .values)) (startsFrom at fs)
 
-  cut-step : (fs : List Field) → Cut fs → (c : Code) (u : Bool) (n : Count) → Cut (record { code = c; unsigned = u; count = n } ∷ fs)
+  cut-step : (fs : List Field) → Cut fs → (c : Role) (u : Bool) (n : Count) → Cut (record { role = c; unsigned = u; count = n } ∷ fs)
   unfolding run startsFrom fills
   cut-step fs ih (Data s) u n at w l y =
       let need : ℕ = bytesFor s (amount n 0) in
@@ -198,7 +198,7 @@ module _ (bs : List ℕ) where
   cut : (fs : List Field) → Cut fs
   unfolding run startsFrom
   cut [] at w l y = refl
-  cut (f ∷ fs) at w l y = cut-step fs (cut fs) (f .code) (f .unsigned) (f .count) at w l y
+  cut (f ∷ fs) at w l y = cut-step fs (cut fs) (f .role) (f .unsigned) (f .count) at w l y
 
   pub reads-cut : (fs : List Field) → T (plain fs) → AllSound fs
       → run bs 0 fs .positions ≡ take (length (run bs 0 fs .values)) (startsFrom 0 fs)

@@ -16,15 +16,15 @@ use Rattle.record.specs.Table.{slotsOf}
 use Rattle.record.specs.Geometry.{amount}
 use Rattle.record.specs.Packing.{Run, start, packOne, Filled, filled}
 use Rattle.record.specs.Reading.{positionsFrom}
-use Rattle.runs.specs.Ends.{plainCode, endOf}
+use Rattle.runs.specs.Ends.{plainRole, endOf}
 use Rattle.runs.specs.OneRun.{run}
 use Rattle.describe.specs.Description.{layoutReach, fewest, described}
 use Rattle.describe.specs.Claim.{starless, Packing}
 use Rattle.evolution.specs.Claim.{plain, startsFrom, Layouts, starts}
-use Rattle.describe.specs.placed.Placed.{Placed, fieldsIn, placedFields}
-use Rattle.describe.specs.placed.Claim.{MadeOf}
+use Rattle.describe.specs.Placed.{Placed, fieldsIn, placedFields}
+use Rattle.describe.specs.Places.{MadeOf}
 use Rattle.describe.specs.declared.fields.Row.{Row}
-use Rattle.describe.specs.fields.Rows.{none, star, rowsOf, numberSize, rowSize, numbersOf, rowBytes, listEffect, listed}
+use Rattle.describe.specs.Rows.{none, star, rowsOf, numberSize, rowSize, rowNumbers, rowBytes, listEffect, listed}
 
 -- each of two statements follows from the other
 infixr 5 _⇔_
@@ -39,15 +39,15 @@ pub record Taken (layout : List ℕ) : Type 0 where
   pub short : length layout ≤ maxLayout
   pub has-fields : placedFields false layout ≡ ok placed
 
-abbrev pub fieldsBy : {layout : List ℕ} → Taken layout → List Field
-fieldsBy a = fieldsIn (a .placed)
+abbrev pub fieldsTaken : {layout : List ℕ} → Taken layout → List Field
+fieldsTaken a = fieldsIn (a .placed)
 
 abbrev pub rowsBy : {layout : List ℕ} → Taken layout → List Row
 rowsBy a = rowsOf (a .placed)
 
--- packing reads it too: it has no `x*`
-abbrev pub Packs : {layout : List ℕ} → Taken layout → Type 0
-Packs {layout} a = fieldsOf true layout ≡ ok (fieldsBy a)
+-- packing reads the layout too: it has no `x*`
+abbrev pub PackedToo : {layout : List ℕ} → Taken layout → Type 0
+PackedToo {layout} a = fieldsOf true layout ≡ ok (fieldsTaken a)
 
 -- ---- the rows of the fields that take a slot
 
@@ -55,8 +55,8 @@ unfoldable pub takers : List Row → List Row
 takers [] = []
 takers (r ∷ rs) = if eqb (r .slot) none then takers rs else (r ∷ takers rs)
 
-abbrev pub slotNumbers : List Row → List ℕ
-slotNumbers rs = map (λ r. r .slot) (takers rs)
+abbrev pub slotsShown : List Row → List ℕ
+slotsShown rs = map (λ r. r .slot) (takers rs)
 
 abbrev pub positions : List Row → List ℕ
 positions rs = map (λ r. r .position) (takers rs)
@@ -68,39 +68,39 @@ countUp k (suc n) = k ∷ countUp (suc k) n
 
 -- ---- packing
 
--- In front of a field the run of a packing stands where the field's row says, or the position is open. Behind a value
--- or an `x` it has come further by the bytes that the row says, or those are open.
+-- In front of a field the run of a packing stands where the field's row says, or the position is open. After a value or
+-- an `x` it has come further by the bytes that the row says, or those are open.
 pub record Met (r : Run) (f : Filled) (row : Row) : Type 0 where
   pub position : (row .position ≡ none) ⊎ (row .position ≡ r .at)
-  pub bytes : T (plainCode (f .field .code))
-      → (row .bytes ≡ none) ⊎ (packOne r (f .field .code) (f .field .count) (f .items) .at ≡ r .at + row .bytes)
+  pub bytes : T (plainRole (f .field .role))
+      → (row .bytes ≡ none) ⊎ (packOne r (f .field .role) (f .field .count) (f .items) .at ≡ r .at + row .bytes)
 
--- field by field
+-- every field of a packing meets its row, where the run stands at r in front of the first
 abbrev pub AllMet : Run → List Filled → List Row → Type 0
 AllMet r [] [] = Unit {0}
 AllMet r [] (row ∷ rows) = ⊥
 AllMet r (f ∷ fs) [] = ⊥
-AllMet r (f ∷ fs) (row ∷ rows) = Met r f row × AllMet (packOne r (f .field .code) (f .field .count) (f .items)) fs rows
+AllMet r (f ∷ fs) (row ∷ rows) = Met r f row × AllMet (packOne r (f .field .role) (f .field .count) (f .items)) fs rows
 
 -- ---- what is open
 
--- a field with as many items as its count asks for, and so many where it is starred; the digit 0 (48) serves every
--- type, as in `fewest`
+-- a field with as many items as its count asks for, and `many` where it is starred; the digit 0 (48) serves every type,
+-- as in `fewest`
 abbrev pub having : ℕ → Field → Filled
 having many f = record { field = f; items = replicate (amount (f .count) many) 48 }
 
 -- The position of a row is open just where starred values decide it: where the run with all of them empty stands
--- elsewhere than the run with so many items in each.
+-- elsewhere than the run with `many` items in each.
 abbrev pub Decided : ℕ → Run → Run → List Field → List Row → Type 0
 Decided many r q [] [] = Unit {0}
 Decided many r q [] (row ∷ rows) = ⊥
 Decided many r q (f ∷ fs) [] = ⊥
 Decided many r q (f ∷ fs) (row ∷ rows) =
     ((row .position ≡ none) ⇔ (r .at ≡ q .at → ⊥))
-    × Decided many (packOne r (f .code) (f .count) (fewest f .items))
-    (packOne q (f .code) (f .count) (having many f .items)) fs rows
+    × Decided many (packOne r (f .role) (f .count) (fewest f .items))
+    (packOne q (f .role) (f .count) (having many f .items)) fs rows
 
--- so many items fill more bytes than all other fields of a layout
+-- a number of items that fill more bytes than all other fields of a layout
 abbrev pub manyItems : ℕ
 manyItems = 8 * (2 * layoutReach + 1)
 
@@ -118,39 +118,40 @@ furthest (r ∷ rs) = max (reach r) (furthest rs)
 -- ---- the claim
 
 pub record Says (layout : List ℕ) (a : Taken layout) : Type 0 where
-  -- the call answers these rows wherever there is room ..
+  -- the call answers the rows of the fields wherever there is room
   pub answers :
       (output : List ℕ) → length (rowsBy a) * rowSize ≤ length output
       → listed layout output ≡ listEffect output (ok (rowsBy a))
-  -- .. and the bytes that it leaves are those of just these numbers: none is cut
+  -- the bytes of the rows are those of just their numbers: none is cut
   pub numbers : (rest : List ℕ)
-      → bigEndianIn numberSize (length (rowsBy a) * 8) (rowBytes (rowsBy a) ++ rest) ≡ join (map numbersOf (rowsBy a))
+      → bigEndianIn numberSize (length (rowsBy a) * 8) (rowBytes (rowsBy a) ++ rest) ≡ join (map rowNumbers (rowsBy a))
   -- without their places the fields are those that reading reads, and the text is made of them and of spaces
-  pub fields : fieldsOf false layout ≡ ok (fieldsBy a)
+  pub fields : fieldsOf false layout ≡ ok (fieldsTaken a)
   pub made : MadeOf false layout 0 (a .placed)
   -- the slots are counted from 0 up, as many as the fields take
-  pub slots : slotNumbers (rowsBy a) ≡ countUp 0 (slotCount (fieldsBy a))
-  -- every packing that is accepted meets the rows ..
-  pub met : (p : Packing layout) → AllMet start (filled (p .area) (slotsOf (p .slots)) (fieldsBy a)) (rowsBy a)
-  -- .. and no position is open that starred values do not decide
-  pub decided : Packs a → (many : ℕ) → manyItems ≤ many → Decided many start start (fieldsBy a) (rowsBy a)
-  -- the description of the layout has as many slots; and where no value is starred, as many bytes as the fields reach
-  pub described-slots : Packs a → described layout .first ≡ length (takers (rowsBy a))
-  pub described-length : Packs a → T (starless (fieldsBy a)) → described layout .second ≡ furthest (rowsBy a)
-  -- in a plain layout the positions are the ends of the fields before, as demand 3 has them ..
-  pub begins : T (plain (fieldsBy a)) → positions (rowsBy a) ≡ startsFrom 0 (fieldsBy a)
-  -- .. which a reading gives of every record that is long enough (02, M-110) ..
-  pub whole : T (plain (fieldsBy a)) → (size : ℕ) → endOf (fieldsBy a) ≤ size
-      → positionsFrom size 0 (fieldsBy a) ≡ positions (rowsBy a)
-  -- .. and of a shorter one for each value that it finds
-  pub cut : T (plain (fieldsBy a)) → (bs : List ℕ)
-      → run bs 0 (fieldsBy a) .positions ≡ take (length (run bs 0 (fieldsBy a) .values)) (positions (rowsBy a))
+  pub slots : slotsShown (rowsBy a) ≡ countUp 0 (slotCount (fieldsTaken a))
+  -- every packing that is accepted meets the rows
+  pub met : (p : Packing layout) → AllMet start (filled (p .area) (slotsOf (p .slots)) (fieldsTaken a)) (rowsBy a)
+  -- no position is open that starred values do not decide
+  pub decided : PackedToo a → (many : ℕ) → manyItems ≤ many → Decided many start start (fieldsTaken a) (rowsBy a)
+  -- the description of the layout has as many slots as its fields take; and where no value is starred, as many bytes as
+  -- the fields reach
+  pub described-slots : PackedToo a → described layout .first ≡ length (takers (rowsBy a))
+  pub described-length : PackedToo a → T (starless (fieldsTaken a)) → described layout .second ≡ furthest (rowsBy a)
+  -- in a plain layout the positions are the ends of the fields before, as demand 3 has them
+  pub begins : T (plain (fieldsTaken a)) → positions (rowsBy a) ≡ startsFrom 0 (fieldsTaken a)
+  -- a reading by a plain layout gives the positions of the rows, of every record that is long enough (02, M-110)
+  pub whole : T (plain (fieldsTaken a)) → (size : ℕ) → endOf (fieldsTaken a) ≤ size
+      → positionsFrom size 0 (fieldsTaken a) ≡ positions (rowsBy a)
+  -- a reading by a plain layout gives of a shorter record the position of each value that it finds
+  pub cut : T (plain (fieldsTaken a)) → (bs : List ℕ)
+      → run bs 0 (fieldsTaken a) .positions ≡ take (length (run bs 0 (fieldsTaken a) .values)) (positions (rowsBy a))
 
--- SO IT IS FOR EVERY LAYOUT that the call takes
+-- THE THEOREM: `Says` holds of every layout that the call takes
 abbrev pub Fields : Type 0
 Fields = (layout : List ℕ) (a : Taken layout) → Says layout a
 
--- and the positions of the new layout's rows are those of every slot that a reading of demand 3 sets (crates/evolution,
+-- the positions of the new layout's rows are those of every slot that a reading of demand 3 sets (crates/evolution,
 -- `ReadsBack`)
 abbrev pub Starts : Type 0
 Starts = (l : Layouts) (a : Taken (l .new)) → positions (rowsBy a) ≡ starts l

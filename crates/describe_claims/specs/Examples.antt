@@ -8,17 +8,17 @@ use lib.Dec.{eqb}
 use Rattle.layout.specs.Quoted.{bytes}
 use Rattle.record.specs.Bytes.{join, bigEndian}
 use Rattle.record.specs.Packing.{Packed}
-use Rattle.describe.specs.fields.Rows.{none, star, numberSize, rowSize, listed}
+use Rattle.describe.specs.Rows.{none, star, numberSize, rowSize, listed}
 
 pub data Example : Type 0 where
-  -- a layout, how many bytes the run has behind the rows, and the rows
+  -- a layout, how many bytes the run has after the rows, and the rows
   lists : String → ℕ → List (List ℕ) → Example
   -- a layout, how many bytes the run has, and the number and the place of the refusal
   refuses : String → ℕ → ℕ → ℕ → Example
-  -- the same for a layout of so many `c`
+  -- how many `c` the layout has, how many bytes the run has, and the number and the place of the refusal
   tooLong : ℕ → ℕ → ℕ → ℕ → Example
 
--- place, size, letter, flag, count, slot, position, bytes
+-- a row: place, size, letter, flag, count, slot, position, bytes
 unfoldable row : ℕ → ℕ → String → ℕ → ℕ → ℕ → ℕ → ℕ → List ℕ
 row place size letter flag count slot position filled =
     (place ∷ size ∷ []) ++ bytes letter ++ (flag ∷ count ∷ slot ∷ position ∷ filled ∷ [])
@@ -29,12 +29,12 @@ same [] (y ∷ ys) = false
 same (x ∷ xs) [] = false
 same (x ∷ xs) (y ∷ ys) = eqb x y && same xs ys
 
--- the answer's three numbers, and every byte of the run
+-- a call leaves these: the answer's three numbers, and every byte of the run
 abbrev leaves : Packed → ℕ → ℕ → List ℕ → Bool
 leaves p n first output =
     eqb (p .answer .number) n && eqb (p .answer .first) first && eqb (p .answer .second) 0 && same (p .output) output
 
--- a run is lent full of bytes 170
+-- the call does what an example says; the run is lent full of bytes 170
 pub holds : Example → Bool
 unfolding listed same join bigEndian
 holds (lists layout spare rows) =
@@ -52,7 +52,7 @@ all (e ∷ es) = holds e && all es
 unfoldable pub examples : List Example
 unfolding row
 examples =
-    -- a starred value leaves all behind it open; an `@` with a count and `X*` do not
+    -- a starred value leaves all after it open; an `@` with a count and `X*` do not
     lists "a6 A12 Su  Su*X2 x* c @10 b12 @* X* c" 5 (
     row 0 2 "a" 0 6 0 0 6
     ∷ row 3 3 "A" 0 12 1 6 12
@@ -79,7 +79,7 @@ examples =
     ∷ row 16 3 "X" 1 9 none 0 0
     ∷ []
     )
-    -- a count of 0, leading zeros, the flag after any type, spaces in front and behind
+    -- a count of 0, leading zeros, the flag after any type, spaces before and after
     ∷ lists " h3xu02a0 Iu003 " 33 (
     row 1 2 "h" 0 3 0 0 2
     ∷ row 3 4 "x" 1 2 none 2 2

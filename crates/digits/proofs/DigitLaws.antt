@@ -10,7 +10,7 @@ use lib.ListN.{length, take, drop, getD, length-drop, length-take}
 use lib.Seq.{getD-drop, getD-take, take-take, take-all}
 use Rattle.record.specs.Bytes.{part, ceilDiv, ordered}
 use Rattle.record.proofs.Stores.{getD-reverse, length-part}
-use Rattle.digits.specs.Numerals.{placeOf, DigitsAt}
+use Rattle.digits.specs.inside.Numerals.{placeOf, DigitsAt}
 use lib.Dec.{leb, ltb}
 use borrow.Author.Tests.{lt-ltb, le-ltb, le-leb, lt-leb, leb-false, ltb-true}
 use Rattle.layout.specs.Layout.{isDecimal}

@@ -1,4 +1,5 @@
--- How far a field of binary digits is after k steps: a whole byte is done in each of the first n/8, and one digit in each of the next n%8.
+-- How far a field of binary digits is after k steps: a whole byte is done in each of the first n/8, and one digit in
+-- each of the next n%8.
 use Prim.Native.Nat.{ℕ, zero, suc, _+_, _-_, _*_, _/_, _%_, _≤_, _<_, min}
 use native.Mathlib.Nat.{zero-add, suc-add, add-zero}
 use native.Mathlib.Numerals.{add-one}
@@ -113,7 +114,7 @@ settled write n bytes k h =
 
 -- ---- the steps by their numbers
 
--- the step number k, over a whole byte or over one digit behind these
+-- the step number k, over a whole byte or over one digit after these
 module _ (write : Writing) (n k : ℕ) (bytes : List ℕ) where
   next-step : (d e : ℕ) → doneAfter n k ≡ d → nextDone n d ≡ e → d < n → steps write n bytes (k + 1) .bytes ≡ write (steps write n bytes k .bytes) d e
   unfolding steps

@@ -1,9 +1,3 @@
--- What contracts of this crate cite.
-pub mod Numerals
+-- Binary digits step by step (02, M-103).
 pub mod Steps
--- What contracts of this crate cite.
-pub mod bytes
--- What contracts of this crate cite.
-pub mod store
--- What contracts of this crate cite.
-pub mod chars
+pub mod inside

@@ -9,8 +9,8 @@ ghost use Rattle.record.specs.Bytes.{part, fit, digits, number, ordered};
 ghost use Rattle.record.specs.Table.{maxArea};
 ghost use Rattle.record.specs.Geometry.{base};
 ghost use Rattle.record.specs.Packing.{digitValue};
-ghost use Rattle.digits.specs.Numerals.{DigitsAt, valuesAt};
-ghost use Rattle.digits.specs.bytes.{byteOf};
+ghost use Rattle.digits.specs.inside.Numerals.{DigitsAt, valuesAt};
+ghost use Rattle.digits.specs.inside.bytes.{byteOf};
 use slot_table::sizes;
 
 // The value of a digit: its low bits, and 9 more for a letter.
@@ -37,7 +37,8 @@ pub fn digit_at(area: &[u8], from: usize, count: usize, q: usize, hex: bool) -> 
 // The number that four binary digits make, from the number `first` on.
 fn half_of(area: &[u8], from: usize, count: usize, first: usize, high: bool) -> usize
     requires { ⌜ (first ≤ 4) × (from + count ≤ length (now area)) × DigitsAt false (now area) from count ⌝ }
-    ensures { λ r. ⌜ (r < 16) × (r ≡ number 2 (ordered high (part (fit 8 0 (valuesAt (before area) from count)) first 4))) ⌝ }
+    ensures { λ r. ⌜ (r < 16)
+        × (r ≡ number 2 (ordered high (part (fit 8 0 (valuesAt (before area) from count)) first 4))) ⌝ }
 {
     let a = digit_at(area, from, count, first, false);
     let b = digit_at(area, from, count, first + 1, false);
@@ -64,7 +65,7 @@ fn binary_byte(area: &[u8], from: usize, count: usize, high: bool) -> u8
     }
 }
 
-// The same of hex digits.
+// The byte that the hex digits from a place on make.
 fn hex_byte(area: &[u8], from: usize, count: usize, high: bool) -> u8
     requires { ⌜ (from + count ≤ length (now area)) × DigitsAt true (now area) from count ⌝ }
     ensures { λ r. ⌜ r ≡ byteOf true high (valuesAt (before area) from count) ⌝ }
@@ -89,8 +90,8 @@ fn byte_of(area: &[u8], from: usize, count: usize, hex: bool, high: bool) -> u8
     binary_byte(area, from, count, high)
 }
 
-// The byte of the digits from the number i on. Where they fill it, their count is a constant, and none is tested for being there; where none is
-// there, it is 0.
+// The byte of the digits from the number i on. Where they fill it, their count is a constant, and none is tested for
+// being there; where none is there, it is 0.
 pub fn next_byte(area: &[u8], start: usize, have: usize, i: usize, hex: bool, high: bool) -> u8
     requires { ⌜ (i ≤ maxArea) × (start + have ≤ length (now area)) × DigitsAt hex (now area) start have ⌝ }
     ensures { λ r. ⌜ r ≡ byteOf hex high (drop i (valuesAt (before area) start have)) ⌝ }

@@ -7,7 +7,7 @@ ghost use Rattle.layout.specs.Lent.{before, after};
 ghost use Rattle.record.specs.Bytes.{storeAt, digits, ordered};
 ghost use Rattle.record.specs.Geometry.{base, perByte};
 ghost use Rattle.record.specs.Reading.{digitChar};
-ghost use Rattle.digits.specs.chars.{charsOf, fourChars};
+ghost use Rattle.digits.specs.inside.chars.{charsOf, fourChars};
 use slot_table::sizes;
 
 // The digit number q of a byte, from the lowest.
@@ -54,7 +54,8 @@ pub fn write(area: &mut [u8], to: usize, b: u8, count: usize, hex: bool, high: b
     }
 }
 
-// The characters of four binary digits, the lowest first, as the bytes of a number. From a table the compiler loads and stores them at once.
+// The characters of four binary digits, the lowest first, as the bytes of a number. From a table the compiler loads and
+// stores them at once.
 fn four(n: u8) -> usize
     requires { ⌜ n < 16 ⌝ }
     ensures { λ r. ⌜ digits 256 4 r ≡ fourChars n ⌝ }

@@ -8,7 +8,7 @@ ghost use Rattle.layout.specs.Lent.{before};
 ghost use Rattle.record.specs.Bytes.{part};
 ghost use Rattle.record.specs.Geometry.{base};
 ghost use Rattle.record.specs.Packing.{digitValue, allDigits};
-ghost use Rattle.digits.specs.Numerals.{placeOf};
+ghost use Rattle.digits.specs.inside.Numerals.{placeOf};
 
 // The byte that digits make.
 mod bytes;
@@ -19,7 +19,7 @@ mod chars;
 // Digits read.
 pub mod load;
 
-// The binary digits, at most, that are left after whole bytes: so many steps are spared for them.
+// The most binary digits that are left after whole bytes: the budget has as many steps for them.
 pub const SPARE: usize = 7;
 
 fn both(a: bool, b: bool) -> bool

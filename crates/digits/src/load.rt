@@ -9,10 +9,10 @@ ghost use Rattle.record.specs.Bytes.{part, storeAt, ceilDiv};
 ghost use Rattle.record.specs.Table.{maxArea};
 ghost use Rattle.record.specs.Reading.{loaded};
 ghost use Rattle.digits.specs.Steps.{showing, steps, Advanced, binarySteps, binaryBudget};
-ghost use Rattle.digits.specs.chars.{charsOf};
+ghost use Rattle.digits.specs.inside.chars.{charsOf};
 
-// THE STEP number k in reading n binary digits out: the eight of a whole byte where eight remain, and else one. It looks at one byte of the record.
-// `eight` says which it is: the callers know it, and so the compiler does.
+// THE STEP number k in reading n binary digits out: the eight of a whole byte where eight remain, and else one. It
+// looks at one byte of the record. `eight` says which it is: the callers know it, and so the compiler does.
 fn show_step(
     area: &mut [u8],
     to: usize,
@@ -23,7 +23,8 @@ fn show_step(
     eight: bool,
     high: bool,
 )
-    requires { ⌜ (to + n ≤ length (now area)) × (at + ceilDiv n 8 ≤ length (now bytes)) × (k < binarySteps n) × (eight ≡ true → k < n / 8) × (eight ≡ false → n / 8 ≤ k) ⌝ }
+    requires { ⌜ (to + n ≤ length (now area)) × (at + ceilDiv n 8 ≤ length (now bytes)) × (k < binarySteps n)
+        × (eight ≡ true → k < n / 8) × (eight ≡ false → n / 8 ≤ k) ⌝ }
     ensures { λ _. ⌜ Advanced (showing high (before bytes) at to) n k (k + 1) (before area) (after area) ⌝ }
 {
     if eight {
@@ -47,7 +48,8 @@ fn show_run(
     eight: bool,
     high: bool,
 )
-    requires { ⌜ (to + n ≤ length (now area)) × (at + ceilDiv n 8 ≤ length (now bytes)) × (from ≤ until) × (until ≤ binarySteps n) × (eight ≡ true → until ≤ n / 8) × (eight ≡ false → from < until → n / 8 ≤ from) ⌝ }
+    requires { ⌜ (to + n ≤ length (now area)) × (at + ceilDiv n 8 ≤ length (now bytes)) × (from ≤ until)
+        × (until ≤ binarySteps n) × (eight ≡ true → until ≤ n / 8) × (eight ≡ false → from < until → n / 8 ≤ from) ⌝ }
     ensures { λ _. ⌜ Advanced (showing high (before bytes) at to) n from until (before area) (after area) ⌝ }
 {
     let mut k = from;
@@ -57,7 +59,8 @@ fn show_run(
     }
 }
 
-// Reads n binary digits as far as a budget of steps goes, whatever it is: the steps over whole bytes, and then those over the digits that are left.
+// Reads n binary digits as far as a budget of steps goes, whatever it is: the steps over whole bytes, and then those
+// over the digits that are left.
 pub fn load_steps(
     area: &mut [u8],
     to: usize,
@@ -79,8 +82,11 @@ pub fn load_steps(
 // Reads n binary digits by a budget that is enough for all of them.
 pub fn load_binary(area: &mut [u8], to: usize, bytes: &[u8], at: usize, n: usize, high: bool)
     requires { ⌜ (n ≤ maxArea) × (to + n ≤ length (now area)) × (at + ceilDiv n 8 ≤ length (now bytes)) ⌝ }
-    ensures within { λ _. ⌜ after area ≡ steps (showing high (before bytes) at to) n (before area) (binaryBudget n) .bytes ⌝ }
-    ensures { λ _. ⌜ ((u : Bool) → after area ≡ storeAt (before area) to (loaded (Digits false high) u n (part (before bytes) at (ceilDiv n 8)) .items)) ⌝ }
+    ensures within { λ _. ⌜ after area
+        ≡ steps (showing high (before bytes) at to) n (before area) (binaryBudget n) .bytes ⌝ }
+    ensures { λ _. ⌜ ((u : Bool)
+        → after area
+        ≡ storeAt (before area) to (loaded (Digits false high) u n (part (before bytes) at (ceilDiv n 8)) .items)) ⌝ }
 {
     load_steps(area, to, bytes, at, n, high, n / 8 + super::SPARE)
 }
@@ -102,7 +108,9 @@ fn write_hex(area: &mut [u8], to: usize, b: u8, left: usize, high: bool) -> usiz
 // Reads n hex digits, a byte a turn.
 pub fn load_hex(area: &mut [u8], to: usize, bytes: &[u8], at: usize, n: usize, high: bool)
     requires { ⌜ (to + n ≤ length (now area)) × (at + ceilDiv n 2 ≤ length (now bytes)) ⌝ }
-    ensures { λ _. ⌜ ((u : Bool) → after area ≡ storeAt (before area) to (loaded (Digits true high) u n (part (before bytes) at (ceilDiv n 2)) .items)) ⌝ }
+    ensures { λ _. ⌜ ((u : Bool)
+        → after area
+        ≡ storeAt (before area) to (loaded (Digits true high) u n (part (before bytes) at (ceilDiv n 2)) .items)) ⌝ }
 {
     let mut i = 0;
     let mut k = 0;

@@ -9,8 +9,8 @@ ghost use Rattle.record.specs.Bytes.{part, storeAt, ceilDiv};
 ghost use Rattle.record.specs.Table.{maxArea};
 ghost use Rattle.record.specs.Packing.{stored};
 ghost use Rattle.digits.specs.Steps.{storing, steps, Advanced, binarySteps, binaryBudget};
-ghost use Rattle.digits.specs.Numerals.{placeOf, DigitsAt, valuesAt};
-ghost use Rattle.digits.specs.store.{FirstDigits, FirstBits, soFar};
+ghost use Rattle.digits.specs.inside.Numerals.{placeOf, DigitsAt, valuesAt};
+ghost use Rattle.digits.specs.inside.store.{FirstDigits, FirstBits, soFar};
 
 // A binary digit, the number q of those that are there and 0 past them, where the number j of a byte's digits stands.
 fn bit_at(area: &[u8], from: usize, count: usize, q: usize, j: usize, high: bool) -> u8
@@ -34,8 +34,9 @@ fn add_bit(out: &mut [u8], place: usize, bit: u8, j: usize)
     out[place] = ((byte_runs::wide(out[place]) + byte_runs::wide(bit)) % 256) as u8;
 }
 
-// THE STEP number k in storing n binary digits, of which the first `have` are there: the eight of a whole byte where eight remain, and else one. It
-// sets one byte of the record. `eight` says which it is, and `full` that the eight are all there: the callers know it, and so the compiler does.
+// THE STEP number k in storing n binary digits, of which the first `have` are there: the eight of a whole byte where
+// eight remain, and else one. It sets one byte of the record. `eight` says which it is, and `full` that the eight are
+// all there: the callers know it, and so the compiler does.
 fn store_step(
     out: &mut [u8],
     at: usize,
@@ -48,7 +49,9 @@ fn store_step(
     full: bool,
     high: bool,
 )
-    requires { ⌜ (n ≤ maxArea) × (have ≤ n) × (start + have ≤ length (now area)) × (at + ceilDiv n 8 ≤ length (now out)) × DigitsAt false (now area) start have × (k < binarySteps n) × (eight ≡ true → k < n / 8) × (eight ≡ false → n / 8 ≤ k) × (full ≡ true → 8 * k + 8 ≤ have) ⌝ }
+    requires { ⌜ (n ≤ maxArea) × (have ≤ n) × (start + have ≤ length (now area))
+        × (at + ceilDiv n 8 ≤ length (now out)) × DigitsAt false (now area) start have × (k < binarySteps n)
+        × (eight ≡ true → k < n / 8) × (eight ≡ false → n / 8 ≤ k) × (full ≡ true → 8 * k + 8 ≤ have) ⌝ }
     ensures { λ _. ⌜ Advanced (storing high (part (before area) start have) at) n k (k + 1) (before out) (after out) ⌝ }
 {
     if full {
@@ -79,7 +82,10 @@ fn store_run(
     full: bool,
     high: bool,
 )
-    requires { ⌜ (n ≤ maxArea) × (have ≤ n) × (start + have ≤ length (now area)) × (at + ceilDiv n 8 ≤ length (now out)) × DigitsAt false (now area) start have × (from ≤ until) × (until ≤ binarySteps n) × (eight ≡ true → until ≤ n / 8) × (eight ≡ false → from < until → n / 8 ≤ from) × (full ≡ true → 8 * until ≤ have) ⌝ }
+    requires { ⌜ (n ≤ maxArea) × (have ≤ n) × (start + have ≤ length (now area))
+        × (at + ceilDiv n 8 ≤ length (now out)) × DigitsAt false (now area) start have × (from ≤ until)
+        × (until ≤ binarySteps n) × (eight ≡ true → until ≤ n / 8) × (eight ≡ false → from < until → n / 8 ≤ from)
+        × (full ≡ true → 8 * until ≤ have) ⌝ }
     ensures { λ _. ⌜ Advanced (storing high (part (before area) start have) at) n from until (before out) (after out) ⌝ }
 {
     let mut k = from;
@@ -89,8 +95,8 @@ fn store_run(
     }
 }
 
-// Stores n binary digits, padding counted, as far as a budget of steps goes, whatever it is: the steps over bytes whose digits are all there, those
-// over whole bytes with padding, and then those over the digits that are left.
+// Stores n binary digits, padding counted, as far as a budget of steps goes, whatever it is: the steps over bytes whose
+// digits are all there, those over whole bytes with padding, and then those over the digits that are left.
 pub fn store_steps(
     out: &mut [u8],
     at: usize,
@@ -101,7 +107,8 @@ pub fn store_steps(
     high: bool,
     budget: usize,
 )
-    requires { ⌜ (n ≤ maxArea) × (start + len ≤ length (now area)) × (at + ceilDiv n 8 ≤ length (now out)) × FirstBits n (now area) start len ⌝ }
+    requires { ⌜ (n ≤ maxArea) × (start + len ≤ length (now area)) × (at + ceilDiv n 8 ≤ length (now out))
+        × FirstBits n (now area) start len ⌝ }
     ensures { λ _. ⌜ after out ≡ steps (storing high (part (before area) start len) at) n (before out) budget .bytes ⌝ }
 {
     let have = record::least(n, len);
@@ -147,9 +154,12 @@ pub fn store_binary(
     n: usize,
     high: bool,
 )
-    requires { ⌜ (n ≤ maxArea) × (start + len ≤ length (now area)) × (at + ceilDiv n 8 ≤ length (now out)) × FirstBits n (now area) start len ⌝ }
-    ensures within { λ _. ⌜ after out ≡ steps (storing high (part (before area) start len) at) n (before out) (binaryBudget n) .bytes ⌝ }
-    ensures { λ _. ⌜ after out ≡ storeAt (before out) at (stored (Digits false high) n (part (before area) start len)) ⌝ }
+    requires { ⌜ (n ≤ maxArea) × (start + len ≤ length (now area)) × (at + ceilDiv n 8 ≤ length (now out))
+        × FirstBits n (now area) start len ⌝ }
+    ensures within { λ _. ⌜ after out
+        ≡ steps (storing high (part (before area) start len) at) n (before out) (binaryBudget n) .bytes ⌝ }
+    ensures { λ _. ⌜ after out
+        ≡ storeAt (before out) at (stored (Digits false high) n (part (before area) start len)) ⌝ }
 {
     store_steps(out, at, area, start, len, n, high, n / 8 + super::SPARE)
 }
@@ -164,7 +174,8 @@ pub fn store_hex(
     n: usize,
     high: bool,
 )
-    requires { ⌜ (n ≤ maxArea) × (start + len ≤ length (now area)) × (at + ceilDiv n 2 ≤ length (now out)) × FirstDigits true n (now area) start len ⌝ }
+    requires { ⌜ (n ≤ maxArea) × (start + len ≤ length (now area)) × (at + ceilDiv n 2 ≤ length (now out))
+        × FirstDigits true n (now area) start len ⌝ }
     ensures { λ _. ⌜ after out ≡ storeAt (before out) at (stored (Digits true high) n (part (before area) start len)) ⌝ }
 {
     let have = record::least(n, len);

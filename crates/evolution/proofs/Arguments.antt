@@ -9,24 +9,25 @@ use lib.ListN.{take, drop}
 use lib.Seq.{drop-nil}
 use lib.Dec.{T, leb, eqb}
 use borrow.Author.Tests.{leb-true, eqb-true}
-use Rattle.layout.specs.declared.Code.{Code}
-use Rattle.layout.specs.declared.Code.the-variants.{Data, Move}
+use Rattle.layout.specs.declared.Role.{Role}
+use Rattle.layout.specs.declared.Role.the-variants.{Data, Move}
 use Rattle.layout.specs.declared.Motion.the-variants.{Skip, Back, Goto}
 use Rattle.layout.specs.declared.Shape.{Shape}
 use Rattle.layout.specs.declared.Shape.the-variants.{Text, Digits, Integers, Reals}
 use Rattle.layout.specs.declared.Count.{Count}
 use Rattle.layout.specs.declared.Count.the-variants.{Absent, Star, Times}
 use Rattle.layout.specs.declared.Field.{Field}
-use Rattle.layout.specs.declared.Refusal.the-variants.{NotSet, BadSlot, WrongKind, WrongAmount, BadDigit}
+use Rattle.layout.specs.declared.Refusal.the-variants.{NotSet, BadSlot, WrongKind, BadList, BadDigit}
 use Rattle.layout.specs.Refusals.{Result, ok, _>>=_}
-use Rattle.layout.specs.Words.{FitCode}
+use Rattle.layout.specs.inside.Parsing.{FitRole}
 use Rattle.layout.proofs.Laws.{AllSound, bound, demanded}
 use Rattle.record.specs.declared.slots.Slot.{Slot}
 use Rattle.record.specs.Table.{maxKind, shown}
 use Rattle.record.specs.Geometry.{amount}
-use Rattle.record.specs.Packing.{insideArea, Filled, filled, nextSlot, argumentFits, argumentsFit, kindFits, amountFits, enough, digitsFit}
+use Rattle.record.specs.Packing.{Filled, filled, nextSlot, argumentFits, argumentsFit, kindFits, amountFits, enough, digitsFit}
+use Rattle.record.specs.inside.Slots.{insideArea}
 use Rattle.layout.specs.Layout.{slotCount}
-use Rattle.runs.specs.Ends.{plainCode, plainCount}
+use Rattle.runs.specs.Ends.{plainRole, plainCount}
 use Rattle.runs.proofs.Joined.{plain-amount}
 use Rattle.evolution.specs.Claim.{plain}
 use Rattle.record.proofs.Bytes.{both}
@@ -37,12 +38,12 @@ use Rattle.evolution.proofs.Run.{AllGood, fieldsIn}
 
 -- ---- the front of a layout
 
-abbrev made : Code → Bool → Count → Field
-made k u n = record { code = k; unsigned = u; count = n }
+abbrev made : Role → Bool → Count → Field
+made k u n = record { role = k; unsigned = u; count = n }
 
 module _ (area : List ℕ) where
   fields-step : (ts : List Slot) (fs : List Field) → ((us : List Slot) → fieldsIn (filled area us fs) ≡ fs)
-      → (k : Code) (u : Bool) (n : Count) → fieldsIn (filled area ts (made k u n ∷ fs)) ≡ made k u n ∷ fs
+      → (k : Role) (u : Bool) (n : Count) → fieldsIn (filled area ts (made k u n ∷ fs)) ≡ made k u n ∷ fs
   unfolding fieldsIn filled
   fields-step ts fs ih (Data s) u n = ap (λ (r : List Field). made (Data s) u n ∷ r) (ih (drop 1 ts))
   fields-step ts fs ih (Move m) u n = ap (λ (r : List Field). made (Move m) u n ∷ r) (ih ts)
@@ -50,13 +51,13 @@ module _ (area : List ℕ) where
   pub fields-filled : (ts : List Slot) (fs : List Field) → fieldsIn (filled area ts fs) ≡ fs
   unfolding fieldsIn filled
   fields-filled ts [] = refl
-  fields-filled ts (f ∷ fs) = fields-step ts fs (λ us. fields-filled us fs) (f .code) (f .unsigned) (f .count)
+  fields-filled ts (f ∷ fs) = fields-step ts fs (λ us. fields-filled us fs) (f .role) (f .unsigned) (f .count)
 
   -- a front takes its slots from the front
   abbrev Front : List Field → List Field → List Slot → Type 0
   Front fs gs ts = filled area ts (fs ++ gs) ≡ filled area ts fs ++ filled area (drop (slotCount fs) ts) gs
 
-  front-step : (ts : List Slot) (fs gs : List Field) → ((us : List Slot) → Front fs gs us) → (k : Code) (u : Bool) (n : Count) → Front (made k u n ∷ fs) gs ts
+  front-step : (ts : List Slot) (fs gs : List Field) → ((us : List Slot) → Front fs gs us) → (k : Role) (u : Bool) (n : Count) → Front (made k u n ∷ fs) gs ts
   unfolding filled slotCount
   front-step [] fs gs ih (Data s) u n = ap (λ (r : List Filled). record { field = made (Data s) u n; items = shown area (nextSlot []) .items } ∷ r) (rw drop-nil at (ih []))
   front-step (t ∷ ts) fs gs ih (Data s) u n = ap (λ (r : List Filled). record { field = made (Data s) u n; items = shown area t .items } ∷ r) (ih ts)
@@ -66,14 +67,14 @@ module _ (area : List ℕ) where
   pub front : (fs gs : List Field) (ts : List Slot) → Front fs gs ts
   unfolding filled slotCount
   front [] gs ts = refl
-  front (f ∷ fs) gs ts = front-step ts fs gs (λ us. front fs gs us) (f .code) (f .unsigned) (f .count)
+  front (f ∷ fs) gs ts = front-step ts fs gs (λ us. front fs gs us) (f .role) (f .unsigned) (f .count)
 
   -- slots past the fields' are not looked at
   abbrev Spare : List Field → Type 0
   Spare fs = (i m : ℕ) (ts : List Slot) → slotCount fs ≤ m
       → (filled area (take m ts) fs ≡ filled area ts fs) × (argumentsFit area i (take m ts) fs ≡ argumentsFit area i ts fs)
 
-  spare-step : (fs : List Field) → Spare fs → (k : Code) (u : Bool) (n : Count) → Spare (made k u n ∷ fs)
+  spare-step : (fs : List Field) → Spare fs → (k : Role) (u : Bool) (n : Count) → Spare (made k u n ∷ fs)
   unfolding filled argumentsFit slotCount
   spare-step fs ih (Data s) u n i zero ts h = absurd (not-suc-le-zero h)
   spare-step fs ih (Data s) u n i (suc m) [] h = (refl, refl)
@@ -87,10 +88,10 @@ module _ (area : List ℕ) where
   pub spare : (fs : List Field) → Spare fs
   unfolding filled argumentsFit
   spare [] = λ i m ts h. (refl, refl)
-  spare (f ∷ fs) = spare-step fs (spare fs) (f .code) (f .unsigned) (f .count)
+  spare (f ∷ fs) = spare-step fs (spare fs) (f .role) (f .unsigned) (f .count)
 
   fit-step : (i : ℕ) (ts : List Slot) (fs gs : List Field) → ((i : ℕ) (ts : List Slot) → argumentsFit area i ts (fs ++ gs) ≡ ok tt → argumentsFit area i ts fs ≡ ok tt)
-      → (k : Code) (u : Bool) (n : Count) → argumentsFit area i ts (made k u n ∷ (fs ++ gs)) ≡ ok tt → argumentsFit area i ts (made k u n ∷ fs) ≡ ok tt
+      → (k : Role) (u : Bool) (n : Count) → argumentsFit area i ts (made k u n ∷ (fs ++ gs)) ≡ ok tt → argumentsFit area i ts (made k u n ∷ fs) ≡ ok tt
   unfolding argumentsFit
   fit-step i ts fs gs ih (Data s) u n e =
       let (x, e₁, e₂) = bound (argumentFits area s n i (nextSlot ts)) (λ _. argumentsFit area (suc i) (drop 1 ts) (fs ++ gs)) tt e in
@@ -100,7 +101,7 @@ module _ (area : List ℕ) where
   pub fit-front : (fs gs : List Field) (i : ℕ) (ts : List Slot) → argumentsFit area i ts (fs ++ gs) ≡ ok tt → argumentsFit area i ts fs ≡ ok tt
   unfolding argumentsFit
   fit-front [] gs i ts e = refl
-  fit-front (f ∷ fs) gs i ts e = fit-step i ts fs gs (λ j us k. fit-front fs gs j us k) (f .code) (f .unsigned) (f .count) e
+  fit-front (f ∷ fs) gs i ts e = fit-step i ts fs gs (λ j us k. fit-front fs gs j us k) (f .role) (f .unsigned) (f .count) e
 
 -- ---- what was checked
 
@@ -123,14 +124,14 @@ served area s n i a p e =
     let (not-unset, e₇) = demanded (not (eqb (a .kind) 0)) NotSet i _ tt e in
     let (in-area, e₈) = demanded (leb (a .kind) maxKind && insideArea area a) BadSlot i _ tt e₇ in
     let (kind-fits, e₉) = demanded (kindFits s (a .kind)) WrongKind i _ tt e₈ in
-    let (count-fits, e₁₀) = demanded (amountFits s n (a .len)) WrongAmount i _ tt e₉ in
+    let (count-fits, e₁₀) = demanded (amountFits s n (a .len)) BadList i _ tt e₉ in
     let (digits-fit, _) = demanded (digitsFit s (amount n (a .len)) (shown area a .items)) BadDigit i _ tt e₁₀ in
     served-by area s n a p kind-fits count-fits digits-fit
 
 good-step : (area : List ℕ) (i : ℕ) (ts : List Slot) (fs : List Field)
     → ((i : ℕ) (ts : List Slot) → argumentsFit area i ts fs ≡ ok tt → AllGood (filled area ts fs))
-    → (k : Code) (u : Bool) (n : Count) → T (plainCode k) → T (plainCount n) → FitCode k
-    → argumentsFit area i ts (record { code = k; unsigned = u; count = n } ∷ fs) ≡ ok tt → AllGood (filled area ts (record { code = k; unsigned = u; count = n } ∷ fs))
+    → (k : Role) (u : Bool) (n : Count) → T (plainRole k) → T (plainCount n) → FitRole k
+    → argumentsFit area i ts (record { role = k; unsigned = u; count = n } ∷ fs) ≡ ok tt → AllGood (filled area ts (record { role = k; unsigned = u; count = n } ∷ fs))
 unfolding argumentsFit filled
 good-step area i ts fs ih (Data s) u n pc p sc e =
     let (x, e₁, e₂) = bound (argumentFits area s n i (nextSlot ts)) (λ _. argumentsFit area (suc i) (drop 1 ts) fs) tt e in
@@ -143,6 +144,6 @@ pub all-good : (area : List ℕ) (i : ℕ) (ts : List Slot) (fs : List Field) �
 unfolding plain filled
 all-good area i ts [] p s e = tt
 all-good area i ts (f ∷ fs) p s e =
-    let (pk, q) = both (plainCode (f .code) && plainCount (f .count)) (plain fs) p in
-    let (pc, pn) = both (plainCode (f .code)) (plainCount (f .count)) pk in
-    good-step area i ts fs (λ j us k. all-good area j us fs q (s .1) k) (f .code) (f .unsigned) (f .count) pc pn (s .0) e
+    let (pk, q) = both (plainRole (f .role) && plainCount (f .count)) (plain fs) p in
+    let (pc, pn) = both (plainRole (f .role)) (plainCount (f .count)) pk in
+    good-step area i ts fs (λ j us k. all-good area j us fs q (s .1) k) (f .role) (f .unsigned) (f .count) pc pn (s .0) e

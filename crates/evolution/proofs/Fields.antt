@@ -11,7 +11,7 @@ use borrow.Author.Tests.{le-leb, lt-leb, lt-ltb, le-ltb}
 use lib.Dec.{T, ltb, ltb→lt}
 use Rattle.layout.specs.declared.Shape.{Shape}
 use Rattle.layout.specs.declared.Shape.the-variants.{Text, Digits, Integers, Reals}
-use Rattle.layout.specs.Words.{realSize}
+use Rattle.layout.specs.Layout.{realSize}
 use Rattle.record.specs.Bytes.{fit, ceilDiv, pieces, join, digits, number, ordered}
 use Rattle.record.specs.Table.{string, real, integerKind}
 use Rattle.record.specs.Packing.{stored, lowBytes, patterns, digitBytes, digitValue, allDigits}

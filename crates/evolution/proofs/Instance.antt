@@ -1,12 +1,12 @@
--- The premises of demand 3 can be met: an old layout, a new one, two arguments, and readings of both records by both layouts, cut and not cut;
--- what is due is computed.
+-- The premises of demand 3 can be met: an old layout, a new one, two arguments, and readings of both records by both
+-- layouts, cut and not cut; what is due is computed.
 use Prim.Native.Nat.{_-_, _^_}
 use native.Mathlib.Omega.{arith}
 use mathlib.Core.Path.{_≡_, refl}
 use mathlib.Core.Bool.{Bool, true, false}
 use mathlib.Core.List.{List, [], _∷_, _++_}
 use lib.ListN.{replicate}
-use Rattle.layout.specs.declared.Code.the-variants.{Data, Move}
+use Rattle.layout.specs.declared.Role.the-variants.{Data, Move}
 use Rattle.layout.specs.declared.Motion.the-variants.{Skip}
 use Rattle.layout.specs.declared.Shape.the-variants.{Text, Digits, Integers, Reals}
 use Rattle.layout.specs.declared.Count.the-variants.{Absent, Times}
@@ -20,8 +20,8 @@ use Rattle.runs.specs.Ends.{endOf}
 use Rattle.evolution.specs.Pair.{pair}
 use Rattle.evolution.specs.Claim.{Layouts, Reading, Whole, plain, recordBytes, argumentsBy, allBack, due, setBy, startsFrom, starts, carriedOut, fieldsBy}
 
--- The old record and the new one, not cut and cut inside the added fields, each read by the old layout and by the new one, from the mark 1 on,
--- into eight nines and an area of twelve.
+-- The old record and the new one, not cut and cut inside the added fields, each read by the old layout and by the new
+-- one, from the mark 1 on, into eight nines and an area of twelve.
 pub whole : (packing layout : Bool) → Whole pair packing layout (replicate 8 9) (replicate 12 9) 1
 unfolding pair pack setBy filled slotsOf slotCount valueBytes
 whole true true = record { within = omega arith; sizes = tt; enough-slots = omega arith; room = omega arith }
@@ -39,7 +39,8 @@ bytes-pair : recordBytes (argumentsBy pair true) ≡ 97 ∷ 98 ∷ 0 ∷ 0 ∷ 2
 unfolding pair recordBytes filled slotsOf
 bytes-pair = refl
 
--- cut at 5 the new layout shows its first field only, cut at 6 both; the old layout shows the first of the whole new record
+-- cut at 5 the new layout shows its first field only, cut at 6 both; the old layout shows the first of the whole new
+-- record
 due-five : due pair true 5 ≡ record { kind = 1; items = 97 ∷ 98 ∷ 0 ∷ [] } ∷ []
 unfolding pair setBy filled slotsOf
 due-five = refl
@@ -68,8 +69,8 @@ unfolding fieldsOf plain argumentsFit slotsOf endOf slotCount
 flags = record {
   old = bytes "au20";
   new = bytes "au20 xu2S";
-  fields = record { code = Data (Text 0); unsigned = true; count = Times 20 } ∷ [];
-  added = record { code = Move Skip; unsigned = true; count = Times 2 } ∷ record { code = Data (Integers 2 true); unsigned = false; count = Absent } ∷ [];
+  fields = record { role = Data (Text 0); unsigned = true; count = Times 20 } ∷ [];
+  added = record { role = Move Skip; unsigned = true; count = Times 2 } ∷ record { role = Data (Integers 2 true); unsigned = false; count = Absent } ∷ [];
   slots = 1 ∷ 0 ∷ 4 ∷ 9 ∷ 2 ∷ 4 ∷ 1 ∷ 9 ∷ [];
   area = bytes "Mary" ++ (255 ∷ 255 ∷ 255 ∷ 255 ∷ 255 ∷ 255 ∷ 255 ∷ 254 ∷ []);
   oldOutput = replicate 20 0;
@@ -100,8 +101,8 @@ unfolding fieldsOf plain argumentsFit slotsOf endOf slotCount
 kinds = record {
   old = bytes "A4H3";
   new = bytes "A4H3rb2";
-  fields = record { code = Data (Text 32); unsigned = false; count = Times 4 } ∷ record { code = Data (Digits true true); unsigned = false; count = Times 3 } ∷ [];
-  added = record { code = Data (Reals true false); unsigned = false; count = Absent } ∷ record { code = Data (Digits false false); unsigned = false; count = Times 2 } ∷ [];
+  fields = record { role = Data (Text 32); unsigned = false; count = Times 4 } ∷ record { role = Data (Digits true true); unsigned = false; count = Times 3 } ∷ [];
+  added = record { role = Data (Reals true false); unsigned = false; count = Absent } ∷ record { role = Data (Digits false false); unsigned = false; count = Times 2 } ∷ [];
   slots = 1 ∷ 0 ∷ 2 ∷ 9 ∷ 1 ∷ 2 ∷ 4 ∷ 9 ∷ 4 ∷ 6 ∷ 1 ∷ 9 ∷ 1 ∷ 14 ∷ 1 ∷ 9 ∷ [];
   area = bytes "abaBc9" ++ (0x3f ∷ 0xb9 ∷ 0x99 ∷ 0x99 ∷ 0x99 ∷ 0x99 ∷ 0x99 ∷ 0x9a ∷ []) ++ bytes "1";
   oldOutput = replicate 6 7;
@@ -117,7 +118,7 @@ kinds = record {
   old-room = omega arith;
 }
 
--- the new record: two spaces behind the text, a digit 0 behind the hex digits, and the nearest single
+-- the new record: two spaces after the text, a digit 0 after the hex digits, and the nearest single
 bytes-kinds : recordBytes (argumentsBy kinds true) ≡ bytes "ab  " ++ (0xab ∷ 0xc0 ∷ 0xcd ∷ 0xcc ∷ 0xcc ∷ 0x3d ∷ 0x01 ∷ [])
 unfolding kinds recordBytes filled slotsOf singleOf
 bytes-kinds = refl
@@ -135,7 +136,8 @@ unfolding kinds pack setBy filled slotsOf slotCount valueBytes
 cut-real true = record { within = omega arith; sizes = tt; enough-slots = omega arith; room = omega arith }
 cut-real false = record { within = omega arith; sizes = tt; enough-slots = omega arith; room = omega arith }
 
--- the blanks are dropped, the hex digits lowered, the real is the double of the single, and a missing binary digit is a 0
+-- the blanks are dropped, the hex digits lowered, the real is the double of the single, and a missing binary digit is a
+-- 0
 old-kinds : List Value
 old-kinds = record { kind = 1; items = bytes "ab" } ∷ record { kind = 1; items = bytes "abc" } ∷ []
 

@@ -6,12 +6,12 @@ use mathlib.Core.Bool.{Bool, true, false}
 use mathlib.Core.List.{List, [], _∷_, map}
 use lib.ListN.{take}
 use lib.Dec.{leb}
-use Rattle.layout.specs.declared.Code.{Code}
-use Rattle.layout.specs.declared.Code.the-variants.{Data, Move}
+use Rattle.layout.specs.declared.Role.{Role}
+use Rattle.layout.specs.declared.Role.the-variants.{Data, Move}
 use Rattle.layout.specs.declared.Shape.{Shape}
 use Rattle.layout.specs.declared.Shape.the-variants.{Text, Digits, Integers, Reals}
 use Rattle.layout.specs.declared.Count.{Count}
-use Rattle.layout.specs.Words.{FitCode}
+use Rattle.layout.specs.inside.Parsing.{FitRole}
 use Rattle.real.specs.Narrowing.{singleOf}
 use Rattle.real.specs.Widening.{doubleOf}
 use Rattle.real.proofs.WidenLaws.{double-below}
@@ -37,7 +37,7 @@ all-doubles : (xs : List ℕ) → All (λ x. x < 2 ^ 64) (map doubleOf (map (λ 
 all-doubles [] = tt
 all-doubles (x ∷ xs) = (double-below (x % 256 ^ 4) (mod-lt x (omega arith)), all-doubles xs)
 
-read-back-proper : (s : Shape) (u : Bool) (n : ℕ) (xs : List ℕ) → FitCode (Data s) → Proper (readBack s u n xs)
+read-back-proper : (s : Shape) (u : Bool) (n : ℕ) (xs : List ℕ) → FitRole (Data s) → Proper (readBack s u n xs)
 unfolding readBack
 read-back-proper (Text pad) u n xs h e = true-false e
 read-back-proper (Digits hex high) u n xs h e = true-false e
@@ -50,8 +50,8 @@ chosen true v vs h k = (h, k)
 chosen false v vs h k = k
 
 set-proper-step : (cut before : ℕ) (rest : List Filled) → ((b : ℕ) → AllProper (setBy cut b rest))
-    → (k : Code) (u : Bool) (n : Count) (xs : List ℕ) → Good k n xs
-    → AllProper (setBy cut before (record { field = record { code = k; unsigned = u; count = n }; items = xs } ∷ rest))
+    → (k : Role) (u : Bool) (n : Count) (xs : List ℕ) → Good k n xs
+    → AllProper (setBy cut before (record { field = record { role = k; unsigned = u; count = n }; items = xs } ∷ rest))
 unfolding setBy
 set-proper-step cut before rest ih (Data s) u n xs h =
     chosen (leb (before + bytesFor s (amount n 0)) cut) (readBack s u (amount n 0) xs) _ (read-back-proper s u (amount n 0) xs (h .0)) (ih _)
@@ -61,4 +61,4 @@ pub set-proper : (cut before : ℕ) (fs : List Filled) → AllGood fs → AllPro
 unfolding setBy
 set-proper cut before [] h = tt
 set-proper cut before (a ∷ rest) h =
-    set-proper-step cut before rest (λ b. set-proper cut b rest (h .1)) (a .field .code) (a .field .unsigned) (a .field .count) (a .items) (h .0)
+    set-proper-step cut before rest (λ b. set-proper cut b rest (h .1)) (a .field .role) (a .field .unsigned) (a .field .count) (a .items) (h .0)

@@ -1,5 +1,6 @@
--- The proof of demand 3. Packing a plain layout joins the bytes of its fields, so the old record is the front of the new one; a reader that
--- stands where the packer stood finds each field's own bytes as long as they end at or before the cut, and stops at the first that does not.
+-- The proof of demand 3. Packing a plain layout joins the bytes of its fields, so the old record is the front of the
+-- new one; a reader that stands where the packer stood finds each field's own bytes as long as they end at or before
+-- the cut, and stops at the first that does not.
 use Prim.Native.Nat.{ℕ, suc, _+_, _≤_, _<_, suc-le-suc}
 use native.Mathlib.Nat.{le-refl}
 use native.Mathlib.Omega.{arith}
@@ -18,7 +19,7 @@ use Rattle.record.specs.Slots.{slotAt}
 use Rattle.record.specs.Packing.{accepted, Filled, filled, argumentsFit, packed, pack, packEffect}
 use Rattle.record.specs.Geometry.{sizesFit}
 use Rattle.record.specs.Reading.{Read, valuesFrom, positionsFrom, read, readSteps, putInto}
-use Rattle.runs.specs.Ends.{plainCode, plainCount, endOf, recordOf}
+use Rattle.runs.specs.Ends.{plainRole, plainCount, endOf, recordOf}
 use Rattle.runs.proofs.Joined.{joined, joined-append, packed-joined}
 use Rattle.runs.proofs.Calls.{T→true, packs-by, read-by, steps-by}
 use Rattle.runs.proofs.Shown.{shows-put, put-same, position-put}
@@ -35,7 +36,7 @@ use Rattle.evolution.proofs.Arguments.{fields-filled, front, spare, fit
 count-front : (fs gs : List Field) → slotCount fs ≤ slotCount (fs ++ gs)
 unfolding slotCount
 count-front [] gs = omega arith
-count-front (f ∷ fs) gs = step (takesSlot (f .code)) (count-front fs gs)
+count-front (f ∷ fs) gs = step (takesSlot (f .role)) (count-front fs gs)
   where
     step : (t : Bool) → slotCount fs ≤ slotCount (fs ++ gs) → (if t then suc (slotCount fs) else slotCount fs) ≤ (if t then suc (slotCount (fs ++ gs)) else slotCount (fs ++ gs))
     step true h = suc-le-suc h
@@ -45,8 +46,8 @@ plain-front : (fs gs : List Field) → T (plain (fs ++ gs)) → T (plain fs)
 unfolding plain
 plain-front [] gs h = tt
 plain-front (f ∷ fs) gs h =
-    let (x, y) = both (plainCode (f .code) && plainCount (f .count)) (plain (fs ++ gs)) h in
-    joint (plainCode (f .code) && plainCount (f .count)) (plain fs) x (plain-front fs gs y)
+    let (x, y) = both (plainRole (f .role) && plainCount (f .count)) (plain (fs ++ gs)) h in
+    joint (plainRole (f .role) && plainCount (f .count)) (plain fs) x (plain-front fs gs y)
   where
     joint : (a b : Bool) → T a → T b → T (a && b)
     joint true b h k = k

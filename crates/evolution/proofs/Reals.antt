@@ -1,4 +1,5 @@
--- A double that is read from a single narrows to that single again, and is no NaN: the nearest single is finite, and its double has its value.
+-- A double that is read from a single narrows to that single again, and is no NaN: the nearest single is finite, and
+-- its double has its value.
 use Prim.Native.Nat.{ℕ, _%_, _^_, _≤_, _<_}
 use native.Mathlib.Nat.{mod-eq-of-lt, le-of-lt}
 use native.Mathlib.Omega.{arith}

@@ -8,17 +8,17 @@ use lib.ListN.{length, getD, take, drop, replicate, length-append, length-replic
 use lib.Seq.{length-take-le, take-at, drop-at, take-take, drop-drop}
 use lib.Dec.{T}
 use borrow.Author.Tests.{le-leb, lt-leb}
-use Rattle.layout.specs.declared.Code.{Code}
-use Rattle.layout.specs.declared.Code.the-variants.{Data, Move}
+use Rattle.layout.specs.declared.Role.{Role}
+use Rattle.layout.specs.declared.Role.the-variants.{Data, Move}
 use Rattle.layout.specs.declared.Motion.the-variants.{Skip, Back, Goto}
 use Rattle.layout.specs.declared.Count.{Count}
 use Rattle.layout.specs.declared.Field.{Field}
-use Rattle.layout.specs.Words.{FitCode}
+use Rattle.layout.specs.inside.Parsing.{FitRole}
 use Rattle.record.specs.Table.{noPosition, Value}
 use Rattle.record.specs.Geometry.{amount, bytesFor, itemsIn}
 use Rattle.record.specs.Packing.{stored, Filled}
 use Rattle.record.specs.Reading.{loaded, valuesFrom, positionsFrom, stepsFrom}
-use Rattle.runs.specs.Ends.{plainCode, fills, endOf}
+use Rattle.runs.specs.Ends.{plainRole, fills, endOf}
 use Rattle.runs.proofs.Joined.{bytesOf, joined, Forward}
 use Rattle.evolution.specs.Claim.{setBy, startsFrom, carriedOut}
 use Rattle.record.proofs.Bytes.{drop-take}
@@ -27,17 +27,17 @@ use Rattle.evolution.proofs.Fields.{back}
 
 -- ---- a field with its argument, in a plain layout that the packer accepts
 
-abbrev pub Good : Code → Count → List ℕ → Type 0
-Good (Data s) n xs = FitCode (Data s) × Served s (amount n 0) xs × (0 < amount n 0) × ((all : ℕ) → amount n all ≡ amount n 0)
+abbrev pub Good : Role → Count → List ℕ → Type 0
+Good (Data s) n xs = FitRole (Data s) × Served s (amount n 0) xs × (0 < amount n 0) × ((all : ℕ) → amount n all ≡ amount n 0)
 Good (Move Skip) n xs = (all : ℕ) → amount n all ≡ amount n 0
 Good (Move Back) n xs = ⊥
 Good (Move Goto) n xs = ⊥
 
 abbrev pub AllGood : List Filled → Type 0
 AllGood [] = Unit {0}
-AllGood (a ∷ rest) = Good (a .field .code) (a .field .count) (a .items) × AllGood rest
+AllGood (a ∷ rest) = Good (a .field .role) (a .field .count) (a .items) × AllGood rest
 
-goes-forward : (k : Code) (n : Count) (xs : List ℕ) → Good k n xs → T (plainCode k)
+goes-forward : (k : Role) (n : Count) (xs : List ℕ) → Good k n xs → T (plainRole k)
 goes-forward (Data s) n xs h = tt
 goes-forward (Move Skip) n xs h = tt
 goes-forward (Move Back) n xs h = h
@@ -45,9 +45,9 @@ goes-forward (Move Goto) n xs h = h
 
 pub all-forward : (fs : List Filled) → AllGood fs → Forward fs
 all-forward [] h = tt
-all-forward (a ∷ rest) h = (goes-forward (a .field .code) (a .field .count) (a .items) (h .0), all-forward rest (h .1))
+all-forward (a ∷ rest) h = (goes-forward (a .field .role) (a .field .count) (a .items) (h .0), all-forward rest (h .1))
 
-pub length-bytes : (k : Code) (n : Count) (xs : List ℕ) → Good k n xs → length (bytesOf k n xs) ≡ fills k n
+pub length-bytes : (k : Role) (n : Count) (xs : List ℕ) → Good k n xs → length (bytesOf k n xs) ≡ fills k n
 unfolding bytesOf fills
 length-bytes (Data s) n xs h = rw (h .3 (length xs)) (length-stored s (amount n 0) xs (h .1))
 length-bytes (Move Skip) n xs h = length-replicate (amount n 0) 0
@@ -67,14 +67,14 @@ fieldsIn (a ∷ rest) = a .field ∷ fieldsIn rest
 pub length-joined : (fs : List Filled) → AllGood fs → length (joined fs) ≡ endOf (fieldsIn fs)
 unfolding joined fieldsIn endOf
 length-joined [] h = refl
-length-joined (a ∷ rest) h = rw (length-append, length-bytes (a .field .code) (a .field .count) (a .items) (h .0), length-joined rest (h .1))
+length-joined (a ∷ rest) h = rw (length-append, length-bytes (a .field .role) (a .field .count) (a .items) (h .0), length-joined rest (h .1))
 
-abbrev pub one : Code → Bool → Count → List ℕ → Filled
-one k u n xs = record { field = record { code = k; unsigned = u; count = n }; items = xs }
+abbrev pub one : Role → Bool → Count → List ℕ → Filled
+one k u n xs = record { field = record { role = k; unsigned = u; count = n }; items = xs }
 
 -- past the cut nothing is due
 past-due-step : (cut before : ℕ) (rest : List Filled) → ((b : ℕ) → cut < b → setBy cut b rest ≡ []) → cut < before
-    → (k : Code) (u : Bool) (n : Count) (xs : List ℕ) → setBy cut before (one k u n xs ∷ rest) ≡ []
+    → (k : Role) (u : Bool) (n : Count) (xs : List ℕ) → setBy cut before (one k u n xs ∷ rest) ≡ []
 unfolding setBy
 past-due-step cut before rest ih h (Data s) u n xs = rw (lt-leb (before + bytesFor s (amount n 0)) cut (omega arith)) (ih _ (omega arith))
 past-due-step cut before rest ih h (Move m) u n xs = ih _ (omega arith)
@@ -83,11 +83,11 @@ pub past-due : (cut before : ℕ) (fs : List Filled) → cut < before → setBy 
 unfolding setBy
 past-due cut before [] h = refl
 past-due cut before (a ∷ rest) h =
-    past-due-step cut before rest (λ b k. past-due cut b rest k) h (a .field .code) (a .field .unsigned) (a .field .count) (a .items)
+    past-due-step cut before rest (λ b k. past-due cut b rest k) h (a .field .role) (a .field .unsigned) (a .field .count) (a .items)
 
 -- at the end of the bytes nothing is read
 at-end-step : (bs : List ℕ) (fs : List Field) → valuesFrom bs (length bs) fs ≡ []
-    → (k : Code) (u : Bool) (n : Count) (xs : List ℕ) → Good k n xs → valuesFrom bs (length bs) (record { code = k; unsigned = u; count = n } ∷ fs) ≡ []
+    → (k : Role) (u : Bool) (n : Count) (xs : List ℕ) → Good k n xs → valuesFrom bs (length bs) (record { role = k; unsigned = u; count = n } ∷ fs) ≡ []
 unfolding valuesFrom
 at-end-step bs fs ih (Data s) u n xs h =
     rw (h .3 (itemsIn s (length bs - length bs)), lt-leb (bytesFor s (amount n 0)) (length bs - length bs) (omega (arith, fills-some s (amount n 0) (h .0) (h .2))))
@@ -99,7 +99,7 @@ at-end : (bs : List ℕ) (fs : List Filled) → AllGood fs → valuesFrom bs (le
 unfolding valuesFrom fieldsIn
 at-end bs [] h = refl
 at-end bs (a ∷ rest) h =
-    at-end-step bs (fieldsIn rest) (at-end bs rest (h .1)) (a .field .code) (a .field .unsigned) (a .field .count) (a .items) (h .0)
+    at-end-step bs (fieldsIn rest) (at-end bs rest (h .1)) (a .field .role) (a .field .unsigned) (a .field .count) (a .items) (h .0)
 
 -- Before the cut the reader stands where the packer stood: `whole` has the bytes of fs and then `after` from `at` on
 module _ (whole : List ℕ) (cut : ℕ) (inside : cut ≤ length whole) where
@@ -112,7 +112,7 @@ module _ (whole : List ℕ) (cut : ℕ) (inside : cut ≤ length whole) where
   next : (at : ℕ) (bs rest after : List ℕ) (n : ℕ) → length bs ≡ n → drop at whole ≡ (bs ++ rest) ++ after → drop (at + n) whole ≡ rest ++ after
   next at bs rest after n len e = sym (drop-drop n at whole) ∙ ap (drop n) (e ∙ append-assoc bs rest after) ∙ drop-at bs (rest ++ after) n len
 
-  agree-step : (rest : List Filled) → AllGood rest → Agree rest → (k : Code) (u : Bool) (n : Count) (xs : List ℕ) → Good k n xs → Agree (one k u n xs ∷ rest)
+  agree-step : (rest : List Filled) → AllGood rest → Agree rest → (k : Role) (u : Bool) (n : Count) (xs : List ℕ) → Good k n xs → Agree (one k u n xs ∷ rest)
   unfolding valuesFrom setBy fieldsIn joined bytesOf
   agree-step rest hs ih (Data s) u n xs h at after le e =
       let bs : List ℕ = stored s (amount n 0) xs in
@@ -147,9 +147,10 @@ module _ (whole : List ℕ) (cut : ℕ) (inside : cut ≤ length whole) where
   pub agree : (fs : List Filled) → AllGood fs → Agree fs
   unfolding valuesFrom setBy fieldsIn
   agree [] h = λ at after le e. refl
-  agree (a ∷ rest) h = agree-step rest (h .1) (agree rest (h .1)) (a .field .code) (a .field .unsigned) (a .field .count) (a .items) (h .0)
+  agree (a ∷ rest) h = agree-step rest (h .1) (agree rest (h .1)) (a .field .role) (a .field .unsigned) (a .field .count) (a .items) (h .0)
 
--- ---- where fields begin: as long as there are values, the reader begins each field where the packer did; gs are any fields behind
+-- ---- where fields begin: as long as there are values, the reader begins each field where the packer did; gs are any
+-- fields that follow
 
 module _ (bs : List ℕ) (gs : List Field) where
   abbrev Begun : List Filled → Type 0
@@ -169,7 +170,7 @@ module _ (bs : List ℕ) (gs : List Field) where
   none : (i : ℕ) → i < 0 → (x y : ℕ) → x ≡ y
   none i l x y = omega arith
 
-  begun-step : (rest : List Filled) → AllGood rest → Begun rest → (k : Code) (u : Bool) (n : Count) (xs : List ℕ) → Good k n xs → Begun (one k u n xs ∷ rest)
+  begun-step : (rest : List Filled) → AllGood rest → Begun rest → (k : Role) (u : Bool) (n : Count) (xs : List ℕ) → Good k n xs → Begun (one k u n xs ∷ rest)
   unfolding valuesFrom positionsFrom startsFrom fills fieldsIn
   begun-step rest hs ih (Data s) u n xs h at le =
       let need : ℕ = bytesFor s (amount n 0) in
@@ -178,11 +179,11 @@ module _ (bs : List ℕ) (gs : List Field) where
       let places : at ∷ positionsFrom (length bs) (at + bytesFor s (amount n (itemsIn s (length bs - at)))) fs ≡ at ∷ positionsFrom (length bs) (at + need) fs = rw (h .3 (itemsIn s (length bs - at))) in
       split need (length bs - at)
       (λ (k : need ≤ length bs - at).
-      let values : valuesFrom bs at (record { code = Data s; unsigned = u; count = n } ∷ fs) ≡ loaded s u (amount n 0) (take need (drop at bs)) ∷ valuesFrom bs (at + need) fs =
+      let values : valuesFrom bs at (record { role = Data s; unsigned = u; count = n } ∷ fs) ≡ loaded s u (amount n 0) (take need (drop at bs)) ∷ valuesFrom bs (at + need) fs =
       rw (h .3 (itemsIn s (length bs - at)), le-leb need (length bs - at) k) in
       named (at ∷ starts) values places (later at (length (valuesFrom bs (at + need) fs)) (positionsFrom (length bs) (at + need) fs) starts (ih (at + need) (omega arith))))
       (λ (k : length bs - at < need).
-      let values : valuesFrom bs at (record { code = Data s; unsigned = u; count = n } ∷ fs) ≡ [] = rw (h .3 (itemsIn s (length bs - at)), lt-leb need (length bs - at) k) in
+      let values : valuesFrom bs at (record { role = Data s; unsigned = u; count = n } ∷ fs) ≡ [] = rw (h .3 (itemsIn s (length bs - at)), lt-leb need (length bs - at) k) in
       named (at ∷ starts) values places (λ i l. none i l _ _))
   begun-step rest hs ih (Move Skip) u n xs h at le =
       let fs : List Field = fieldsIn rest in
@@ -202,14 +203,14 @@ module _ (bs : List ℕ) (gs : List Field) where
   pub begun : (fs : List Filled) → AllGood fs → Begun fs
   unfolding valuesFrom fieldsIn
   begun [] h = λ at le i l. none i l _ _
-  begun (a ∷ rest) h = begun-step rest (h .1) (begun rest (h .1)) (a .field .code) (a .field .unsigned) (a .field .count) (a .items) (h .0)
+  begun (a ∷ rest) h = begun-step rest (h .1) (begun rest (h .1)) (a .field .role) (a .field .unsigned) (a .field .count) (a .items) (h .0)
 
 -- ---- steps: the reader takes as many as are due, also where an `x` has taken it to the cut
 
 module _ (cut : ℕ) where
   -- at the cut, with fields due past it
   at-cut-step : (rest : List Filled) → ((b : ℕ) → cut < b → stepsFrom cut cut (fieldsIn rest) ≡ carriedOut cut b (fieldsIn rest))
-      → (k : Code) (u : Bool) (n : Count) (xs : List ℕ) → Good k n xs → (b : ℕ) → cut < b → stepsFrom cut cut (fieldsIn (one k u n xs ∷ rest)) ≡ carriedOut cut b (fieldsIn (one k u n xs ∷ rest))
+      → (k : Role) (u : Bool) (n : Count) (xs : List ℕ) → Good k n xs → (b : ℕ) → cut < b → stepsFrom cut cut (fieldsIn (one k u n xs ∷ rest)) ≡ carriedOut cut b (fieldsIn (one k u n xs ∷ rest))
   unfolding stepsFrom carriedOut fills fieldsIn
   at-cut-step rest ih (Data s) u n xs h b l =
       rw (h .3 (itemsIn s (cut - cut)), lt-leb (bytesFor s (amount n 0)) (cut - cut) (omega (arith, fills-some s (amount n 0) (h .0) (h .2))), lt-leb (b + bytesFor s (amount n 0)) cut (omega arith))
@@ -220,10 +221,10 @@ module _ (cut : ℕ) where
   at-cut : (fs : List Filled) → AllGood fs → (b : ℕ) → cut < b → stepsFrom cut cut (fieldsIn fs) ≡ carriedOut cut b (fieldsIn fs)
   unfolding stepsFrom carriedOut fieldsIn
   at-cut [] h = λ b l. refl
-  at-cut (a ∷ rest) h = at-cut-step rest (at-cut rest (h .1)) (a .field .code) (a .field .unsigned) (a .field .count) (a .items) (h .0)
+  at-cut (a ∷ rest) h = at-cut-step rest (at-cut rest (h .1)) (a .field .role) (a .field .unsigned) (a .field .count) (a .items) (h .0)
 
   carried-step : (rest : List Filled) → AllGood rest → ((at : ℕ) → at ≤ cut → stepsFrom cut at (fieldsIn rest) ≡ carriedOut cut at (fieldsIn rest))
-      → (k : Code) (u : Bool) (n : Count) (xs : List ℕ) → Good k n xs → (at : ℕ) → at ≤ cut → stepsFrom cut at (fieldsIn (one k u n xs ∷ rest)) ≡ carriedOut cut at (fieldsIn (one k u n xs ∷ rest))
+      → (k : Role) (u : Bool) (n : Count) (xs : List ℕ) → Good k n xs → (at : ℕ) → at ≤ cut → stepsFrom cut at (fieldsIn (one k u n xs ∷ rest)) ≡ carriedOut cut at (fieldsIn (one k u n xs ∷ rest))
   unfolding stepsFrom carriedOut fills fieldsIn
   carried-step rest hs ih (Data s) u n xs h at le =
       let need : ℕ = bytesFor s (amount n 0) in
@@ -242,4 +243,4 @@ module _ (cut : ℕ) where
   pub carried : (fs : List Filled) → AllGood fs → (at : ℕ) → at ≤ cut → stepsFrom cut at (fieldsIn fs) ≡ carriedOut cut at (fieldsIn fs)
   unfolding stepsFrom carriedOut fieldsIn
   carried [] h = λ at le. refl
-  carried (a ∷ rest) h = carried-step rest (h .1) (carried rest (h .1)) (a .field .code) (a .field .unsigned) (a .field .count) (a .items) (h .0)
+  carried (a ∷ rest) h = carried-step rest (h .1) (carried rest (h .1)) (a .field .role) (a .field .unsigned) (a .field .count) (a .items) (h .0)

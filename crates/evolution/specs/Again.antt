@@ -14,13 +14,15 @@ abbrev pub cameBack : Bool → Bool → Bool → ℕ → List ℕ → List ℕ
 cameBack single big u n xs = readBack (Reals single big) u n xs .items
 
 pub record PacksAgain (single big u : Bool) (n : ℕ) (xs : List ℕ) : Type 0 where
-  -- of `r R` the doubles of the nearest singles, of `q Q` the doubles themselves
+  -- what comes back: of `r R` the doubles of the nearest singles, of `q Q` the doubles themselves
   pub values : cameBack single big u n xs ≡ doubles single (patterns single (take n xs))
-  -- number 16 does not apply to them
+  -- number 16 does not apply to what came back
   pub served : realsFit (Reals single big) n (cameBack single big u n xs) ≡ true
-  -- and they are stored as the bytes that they were read from
+  -- what came back is stored as the bytes that it was read from
   pub same : stored (Reals single big) n (cameBack single big u n xs) ≡ stored (Reals single big) n xs
 
--- for all doubles
+-- `PacksAgain` holds for all doubles
 abbrev pub RealsAgain : Type 0
-RealsAgain = (single big u : Bool) (n : ℕ) (xs : List ℕ) → n ≤ length xs → ((i : ℕ) → getD xs i 0 < 2 ^ 64) → PacksAgain single big u n xs
+RealsAgain =
+    (single big u : Bool) (n : ℕ) (xs : List ℕ) → n ≤ length xs → ((i : ℕ) → getD xs i 0 < 2 ^ 64)
+    → PacksAgain single big u n xs

@@ -115,11 +115,12 @@ checked =
     ∷ reading [] "a0" 1 (str "" ∷ [])
     ∷ []
 
--- THEY ALL HOLD
+-- ALL CHECKED EXAMPLES HOLD
 abbrev pub CheckedHold : Type 0
 CheckedHold = T (all checked)
 
--- ---- more, each for something that the thirteen leave open; the other examples of 001 to 003 are run by the program `tour`
+-- ---- more examples, each for something that the thirteen leave open; the other examples of 001 to 003 are run by the
+-- program `tour`
 
 unfoldable pub more : List Example
 unfolding str ints minus

@@ -6,7 +6,7 @@ use mathlib.Core.Path.{refl}
 use mathlib.Core.Bool.{true, false}
 use mathlib.Core.List.{[], _∷_, _++_}
 use lib.ListN.{replicate}
-use Rattle.layout.specs.declared.Code.the-variants.{Data, Move}
+use Rattle.layout.specs.declared.Role.the-variants.{Data, Move}
 use Rattle.layout.specs.declared.Motion.the-variants.{Skip}
 use Rattle.layout.specs.declared.Shape.the-variants.{Text, Integers}
 use Rattle.layout.specs.declared.Count.the-variants.{Absent, Times}
@@ -17,16 +17,16 @@ use Rattle.record.specs.Packing.{argumentsFit}
 use Rattle.runs.specs.Ends.{endOf}
 use Rattle.evolution.specs.Claim.{Layouts, plain}
 
--- the integer's last byte is given, and its others are 255
+-- the two layouts with their arguments; the integer's last byte is given, and its others are 255
 unfoldable pub pairWith : ℕ → Layouts
 unfolding fieldsOf plain argumentsFit slotsOf endOf slotCount
 pairWith byte = record {
   old = bytes "a3";
   new = bytes "a03 xS";
-  fields = record { code = Data (Text 0); unsigned = false; count = Times 3 } ∷ [];
+  fields = record { role = Data (Text 0); unsigned = false; count = Times 3 } ∷ [];
   added =
-      record { code = Move Skip; unsigned = false; count = Absent }
-      ∷ record { code = Data (Integers 2 true); unsigned = false; count = Absent }
+      record { role = Move Skip; unsigned = false; count = Absent }
+      ∷ record { role = Data (Integers 2 true); unsigned = false; count = Absent }
       ∷ [];
   slots = 1 ∷ 0 ∷ 2 ∷ 9 ∷ 2 ∷ 2 ∷ 1 ∷ 9 ∷ [];
   area = bytes "ab" ++ (255 ∷ 255 ∷ 255 ∷ 255 ∷ 255 ∷ 255 ∷ 255 ∷ byte ∷ []);
@@ -43,7 +43,7 @@ pairWith byte = record {
   old-room = omega arith;
 }
 
--- with -2, and with -3
+-- the two layouts with the integer -2, and with -3
 unfoldable pub pair : Layouts
 unfolding pairWith
 pair = pairWith 254

@@ -1,10 +1,11 @@
 // What one layout packs, cut anywhere, read by another: the calls of which demand 3 speaks.
-// The claim and its proof are in the crate `evolution`; `read_back` keeps it.
-ghost use Rattle.evolution.specs.read_back.Calls.{ReadsBackAs};
+// The claim is in specs/Claim.antt, its proof in proofs/; `read_back` keeps it.
+ghost use Rattle.layout.specs.Lent.{before, after};
+ghost use Rattle.evolution.specs.Calls.{ReadsBackAs};
 use record::ReadAnswer;
 
-// Packs by one layout into `out`, cuts the record at `cut` (or not, where it is shorter), and reads it by another layout.
-// Answers what the reader does, or the packer where that refuses (and no steps).
+// Packs by one layout into `out`, cuts the record at `cut` (or not, where it is shorter), and reads it by another
+// layout. Answers what the reader does, or the packer where that refuses (and no steps).
 pub fn read_back(
     written_by: &[u8],
     slots: &[u32],
@@ -18,17 +19,17 @@ pub fn read_back(
 ) -> ReadAnswer
     ensures { λ r. ⌜ ReadsBackAs
         (record {
-          writtenBy = now («written_by» .entry);
-          slots = now (slots .entry);
-          area = now (area .entry);
-          output = now (out .entry);
+          writtenBy = before «written_by»;
+          slots = before slots;
+          area = before area;
+          output = before out;
           cut = cut;
-          readBy = now («read_by» .entry);
-          table = now (table .entry);
-          values = now (values .entry);
+          readBy = before «read_by»;
+          table = before table;
+          values = before values;
           mark = mark;
         })
-        (record { answer = r; output = now (out .exit); table = now (table .exit); values = now (values .exit) }) ⌝ }
+        (record { answer = r; output = after out; table = after table; values = after values }) ⌝ }
 {
     let a = packer::pack(written_by, slots, area, out);
     let number = a.number;

@@ -1,4 +1,5 @@
--- What a C host sees of a call on numbers: its answer is the reply, and an accepted reading writes the bytes of the slots that it set.
+-- What a C host sees of a call on numbers: its answer is the reply, and an accepted reading writes the bytes of the
+-- slots that it set.
 use Prim.Native.Nat.{ℕ, _*_, _%_, _<_}
 use mathlib.Core.Path.{_≡_}
 use mathlib.Core.List.{List}
@@ -11,7 +12,7 @@ use Rattle.record.specs.Packing.{Packed}
 use Rattle.record.specs.Reading.{Read}
 use Rattle.record.proofs.Bytes.{All}
 use Rattle.record.proofs.Readings.{over}
-use Rattle.host.specs.numbers.Numbers.{numberSize, numbersIn, bytesOf}
+use Rattle.host.specs.Numbers.{numberSize, numbersIn, numbersBytes}
 use Rattle.host.proofs.numbers.NumberLaws.{bytes-stored}
 use Rattle.host.specs.Host.{replyOf, packCall, readCall}
 
@@ -28,7 +29,7 @@ module _ {a : Answer} {r : ℕ} {reply′ : List ℕ} (q : (r ≡ a .number) × 
     read-left h = rw (lent, ne-eqb (a .number) 0 h, q .0, q .1)
 
     -- and an accepted reading the bytes of those that it did not set
-    pub read-set : {slots′ : List ℕ} → a .number ≡ 0 → length slots % numberSize ≡ 0 → All (λ b. b < 256) slots → slots′ ≡ storeAt slots 0 (bytesOf (take (a .first * slotWidth) ns))
+    pub read-set : {slots′ : List ℕ} → a .number ≡ 0 → length slots % numberSize ≡ 0 → All (λ b. b < 256) slots → slots′ ≡ storeAt slots 0 (numbersBytes (take (a .first * slotWidth) ns))
         → record { returned = r; slots = slots′; area = area; reply = reply′ } ≡ readCall slots x
     unfolding readCall
     read-set h whole below s = rw (lent, eq-eqb (a .number) 0 h, bytes-stored slots (take (a .first * slotWidth) ns) whole below, s, q .0, q .1)

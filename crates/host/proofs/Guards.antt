@@ -8,14 +8,15 @@ use borrow.Author.Tests.{le-leb, leb-true, eq-eqb, eqb-true}
 use lib.Dec.{eqb, leb}
 use lib.ListN.{length, take}
 use lib.Seq.{length-take-le}
-use Rattle.layout.specs.Layout.{shortLayout}
+use Rattle.layout.specs.inside.Parsing.{shortLayout}
 use Rattle.layout.specs.Refusals.{if_then_else_}
 use Rattle.record.proofs.Bytes.{and-true}
 use Rattle.record.specs.Table.{maxSlots, slotWidth}
 use Rattle.record.proofs.Fields.{split}
-use Rattle.host.specs.numbers.Numbers.{numberSize, numbersIn}
+use Rattle.host.specs.Numbers.{numberSize, numbersIn}
 use Rattle.host.proofs.numbers.NumberLaws.{length-numbersIn}
-use Rattle.host.specs.Host.{slotSize, guarded, slotsFit, fewNumbers, isSmall}
+use Rattle.host.specs.Host.{slotSize, guarded}
+use Rattle.host.specs.inside.Small.{slotBytesFit, fewNumbers, isSmall}
 
 -- ---- the sizes of the runs
 
@@ -28,7 +29,7 @@ pub record Fit (size : ℕ) : Type 0 where
   pub few : size ≤ slotSize * maxSlots
   pub whole : size % slotSize ≡ 0
 
-pub fit : (size : ℕ) → slotsFit size ≡ true → Fit size
+pub fit : (size : ℕ) → slotBytesFit size ≡ true → Fit size
 fit size h =
     let (few, whole) = and-true (leb size (slotSize * maxSlots)) (eqb (size % slotSize) 0) h in
     record { few = leb-true size (slotSize * maxSlots) few; whole = eqb-true (size % slotSize) 0 whole }
@@ -42,7 +43,7 @@ pub room-whole : {size : ℕ} (room : List ℕ) → Fit size → size / numberSi
 room-whole {size} room f h = rw (length-take-le (size / numberSize) room h) (omega (arith, f .whole))
 
 -- whole slots that are not served are too many
-pub too-many : (size : ℕ) → slotsFit size ≡ false → eqb (size % slotSize) 0 ≡ true → slotWidth * maxSlots < size / numberSize
+pub too-many : (size : ℕ) → slotBytesFit size ≡ false → eqb (size % slotSize) 0 ≡ true → slotWidth * maxSlots < size / numberSize
 too-many size bad whole =
     split size (slotSize * maxSlots)
     (λ few. let no-way : true ≡ false = rw (le-leb size (slotSize * maxSlots) few, whole) at bad in
@@ -69,7 +70,7 @@ module _ {A : Type 0} (size : ℕ) (reply slots : List ℕ) (unwritten refused s
   guarded-unwritten h = rw h
 
   module _ (sized : eqb (length reply) size ≡ true) where
-    pub guarded-refused : slotsFit (length slots) ≡ false → (slotWidth * maxSlots < length (numbersIn slots) → refused ≡ served) → refused ≡ guarded size reply slots unwritten refused served
+    pub guarded-refused : slotBytesFit (length slots) ≡ false → (slotWidth * maxSlots < length (numbersIn slots) → refused ≡ served) → refused ≡ guarded size reply slots unwritten refused served
     guarded-refused bad many =
         rw sized
         (otherwise (eqb (length slots % slotSize) 0) (λ whole. many (rw length-numbersIn (too-many (length slots) bad whole))))

@@ -1,16 +1,15 @@
--- What the calls for a C host share (document 01, Slot tables): slots and replies are runs of bytes, each number four of them, big-endian.
+-- What the calls for a C host share (document 01, Slot tables): slots and replies are runs of bytes, each number four
+-- of them, big-endian.
 use Prim.Native.Nat.{ℕ, _*_, _%_}
-use mathlib.Core.Bool.{Bool, _&&_}
 use mathlib.Core.List.{List, [], _∷_}
 use lib.ListN.{length}
-use lib.Dec.{eqb, leb}
-use Rattle.layout.specs.Layout.{shortLayout}
+use lib.Dec.{eqb}
 use Rattle.layout.specs.Refusals.{if_then_else_}
 use Rattle.record.specs.declared.Answer.{Answer}
-use Rattle.record.specs.Table.{slotWidth, maxSlots}
+use Rattle.record.specs.Table.{slotWidth}
 use Rattle.record.specs.Packing.{Packed}
 use Rattle.record.specs.Reading.{Read}
-use Rattle.host.specs.numbers.Numbers.{numberSize, bytesOf}
+use Rattle.host.specs.Numbers.{numberSize, numbersBytes}
 
 -- ---- slots and replies as bytes
 
@@ -21,41 +20,28 @@ slotSize = numberSize * slotWidth
 abbrev pub replySize : ℕ
 replySize = numberSize * 3
 
--- of a reply that has a fourth number
+-- the bytes of a reply that has a fourth number
 abbrev pub longReplySize : ℕ
 longReplySize = numberSize * 4
 
 -- the reply to an answer of three numbers
 unfoldable pub replyOf : Answer → List ℕ
-unfolding bytesOf
-replyOf a = bytesOf (a .number ∷ a .first ∷ a .second ∷ [])
+unfolding numbersBytes
+replyOf a = numbersBytes (a .number ∷ a .first ∷ a .second ∷ [])
 
--- the same with a fourth number
+-- the reply to an answer of three numbers and a fourth one
 unfoldable pub longReply : Answer → ℕ → List ℕ
-unfolding bytesOf
-longReply a fourth = bytesOf (a .number ∷ a .first ∷ a .second ∷ fourth ∷ [])
+unfolding numbersBytes
+longReply a fourth = numbersBytes (a .number ∷ a .first ∷ a .second ∷ fourth ∷ [])
 
 -- ---- what the calls share
 
--- A reply of another size than the call's own: nothing is written. Slot bytes that are no whole slots: refused with 1. Else the call is
--- served on the numbers that the bytes make, where more slots than a call may be lent are refused with 1.
+-- A reply of another size than the call's own: nothing is written. Slot bytes that are no whole slots: refused with 1.
+-- Else the call is served on the numbers that the bytes make, where more slots than a call may be lent are refused with
+-- 1.
 abbrev pub guarded : {A : Type 0} → ℕ → List ℕ → List ℕ → A → A → A → A
 guarded size reply slots unwritten refused served =
     if eqb (length reply) size then (if eqb (length slots % slotSize) 0 then served else refused) else unwritten
-
--- a run of so many slot bytes is taken apart: the slots are whole, and no more than a call may be lent
-abbrev pub slotsFit : ℕ → Bool
-slotsFit size = leb size (slotSize * maxSlots) && eqb (size % slotSize) 0
-
--- ---- small calls
-
--- the numbers of eight slots, which are few
-abbrev pub fewNumbers : ℕ
-fewNumbers = 8 * slotWidth
-
--- a layout of so many bytes is short, and so many numbers are few
-unfoldable pub isSmall : ℕ → ℕ → Bool
-isSmall layout numbers = leb layout shortLayout && leb numbers fewNumbers
 
 -- ---- what a call leaves
 
@@ -79,15 +65,15 @@ pub record ReadCall : Type 0 where
 
 -- what the call on numbers leaves, as a C host sees it: a refusal writes the reply alone
 unfoldable pub readCall : List ℕ → Read → ReadCall
-unfolding bytesOf replyOf
+unfolding numbersBytes replyOf
 readCall slots r =
     record {
       returned = r .answer .number;
-      slots = if eqb (r .answer .number) 0 then bytesOf (r .slots) else slots;
+      slots = if eqb (r .answer .number) 0 then numbersBytes (r .slots) else slots;
       area = r .area;
       reply = replyOf (r .answer);
     }
 
--- the same with another reply
+-- what a call leaves, with another reply
 abbrev pub withReply : List ℕ → ReadCall → ReadCall
 withReply reply c = record { returned = c .returned; slots = c .slots; area = c .area; reply = reply }

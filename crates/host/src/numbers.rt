@@ -2,9 +2,10 @@
 ghost use mathlib.Core.Path.{_≡_};
 ghost use Prim.Native.Nat.{_+_, _*_, _%_, _≤_};
 ghost use lib.ListN.{length, take};
+ghost use Rattle.layout.specs.Lent.{before, after};
 ghost use Rattle.record.specs.Bytes.{part, storeAt, numberBytes, numberAt};
 ghost use Rattle.record.specs.Table.{slotWidth};
-ghost use Rattle.host.specs.numbers.Numbers.{numberSize, numbersIn, bytesOf};
+ghost use Rattle.host.specs.Numbers.{numberSize, numbersIn, numbersBytes};
 use byte_runs::big_endian;
 
 // The bytes of a number.
@@ -12,15 +13,16 @@ pub const NUMBER_SIZE: usize = 4;
 
 fn number_at(bytes: &[u8], at: usize) -> u32
     requires { ⌜ at + numberSize ≤ length (now bytes) ⌝ }
-    ensures { λ r. ⌜ r ≡ numberAt numberSize (now (bytes .entry)) at ⌝ }
+    ensures { λ r. ⌜ r ≡ numberAt numberSize (before bytes) at ⌝ }
 {
     big_endian::number_at(bytes, at, NUMBER_SIZE) as u32
 }
 
-// Turned round and stored low byte first: of this the compiler makes one store.
+// Puts the four bytes of a number at a place, the highest first. Turned round and stored low byte first: of this the
+// compiler makes one store.
 fn put_number(out: &mut [u8], at: usize, x: u32)
     requires { ⌜ at + numberSize ≤ length (now out) ⌝ }
-    ensures { λ _. ⌜ now (out .exit) ≡ storeAt (now (out .entry)) at (numberBytes numberSize x) ⌝ }
+    ensures { λ _. ⌜ after out ≡ storeAt (before out) at (numberBytes numberSize x) ⌝ }
 {
     integers::put_four(out, at, integers::turn_four(x, true))
 }
@@ -28,7 +30,7 @@ fn put_number(out: &mut [u8], at: usize, x: u32)
 // The n numbers from number `from` on, out of the bytes where they stand.
 fn decode_run(bytes: &[u8], numbers: &mut [u32], from: usize, n: usize)
     requires { ⌜ (length (now bytes) ≡ length (now numbers) * numberSize) × (from + n ≤ length (now numbers)) ⌝ }
-    ensures { λ _. ⌜ now (numbers .exit) ≡ storeAt (now (numbers .entry)) from (part (numbersIn (now (bytes .entry))) from n) ⌝ }
+    ensures { λ _. ⌜ after numbers ≡ storeAt (before numbers) from (part (numbersIn (before bytes)) from n) ⌝ }
 {
     let mut j = 0;
     while j < n {
@@ -41,7 +43,8 @@ fn decode_run(bytes: &[u8], numbers: &mut [u32], from: usize, n: usize)
 // The bytes of the n numbers from number `from` on, put where they stand.
 pub fn encode_run(out: &mut [u8], numbers: &[u32], from: usize, n: usize)
     requires { ⌜ (length (now numbers) * numberSize ≤ length (now out)) × (from + n ≤ length (now numbers)) ⌝ }
-    ensures { λ _. ⌜ now (out .exit) ≡ storeAt (now (out .entry)) (from * numberSize) (bytesOf (part (now (numbers .entry)) from n)) ⌝ }
+    ensures { λ _. ⌜ after out
+        ≡ storeAt (before out) (from * numberSize) (numbersBytes (part (before numbers) from n)) ⌝ }
 {
     let mut j = 0;
     while j < n {
@@ -54,7 +57,7 @@ pub fn encode_run(out: &mut [u8], numbers: &[u32], from: usize, n: usize)
 // The numbers of a run of slot bytes, a slot a turn.
 pub fn decode(bytes: &[u8], numbers: &mut [u32])
     requires { ⌜ (length (now bytes) ≡ length (now numbers) * numberSize) × (length (now numbers) % slotWidth ≡ 0) ⌝ }
-    ensures { λ _. ⌜ now (numbers .exit) ≡ numbersIn (now (bytes .entry)) ⌝ }
+    ensures { λ _. ⌜ after numbers ≡ numbersIn (before bytes) ⌝ }
 {
     let mut i = 0;
     while i < numbers.len() {
@@ -66,7 +69,7 @@ pub fn decode(bytes: &[u8], numbers: &mut [u32])
 // The bytes of the first n slots, a slot a turn.
 pub fn encode(out: &mut [u8], numbers: &[u32], n: usize)
     requires { ⌜ (length (now numbers) * numberSize ≤ length (now out)) × (n * slotWidth ≤ length (now numbers)) ⌝ }
-    ensures { λ _. ⌜ now (out .exit) ≡ storeAt (now (out .entry)) 0 (bytesOf (take (n * slotWidth) (now (numbers .entry)))) ⌝ }
+    ensures { λ _. ⌜ after out ≡ storeAt (before out) 0 (numbersBytes (take (n * slotWidth) (before numbers))) ⌝ }
 {
     let mut k = 0;
     while k < n {

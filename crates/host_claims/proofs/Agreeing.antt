@@ -8,8 +8,8 @@ use mathlib.Core.List.{List, [], _∷_, _++_}
 use borrow.Author.Tests.{leb-true}
 use lib.Dec.{eqb, leb}
 use lib.ListN.{length, drop, replicate, length-append, length-drop, length-take}
-use Rattle.layout.specs.declared.Code.{Code}
-use Rattle.layout.specs.declared.Code.the-variants.{Data, Move}
+use Rattle.layout.specs.declared.Role.{Role}
+use Rattle.layout.specs.declared.Role.the-variants.{Data, Move}
 use Rattle.layout.specs.declared.Motion.{Motion}
 use Rattle.layout.specs.declared.Motion.the-variants.{Skip, Back, Goto}
 use Rattle.layout.specs.declared.Shape.{Shape}
@@ -29,20 +29,20 @@ use Rattle.record.proofs.NumberLaws.{length-bigEndian}
 use Rattle.record.proofs.Readings.{length-slot-numbers, values-few}
 use Rattle.record.proofs.Sizes.{Sized, sized}
 use Rattle.record.proofs.Tables.{length-slots}
-use Rattle.sheet.specs.Entries.{Entry, valueBytes as sheetValues}
-use Rattle.sheet.specs.Sheet.{widthIn, headerSize, entriesAt, entryNumbers, slotNumbers as sheetNumbers, putInto as putEntries, readEffect as sheetEffect, reads as readsSheet, read as readSheet}
-use Rattle.sheet.specs.Steps.{lentFits}
+use Rattle.sheet.specs.Entries.{Entry, entryValues as sheetValues}
+use Rattle.sheet.specs.Sheet.{widthIn, headerSize, entriesAt, entryNumbers, entriesNumbers as sheetNumbers, putEntries, sheetReadEffect as sheetEffect, readsSheet, readSheet}
+use Rattle.sheet.specs.inside.Steps.{sheetLentFits}
 use Rattle.sheet.proofs.Entries.{AllSound, entries-sound}
 use Rattle.sheet.proofs.Tables.{length-slot-numbers as length-sheet-numbers}
 use Rattle.sheet.proofs.Calls.{lent, read-it, read-put}
-use Rattle.rescue.specs.fill.Rescue.{blank, keptIn, filledUp, Outcome, rescues, rescueEffect, rescue}
+use Rattle.rescue.specs.Rescue.{clearedEntry, keptIn, filledUp, Outcome, rescues, rescueEffect, rescue}
 use Rattle.rescue.proofs.fill.Calls.{rescue-put, rescued-it}
 use Rattle.rescue.proofs.fill.Filled.{filled-values, length-filled}
 use Rattle.rescue.proofs.Claims.{sound-take}
-use Rattle.host.specs.numbers.Numbers.{numbersIn}
+use Rattle.host.specs.Numbers.{numbersIn}
 use Rattle.host.specs.Host.{readCall}
-use Rattle.host_record.specs.read.Calls.{stepsCall}
-use Rattle.host_sheet.specs.damaged.{rescueCall}
+use Rattle.host_record.specs.Reading.{stepsCall}
+use Rattle.host_sheet.specs.Rescuing.{rescueCall}
 use Rattle.host_claims.specs.Agreeing.{ReadAgrees, SheetReadAgrees, RescueAgrees}
 use Rattle.host_claims.proofs.Laws.{read-served, sheet-served, rescue-served, Small, numbers-small, agree}
 
@@ -91,8 +91,8 @@ one-value v vs at ps start true kind place later room =
 
 module _ (bs : List ℕ) (size : length bs ≤ maxRecord) where
   field-small : (fs : List Field) → ((at start : ℕ) → SmallFrom bs fs at start)
-      → (at start : ℕ) (k : Code) (u : Bool) (n : Count)
-      → SmallFrom bs (record { code = k; unsigned = u; count = n } ∷ fs) at start
+      → (at start : ℕ) (k : Role) (u : Bool) (n : Count)
+      → SmallFrom bs (record { role = k; unsigned = u; count = n } ∷ fs) at start
   unfolding valuesFrom positionsFrom
   field-small fs ih at start (Data s) u n within =
       let left : ℕ = length bs - at in
@@ -108,7 +108,7 @@ module _ (bs : List ℕ) (size : length bs ≤ maxRecord) where
   unfolding valuesFrom positionsFrom slotNumbers
   values-small [] at start within room = tt
   values-small (f ∷ fs) at start within room =
-      field-small fs (λ to from. values-small fs to from) at start (f .code) (f .unsigned) (f .count) within room
+      field-small fs (λ to from. values-small fs to from) at start (f .role) (f .unsigned) (f .count) within room
 
 -- what is accepted has room, slots and a record that keeps to its size
 abbrev SetBy : List ℕ → List ℕ → List ℕ → ℕ → List Value → Type 0
@@ -256,7 +256,7 @@ sound-both : (es fs : List Entry) → AllSound es → AllSound fs → AllSound (
 sound-both [] fs s t = t
 sound-both (e ∷ es) fs s t = (s .0, sound-both es fs (s .1) t)
 
-sound-blanks : (n : ℕ) → AllSound (replicate n blank)
+sound-blanks : (n : ℕ) → AllSound (replicate n clearedEntry)
 sound-blanks zero = tt
 sound-blanks (suc n) = (record { kind = omega arith; whole = refl }, sound-blanks n)
 
@@ -283,7 +283,7 @@ rescue-kept sheet legs ns area mark small = record {
       λ z.
       let got = rescued-it sheet legs ns area mark z in
       let es : List Entry = keptIn (widthIn sheet) legs sheet in
-      let sizes = and-true (lentFits (length ns) (length area) (length sheet) mark) (leb legs maxSlots) (got .sizes) in
+      let sizes = and-true (sheetLentFits (length ns) (length area) (length sheet) mark) (leb legs maxSlots) (got .sizes) in
       let limit : length area ≤ maxArea =
       lent (length ns) (length area) (length sheet) mark (sizes .0) .lengths .limit in
       let few : length es ≤ legs = kept-few sheet legs in
@@ -291,7 +291,7 @@ rescue-kept sheet legs ns area mark small = record {
       let room : mark + length (sheetValues (filledUp legs es)) ≤ length area =
       rw (filled-values legs es) (got .room) in
       let sound : AllSound (filledUp legs es) =
-      sound-both es (replicate (legs - length es) blank) (kept-sound sheet legs) (sound-blanks (legs - length es)) in
+      sound-both es (replicate (legs - length es) clearedEntry) (kept-sound sheet legs) (sound-blanks (legs - length es)) in
       subst (λ (o : Outcome). Small (o .slots) × (length (o .slots) ≡ length ns))
       (rescue-put sheet legs ns area mark (got .sizes) (got .versions) (got .rows) (got .room))
       (put-kept ns area mark (filledUp legs es) small sound rows room limit);

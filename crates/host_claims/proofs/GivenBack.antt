@@ -9,10 +9,10 @@ use Rattle.record.specs.Reading.{ReadAll, readAll}
 use Rattle.lossless.specs.Claim.{Layout, Archived, LosesNothing, readingOf as numbersRead, packingOf as numbersPacked, shownBy as numbersShown}
 use Rattle.lossless.proofs.LosesNothing.{loses-nothing}
 use Rattle.host.specs.Host.{ReadCall, packCall, readCall}
-use Rattle.host_record.specs.read.Calls.{stepsCall}
+use Rattle.host_record.specs.Reading.{stepsCall}
 use Rattle.host_claims.specs.Seen.{filledWith}
 use Rattle.host_claims.specs.Agreeing.{Agrees}
-use Rattle.host_claims.specs.GivenBack.{HostArchived, readingOf, packingOf, shownBy, HostLossless}
+use Rattle.host_claims.specs.GivenBack.{HostArchived, hostReadingOf, hostPackingOf, hostShownBy, HostLossless}
 use Rattle.host_claims.proofs.Laws.{pack-served, read-served}
 use Rattle.host_claims.proofs.Agreeing.{read-agrees}
 
@@ -26,38 +26,38 @@ module _ (l : Layout) where
     numbersAll ns = readAll (l .text) (r .archived .bytes) ns (r .archived .area) (r .archived .mark)
 
     -- the reading is that of the numbers in the slots
-    as-read : readingOf l r ≡ stepsCall (r .slots) (numbersAll (r .archived .slots))
+    as-read : hostReadingOf l r ≡ stepsCall (r .slots) (numbersAll (r .archived .slots))
     unfolding numbersAll
     as-read =
         read-served (r .slots) (r .readReply) (l .text) (r .archived .bytes) (r .archived .area) (r .archived .mark)
         (r .lends)
         ∙ ap (λ (ns : List ℕ). stepsCall (r .slots) (numbersAll ns)) (r .are)
 
-    agrees : Agrees (r .slots) (readingOf l r .slots) (numbersRead l (r .archived) .slots)
+    agrees : Agrees (r .slots) (hostReadingOf l r .slots) (numbersRead l (r .archived) .slots)
     agrees =
         let a : Archived l = r .archived in
         rw (r .are) at (read-agrees (l .text) (a .bytes) (r .slots) (a .area) (a .mark) (r .readReply) (r .lends))
 
-    area-same : readingOf l r .area ≡ numbersRead l (r .archived) .area
+    area-same : hostReadingOf l r .area ≡ numbersRead l (r .archived) .area
     unfolding numbersAll stepsCall readCall
     area-same = ap (λ (c : ReadCall). c .area) as-read
 
-    accepted : readingOf l r .returned ≡ 0
+    accepted : hostReadingOf l r .returned ≡ 0
     unfolding numbersAll stepsCall readCall
     accepted =
         ap (λ (c : ReadCall). c .returned) as-read ∙ ap (λ (a : Answer). a .number) (loses .sets-all (r .archived))
 
-    as-packed : packingOf l r ≡ packCall (numbersPacked l (r .archived))
+    as-packed : hostPackingOf l r ≡ packCall (numbersPacked l (r .archived))
     as-packed =
-        pack-served (readingOf l r .slots) (r .packReply) (l .text) (readingOf l r .area) (r .archived .output)
+        pack-served (hostReadingOf l r .slots) (r .packReply) (l .text) (hostReadingOf l r .area) (r .archived .output)
         (record { are-slots = agrees .slots; reply-size = r .pack-reply })
         ∙ ap₂ (λ (ns area : List ℕ). packCall (pack (l .text) ns area (r .archived .output))) (agrees .same) area-same
 
-    gives-back : packingOf l r ≡ filledWith (r .archived .output) (r .archived .bytes)
+    gives-back : hostPackingOf l r ≡ filledWith (r .archived .output) (r .archived .bytes)
     unfolding packCall
     gives-back = as-packed ∙ ap packCall (loses .gives-back (r .archived))
 
-    shown-same : shownBy l r ≡ numbersShown l (r .archived)
+    shown-same : hostShownBy l r ≡ numbersShown l (r .archived)
     shown-same = ap₂ (λ (area ns : List ℕ). map (shown area) (slotsOf ns)) area-same (agrees .same)
 
 pub host-lossless : HostLossless

@@ -7,7 +7,7 @@ use mathlib.Core.Bool.{Bool, true, false}
 use mathlib.Core.List.{List, [], _∷_, _++_}
 use lib.Dec.{T}
 use lib.ListN.{length, take, replicate}
-use Rattle.layout.specs.declared.Code.the-variants.{Data}
+use Rattle.layout.specs.declared.Role.the-variants.{Data}
 use Rattle.layout.specs.declared.Shape.the-variants.{Text, Integers}
 use Rattle.layout.specs.declared.Count.the-variants.{Absent, Star, Times}
 use Rattle.layout.specs.Layout.{fieldsOf, slotCount}
@@ -21,21 +21,21 @@ use Rattle.evolution.specs.Claim.{Reading, setBy}
 use Rattle.evolution.specs.Pair.{pair}
 use Rattle.lossless.specs.Claim.{Layout, lossless, areBytes as losslessBytes, Archived}
 use Rattle.joining.specs.Claim.{forward}
-use Rattle.sheet.specs.Entries.{valueBytes as sheetValues}
-use Rattle.sheet.specs.Sheet.{entriesOf, write, read}
+use Rattle.sheet.specs.Entries.{entryValues as sheetValues}
+use Rattle.sheet.specs.Sheet.{entriesOf, writeSheet, readSheet}
 use Rattle.sheet.specs.Examples.{okTable, okArea, okSheet}
 use Rattle.sheet.specs.Claims.{Stored, Loaded}
 use Rattle.sheet.proofs.Bounds.{areBytes, all-bytes}
-use Rattle.rescue.specs.fill.Rescue.{rescue}
-use Rattle.host.specs.numbers.Numbers.{numbersIn, bytesOf}
+use Rattle.rescue.specs.Rescue.{rescue}
+use Rattle.host.specs.Numbers.{numbersIn, numbersBytes}
 use Rattle.host.specs.Host.{slotSize, replySize, longReplySize}
-use Rattle.host_record.specs.pack.{curlewPack}
-use Rattle.host_sheet.specs.damaged.{rescueReplySize}
+use Rattle.host_record.specs.Packing.{curlewPack}
+use Rattle.host_sheet.specs.Rescuing.{rescueReplySize}
 use Rattle.host_claims.specs.Seen.{Lends, filledWith}
 use Rattle.host_claims.specs.ReadBack as readBack
 use Rattle.host_claims.specs.GivenBack.{HostArchived}
 use Rattle.host_claims.specs.Rescues as rescues
-use Rattle.host_claims.specs.Joined.{Part}
+use Rattle.host_claims.specs.Joined.{HostPart}
 use Rattle.host_claims.proofs.Joined.{host-joined}
 
 -- n nines; and as many slots and a reply of them
@@ -51,10 +51,10 @@ lent-nines n size below whole sized =
 -- ---- demand 3: the new record, cut inside its last field, read by either layout
 
 arguments : List ℕ
-unfolding pair bytesOf
-arguments = bytesOf (pair .slots)
+unfolding pair numbersBytes
+arguments = numbersBytes (pair .slots)
 
-abbrev calls : readBack.Lent
+abbrev calls : readBack.HostLent
 calls = record {
   arguments = arguments;
   packReply = nines replySize;
@@ -70,7 +70,7 @@ unfolding numbersIn pair pack setBy filled slotsOf slotCount valueBytes
 reading true = record { within = omega arith; sizes = tt; enough-slots = omega arith; room = omega arith }
 reading false = record { within = omega arith; sizes = tt; enough-slots = omega arith; room = omega arith }
 
-demand3 : (layout : Bool) → readBack.Meant pair true layout calls
+demand3 : (layout : Bool) → readBack.HostMeant pair true layout calls
 unfolding arguments numbersIn pair
 demand3 layout = record {
   arguments = record { whole = refl; bytes = all-bytes arguments tt };
@@ -87,8 +87,8 @@ unfolding fieldsOf lossless
 form = record {
   text = bytes "a2 Su";
   fields =
-      record { code = Data (Text 0); unsigned = false; count = Times 2 }
-      ∷ record { code = Data (Integers 2 true); unsigned = true; count = Absent }
+      record { role = Data (Text 0); unsigned = false; count = Times 2 }
+      ∷ record { role = Data (Integers 2 true); unsigned = true; count = Absent }
       ∷ [];
   has-fields = refl;
   is-lossless = tt;
@@ -126,24 +126,24 @@ host-archived = record {
 -- ---- sheets
 
 okSlots : List ℕ
-unfolding bytesOf okTable
-okSlots = bytesOf okTable
+unfolding numbersBytes okTable
+okSlots = numbersBytes okTable
 
 ok-lent : Lends okSlots (nines replySize) replySize
 unfolding okSlots
 ok-lent = record { are-slots = record { whole = refl; bytes = all-bytes okSlots tt }; reply-size = refl }
 
 stored : Stored (numbersIn okSlots) okArea (nines 30) (numbersIn (nines (slotSize * 4))) (nines 20) 5
-unfolding okSlots okArea numbersIn write slotsOf entriesOf sheetValues
+unfolding okSlots okArea numbersIn writeSheet slotsOf entriesOf sheetValues
 stored = record { writing = refl; sizes = tt; enough-slots = omega arith; room = omega arith }
 
 loaded : Loaded okSheet (numbersIn (nines (slotSize * 4))) (nines 20) 5 (nines 22)
-unfolding okSheet numbersIn read
+unfolding okSheet numbersIn readSheet
 loaded = record { bytes = all-bytes okSheet tt; reading = refl; size = omega arith; room = omega arith }
 
 -- ---- rescues: the sheet cut inside its last entry
 
-abbrev damaged : rescues.Lent
+abbrev damaged : rescues.RescuesLent
 damaged = record {
   sheet = take 21 okSheet;
   legs = 3;
@@ -159,8 +159,8 @@ damaged = record {
   lastReply = nines rescueReplySize;
 }
 
-rescued : rescues.Meant damaged
-unfolding okSheet numbersIn rescue write slotsOf entriesOf sheetValues
+rescued : rescues.RescuesMeant damaged
+unfolding okSheet numbersIn rescue writeSheet slotsOf entriesOf sheetValues
 rescued = record {
   lends = lent-nines 4 rescueReplySize tt refl refl;
   write-reply = refl;
@@ -176,16 +176,16 @@ rescued = record {
 area : List ℕ
 area = bytes "ok" ++ (0 ∷ 0 ∷ 0 ∷ 0 ∷ 0 ∷ 0 ∷ 255 ∷ 254 ∷ 0 ∷ 0 ∷ 0 ∷ 0 ∷ 0 ∷ 0 ∷ 0 ∷ 3 ∷ [])
 
-cover : Part area
-unfolding area bytesOf fieldsOf forward curlewPack
+cover : HostPart area
+unfolding area numbersBytes fieldsOf forward curlewPack
 cover = record {
   text = bytes "a* ";
-  slots = bytesOf (1 ∷ 0 ∷ 2 ∷ 9 ∷ []);
+  slots = numbersBytes (1 ∷ 0 ∷ 2 ∷ 9 ∷ []);
   output = nines 2;
   reply = nines replySize;
-  fields = record { code = Data (Text 0); unsigned = false; count = Star } ∷ [];
+  fields = record { role = Data (Text 0); unsigned = false; count = Star } ∷ [];
   lends = record {
-    are-slots = record { whole = refl; bytes = all-bytes (bytesOf (1 ∷ 0 ∷ 2 ∷ 9 ∷ [])) tt };
+    are-slots = record { whole = refl; bytes = all-bytes (numbersBytes (1 ∷ 0 ∷ 2 ∷ 9 ∷ [])) tt };
     reply-size = refl;
   };
   has-fields = refl;
@@ -193,16 +193,16 @@ cover = record {
   accepted = refl;
 }
 
-leg : Part area
-unfolding area bytesOf fieldsOf forward curlewPack
+leg : HostPart area
+unfolding area numbersBytes fieldsOf forward curlewPack
 leg = record {
   text = bytes "Su2";
-  slots = bytesOf (3 ∷ 2 ∷ 2 ∷ 9 ∷ []);
+  slots = numbersBytes (3 ∷ 2 ∷ 2 ∷ 9 ∷ []);
   output = nines 4;
   reply = nines replySize;
-  fields = record { code = Data (Integers 2 true); unsigned = true; count = Times 2 } ∷ [];
+  fields = record { role = Data (Integers 2 true); unsigned = true; count = Times 2 } ∷ [];
   lends = record {
-    are-slots = record { whole = refl; bytes = all-bytes (bytesOf (3 ∷ 2 ∷ 2 ∷ 9 ∷ [])) tt };
+    are-slots = record { whole = refl; bytes = all-bytes (numbersBytes (3 ∷ 2 ∷ 2 ∷ 9 ∷ [])) tt };
     reply-size = refl;
   };
   has-fields = refl;
@@ -210,8 +210,8 @@ leg = record {
   accepted = refl;
 }
 
--- glued, they pack "ok", ff fe 00 03 into a buffer of seven bytes
-glued : curlewPack (bytes "a* Su2") (cover .slots ++ leg .slots) area (nines 7) (nines replySize)
+-- joined, they pack "ok", ff fe 00 03 into a buffer of seven bytes
+joined : curlewPack (bytes "a* Su2") (cover .slots ++ leg .slots) area (nines 7) (nines replySize)
     ≡ filledWith (nines 7) (bytes "ok" ++ (255 ∷ 254 ∷ 0 ∷ 3 ∷ []))
-unfolding area cover leg bytesOf numbersIn numberAt curlewPack
-glued = host-joined area .two cover leg (nines 7) (nines replySize) refl tt (omega arith)
+unfolding area cover leg numbersBytes numbersIn numberAt curlewPack
+joined = host-joined area .two cover leg (nines 7) (nines replySize) refl tt (omega arith)

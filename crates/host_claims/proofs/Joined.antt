@@ -14,13 +14,13 @@ use Rattle.record.specs.Packing.{accepted, Packed, finished, packs, pack}
 use Rattle.record.proofs.Sizes.{Sized, sized}
 use Rattle.runs.specs.Ends.{recordOf}
 use Rattle.runs.proofs.Calls.{packs-passed, accepted-result}
-use Rattle.joining.specs.Claim.{forward, Template, glue, Part as NumbersPart, resultOf as numbersResult, Gives as NumbersGive}
-use Rattle.joining.proofs.Glues.{glues}
-use Rattle.host.specs.numbers.Numbers.{numbersIn}
+use Rattle.joining.specs.Claim.{forward, Template, joinTemplates, Part as NumbersPart, resultOf as numbersResult, Gives as NumbersGive}
+use Rattle.joining.proofs.Joining.{joins}
+use Rattle.host.specs.Numbers.{numbersIn}
 use Rattle.host.specs.Host.{PackCall, packCall}
-use Rattle.host_record.specs.pack.{curlewPack}
-use Rattle.host_claims.specs.Seen.{Slots, resultOf}
-use Rattle.host_claims.specs.Joined.{Part, alone, Gives, HostGlues, HostJoined}
+use Rattle.host_record.specs.Packing.{curlewPack}
+use Rattle.host_claims.specs.Seen.{Slots, resultIn}
+use Rattle.host_claims.specs.Joined.{HostPart, alone, HostGives, HostJoining, HostJoined}
 use Rattle.host_claims.proofs.Laws.{pack-served, result-is, slots-both, numbers-both}
 
 -- an accepted packing keeps to the sizes, and its result is as long as the answer says
@@ -40,7 +40,7 @@ accepted-sizes text ns area output z =
 module _ (area : List ℕ) where
   -- ---- a part, over numbers
 
-  module _ (a : Part area) where
+  module _ (a : HostPart area) where
     as-packed : curlewPack (a .text) (a .slots) area (a .output) (a .reply)
         ≡ packCall (pack (a .text) (numbersIn (a .slots)) area (a .output))
     as-packed = pack-served (a .slots) (a .reply) (a .text) area (a .output) (a .lends)
@@ -62,27 +62,27 @@ module _ (area : List ℕ) where
     result-same : alone a ≡ numbersResult over-numbers
     unfolding over-numbers
     result-same =
-        ap resultOf as-packed
+        ap resultIn as-packed
         ∙ result-is (pack (a .text) (numbersIn (a .slots)) area (a .output))
         (omega (arith, accepted-sizes (a .text) (numbersIn (a .slots)) area (a .output) accepts .short))
 
   -- what holds of numbers holds of the slots that hold them
   gives : (text slots bs : List ℕ) (ns : List ℕ) → Slots slots → numbersIn slots ≡ ns
-      → NumbersGive area (record { text = text; slots = ns }) bs → Gives area text slots bs
+      → NumbersGive area (record { text = text; slots = ns }) bs → HostGives area text slots bs
   unfolding packCall
   gives text slots bs ns s e g output reply size fits room =
       pack-served slots reply text area output (record { are-slots = s; reply-size = size })
       ∙ ap (λ (xs : List ℕ). packCall (pack text xs area output)) e
       ∙ ap packCall (g output (subst (λ (xs : List ℕ). T (sizesFit text xs output area)) e fits) room)
 
-  two : (a b : Part area) → Gives area (a .text ++ b .text) (a .slots ++ b .slots) (alone a ++ alone b)
+  two : (a b : HostPart area) → HostGives area (a .text ++ b .text) (a .slots ++ b .slots) (alone a ++ alone b)
   unfolding over-numbers
   two a b =
       gives (a .text ++ b .text) (a .slots ++ b .slots) (alone a ++ alone b)
       (numbersIn (a .slots) ++ numbersIn (b .slots))
       (slots-both (a .slots) (b .slots) (a .lends .are-slots) (b .lends .are-slots))
       (numbers-both (a .slots) (b .slots) (a .lends .are-slots))
-      (rw (result-same a, result-same b) (glues area .two (over-numbers a) (over-numbers b)))
+      (rw (result-same a, result-same b) (joins area .two (over-numbers a) (over-numbers b)))
 
   -- ---- a space between them
 
@@ -101,7 +101,7 @@ module _ (area : List ℕ) where
     accepted = ap (λ (p : Packed). p .answer .number) (space-accepted h);
   }
 
-  spaced : (a b : Part area) → Gives area (a .text ++ (32 ∷ []) ++ b .text) (a .slots ++ b .slots) (alone a ++ alone b)
+  spaced : (a b : HostPart area) → HostGives area (a .text ++ (32 ∷ []) ++ b .text) (a .slots ++ b .slots) (alone a ++ alone b)
   unfolding over-numbers space
   spaced a b =
       let limit : length area ≤ maxArea =
@@ -112,17 +112,17 @@ module _ (area : List ℕ) where
       ∙ sym (result-same a) in
       let all : numbersResult (over-numbers a) ++ numbersResult (space limit) ++ numbersResult (over-numbers b)
       ≡ alone a ++ alone b = ap₂ (λ (x y : List ℕ). x ++ y) front (sym (result-same b)) in
-      let t : Template = glue (glue (over-numbers a .template) (space limit .template)) (over-numbers b .template) in
+      let t : Template = joinTemplates (joinTemplates (over-numbers a .template) (space limit .template)) (over-numbers b .template) in
       gives (a .text ++ (32 ∷ []) ++ b .text) (a .slots ++ b .slots) (alone a ++ alone b)
       (numbersIn (a .slots) ++ [] ++ numbersIn (b .slots))
       (slots-both (a .slots) (b .slots) (a .lends .are-slots) (b .lends .are-slots))
       (rw append-nil (numbers-both (a .slots) (b .slots) (a .lends .are-slots)))
-      (subst (NumbersGive area t) all (glues area .three (over-numbers a) (space limit) (over-numbers b)))
+      (subst (NumbersGive area t) all (joins area .three (over-numbers a) (space limit) (over-numbers b)))
 
   -- ---- three
 
-  three : (a b c : Part area)
-      → Gives area ((a .text ++ b .text) ++ c .text) ((a .slots ++ b .slots) ++ c .slots)
+  three : (a b c : HostPart area)
+      → HostGives area ((a .text ++ b .text) ++ c .text) ((a .slots ++ b .slots) ++ c .slots)
       (alone a ++ alone b ++ alone c)
   unfolding over-numbers
   three a b c =
@@ -134,10 +134,10 @@ module _ (area : List ℕ) where
       (numbers-both (a .slots ++ b .slots) (c .slots) both
       ∙ ap (λ (ns : List ℕ). ns ++ numbersIn (c .slots)) (numbers-both (a .slots) (b .slots) (a .lends .are-slots)))
       (rw (result-same a, result-same b, result-same c)
-      (glues area .three (over-numbers a) (over-numbers b) (over-numbers c)))
+      (joins area .three (over-numbers a) (over-numbers b) (over-numbers c)))
 
-  host-glues : HostGlues area
-  host-glues = record {
+  host-joining : HostJoining area
+  host-joining = record {
     two = two;
     spaced = spaced;
     blank =
@@ -151,4 +151,4 @@ module _ (area : List ℕ) where
   }
 
 pub host-joined : HostJoined
-host-joined = host-glues
+host-joined = host-joining

@@ -19,19 +19,19 @@ use Rattle.record.proofs.Bytes.{All, all-below, length-ordered, all-append, all
 use Rattle.runs.proofs.Told.{numbers-bytes}
 use Rattle.record.proofs.Widening.{number-below}
 use Rattle.record.proofs.Fields.{split}
-use Rattle.sheet.specs.Sheet.{write, read as readSheet}
+use Rattle.sheet.specs.Sheet.{writeSheet, readSheet}
 use Rattle.sheet.proofs.Entries.{number-in as front-number, length-here}
-use Rattle.rescue.specs.fill.Rescue.{rescue}
-use Rattle.host.specs.numbers.Numbers.{numberSize, numbersIn, bytesOf}
+use Rattle.rescue.specs.Rescue.{rescue}
+use Rattle.host.specs.Numbers.{numberSize, numbersIn, numbersBytes}
 use Rattle.host.proofs.numbers.NumberLaws.{length-bytesOf, length-numbersIn, bytes-drop}
 use Rattle.host.proofs.numbers.Claims.{numbers-of-bytes, numbers-joined}
 use Rattle.host.specs.Host.{slotSize, replySize, longReplySize, replyOf, packCall, readCall}
-use Rattle.host_record.specs.pack.{curlewPack}
-use Rattle.host_record.specs.read.Calls.{stepsCall, curlewRead}
-use Rattle.host_sheet.specs.write.{curlewSheetWrite}
-use Rattle.host_sheet.specs.read.{curlewSheetRead}
-use Rattle.host_sheet.specs.damaged.{rescueReplySize, rescueCall, curlewSheetRescue}
-use Rattle.host_claims.specs.Seen.{Slots, Lends, firstSlots, replied, resultOf}
+use Rattle.host_record.specs.Packing.{curlewPack}
+use Rattle.host_record.specs.Reading.{stepsCall, curlewRead}
+use Rattle.host_sheet.specs.Writing.{curlewSheetWrite}
+use Rattle.host_sheet.specs.Reading.{curlewSheetRead}
+use Rattle.host_sheet.specs.Rescuing.{rescueReplySize, rescueCall, curlewSheetRescue}
+use Rattle.host_claims.specs.Seen.{Slots, Lends, firstSlots, replied, resultIn}
 use Rattle.host_claims.specs.Agreeing.{Agrees}
 
 -- ---- the calls on whole slots
@@ -51,7 +51,7 @@ module _ (slots reply : List ℕ) where
       rw (eq-eqb (length reply) longReplySize (l .reply-size), eq-eqb (length slots % slotSize) 0 (l .are-slots .whole))
 
   pub write-served : (area buffer : List ℕ) → Lends slots reply replySize
-      → curlewSheetWrite slots area buffer reply ≡ packCall (write (numbersIn slots) area buffer)
+      → curlewSheetWrite slots area buffer reply ≡ packCall (writeSheet (numbersIn slots) area buffer)
   unfolding curlewSheetWrite
   write-served area buffer l =
       rw (eq-eqb (length reply) replySize (l .reply-size), eq-eqb (length slots % slotSize) 0 (l .are-slots .whole))
@@ -80,23 +80,23 @@ below-all [] h all i = h
 below-all (x ∷ xs) h all zero = all .0
 below-all (x ∷ xs) h all (suc i) = below-all xs h (all .1) i
 
-pub numbers-kept : (xs : List ℕ) → Small xs → numbersIn (bytesOf xs) ≡ xs
+pub numbers-kept : (xs : List ℕ) → Small xs → numbersIn (numbersBytes xs) ≡ xs
 numbers-kept xs small = numbers-of-bytes xs (below-all xs (omega arith) small)
 
 -- number i of a reply
 pub replied-number : (xs : List ℕ) (i : ℕ) → i < length xs → getD xs i 0 < numberLimit
-    → replied i (bytesOf xs) ≡ getD xs i 0
-unfolding bytesOf bigEndian join
+    → replied i (numbersBytes xs) ≡ getD xs i 0
+unfolding numbersBytes bigEndian join
 replied-number xs i inside small =
-    let here : drop (i * numberSize) (bytesOf xs) ≡ numberBytes numberSize (getD xs i 0) ++ bytesOf (drop (suc i) xs) =
-    sym (bytes-drop i xs) ∙ ap bytesOf (drop-cons xs i 0 inside) in
-    length-here numberSize (bytesOf xs) (i * numberSize) refl
+    let here : drop (i * numberSize) (numbersBytes xs) ≡ numberBytes numberSize (getD xs i 0) ++ numbersBytes (drop (suc i) xs) =
+    sym (bytes-drop i xs) ∙ ap numbersBytes (drop-cons xs i 0 inside) in
+    length-here numberSize (numbersBytes xs) (i * numberSize) refl
     ∙ ap (λ (bs : List ℕ). numberAt numberSize bs 0) here
-    ∙ front-number numberSize (getD xs i 0) (bytesOf (drop (suc i) xs)) small
+    ∙ front-number numberSize (getD xs i 0) (numbersBytes (drop (suc i) xs)) small
 
 -- what a call that fills a buffer left at its front
 pub result-is : (p : Packed) → p .answer .first < numberLimit
-    → resultOf (packCall p) ≡ take (p .answer .first) (p .output)
+    → resultIn (packCall p) ≡ take (p .answer .first) (p .output)
 unfolding packCall replyOf
 result-is p small =
     ap (λ (n : ℕ). take n (p .output))
@@ -127,8 +127,8 @@ unfolding numbersIn bigEndianIn
 numbers-small bs below = pieces-small (length bs / numberSize) bs (all-below bs below)
 
 -- what numbers are stored as are bytes
-are-bytes : (xs : List ℕ) → All (λ b. b < 256) (bytesOf xs)
-unfolding bytesOf
+are-bytes : (xs : List ℕ) → All (λ b. b < 256) (numbersBytes xs)
+unfolding numbersBytes
 are-bytes xs = numbers-bytes numberSize xs
 
 -- ---- slots to lend
@@ -171,20 +171,20 @@ module _ (slots : List ℕ) (s : Slots slots) (after : List ℕ) where
   -- the bytes of the numbers that it set and left, where it is accepted, and else those that were lent
   by-answer : (t : Bool) → (t ≡ true → Small after × (length after ≡ length (numbersIn slots)))
       → (t ≡ false → after ≡ numbersIn slots)
-      → Agrees slots (if t then bytesOf after else slots) after
+      → Agrees slots (if t then numbersBytes after else slots) after
   by-answer true set left =
       let small : Small after = set refl .0 in
-      let long : length (bytesOf after) ≡ length slots =
+      let long : length (numbersBytes after) ≡ length slots =
       rw (length-bytesOf, set refl .1, length-numbersIn) (omega (arith, s .whole)) in
       record {
         same = numbers-kept after small;
         slots =
-            record { whole = rw long (s .whole); bytes = below-all (bytesOf after) (omega arith) (are-bytes after) };
+            record { whole = rw long (s .whole); bytes = below-all (numbersBytes after) (omega arith) (are-bytes after) };
         as-many = long;
       }
   by-answer false set left = record { same = sym (left refl); slots = s; as-many = refl }
 
   pub agree : (number : ℕ) → (number ≡ 0 → Small after × (length after ≡ length (numbersIn slots)))
       → ((number ≡ 0 → ⊥) → after ≡ numbersIn slots)
-      → Agrees slots (if eqb number 0 then bytesOf after else slots) after
+      → Agrees slots (if eqb number 0 then numbersBytes after else slots) after
   agree number set left = by-answer (eqb number 0) (λ e. set (eqb-true number 0 e)) (λ e. left (eqb-false number 0 e))

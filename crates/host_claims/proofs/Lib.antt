@@ -8,3 +8,5 @@ mod Sheets
 mod Rescues
 pub mod Joined
 mod Instance
+pub mod PlanIsLayout
+pub mod ByPlans

@@ -14,12 +14,12 @@ use Rattle.record.specs.Reading.{Read, read, readSteps, readAll}
 use Rattle.record.proofs.Readings.{read-few}
 use Rattle.runs.specs.OldValues.{slotsSet as numbersSet, Old as NumbersOld}
 use Rattle.runs.proofs.OldValues.{old-values}
-use Rattle.host.specs.numbers.Numbers.{numbersIn}
+use Rattle.host.specs.Numbers.{numbersIn}
 use Rattle.host.specs.Host.{slotSize, longReplySize, longReply, ReadCall, readCall}
-use Rattle.host_record.specs.read.Calls.{stepsCall, curlewRead}
-use Rattle.host_record.specs.read.Claims.{slotsSet}
+use Rattle.host_record.specs.Reading.{stepsCall, curlewRead}
+use Rattle.host_record.specs.Claims.{slotsSetByCall}
 use Rattle.host_claims.specs.Seen.{Lends, replied}
-use Rattle.host_claims.specs.OldShown.{Old, HostOldValues}
+use Rattle.host_claims.specs.OldShown.{HostOld, HostOldValues}
 use Rattle.host_claims.proofs.Laws.{read-served, replied-number}
 use Rattle.host_claims.proofs.Agreeing.{read-agrees}
 
@@ -47,11 +47,11 @@ module _ (layout bytes slots area : List ℕ) (mark : ℕ) (reply : List ℕ) (i
     unfolding c
     as-read = read-served slots reply layout bytes area mark l
 
-    count : slotsSet c ≡ numbersSet r
+    count : slotsSetByCall c ≡ numbersSet r
     unfolding r steps stepsCall readCall
-    count = ap slotsSet as-read ∙ count-by (eqb (r .answer .number) 0) (eqb-true (r .answer .number) 0)
+    count = ap slotsSetByCall as-read ∙ count-by (eqb (r .answer .number) 0) (eqb-true (r .answer .number) 0)
 
-    old-served : slotsSet c ≤ i → Old slots area mark i c
+    old-served : slotsSetByCall c ≤ i → HostOld slots area mark i c
     unfolding c r stepsCall readCall
     old-served h =
         let old : NumbersOld (numbersIn slots) area mark i r =
@@ -65,7 +65,7 @@ module _ (layout bytes slots area : List ℕ) (mark : ℕ) (reply : List ℕ) (i
 
   old-by : (s w : Bool) → ((j : ℕ) → getD slots j 0 < 256) → eqb (length reply) longReplySize ≡ s
       → eqb (length slots % slotSize) 0 ≡ w
-      → slotsSet c ≤ i → Old slots area mark i c
+      → slotsSetByCall c ≤ i → HostOld slots area mark i c
   unfolding c curlewRead stepsCall readCall
   old-by false w below p q h = rw p (record { slot = refl; value = λ under. refl })
   old-by true false below p q h = rw (p, q) (record { slot = refl; value = λ under. refl })

@@ -18,12 +18,12 @@ use Rattle.runs.specs.Ends.{endOf}
 use Rattle.runs.proofs.Calls.{T→true}
 use Rattle.evolution.specs.Claim.{Layouts, ReadsBack, textOf, fieldsBy, slotsBy, outputBy, argumentsBy, recordBytes, packedBy, recordBy, cutRecord, due, starts, carriedOut}
 use Rattle.evolution.proofs.ReadsBack.{demand3}
-use Rattle.host.specs.numbers.Numbers.{numbersIn, bytesOf}
+use Rattle.host.specs.Numbers.{numbersIn, numbersBytes}
 use Rattle.host.proofs.numbers.NumberLaws.{bytes-stored}
 use Rattle.host.specs.Host.{replySize, longReply, ReadCall, packCall, readCall}
-use Rattle.host_record.specs.read.Calls.{stepsCall}
-use Rattle.host_claims.specs.Seen.{Slots, Lends, slotsIn, resultOf, filledWith}
-use Rattle.host_claims.specs.ReadBack.{Lent, argumentBytes, packing, reading, Meant, KeepsBack, HostDemand3}
+use Rattle.host_record.specs.Reading.{stepsCall}
+use Rattle.host_claims.specs.Seen.{Slots, Lends, slotsIn, resultIn, filledWith}
+use Rattle.host_claims.specs.ReadBack.{HostLent, argumentBytes, hostPacking, hostReading, HostMeant, HostKeepsBack, HostDemand3}
 use Rattle.host_claims.proofs.Laws.{pack-served, read-served, result-is, slots-first, numbers-first}
 use Rattle.host_claims.proofs.Agreeing.{read-agrees}
 
@@ -31,13 +31,13 @@ use Rattle.host_claims.proofs.Agreeing.{read-agrees}
 
 module _ (table : List ℕ) (s : Slots table) where
   set-bytes : (rows : List ℕ) (n : ℕ) → length rows ≡ slotWidth * n
-      → bytesOf (rows ++ drop (slotWidth * n) (numbersIn table)) ≡ storeAt table 0 (bytesOf rows)
+      → numbersBytes (rows ++ drop (slotWidth * n) (numbersIn table)) ≡ storeAt table 0 (numbersBytes rows)
   set-bytes rows n long =
       let at : 0 + length rows ≡ slotWidth * n = omega arith in
-      subst (λ (k : ℕ). bytesOf (rows ++ drop k (numbersIn table)) ≡ storeAt table 0 (bytesOf rows)) at
+      subst (λ (k : ℕ). numbersBytes (rows ++ drop k (numbersIn table)) ≡ storeAt table 0 (numbersBytes rows)) at
       (bytes-stored table rows (omega (arith, s .whole)) (all-below table (s .bytes)))
 
-module _ (l : Layouts) (packed layout : Bool) (c : Lent) (h : Meant l packed layout c) where
+module _ (l : Layouts) (packed layout : Bool) (c : HostLent) (h : HostMeant l packed layout c) where
   back : ReadsBack l
   back = demand3 l
 
@@ -55,7 +55,7 @@ module _ (l : Layouts) (packed layout : Bool) (c : Lent) (h : Meant l packed lay
   arguments-are false =
       numbers-first (slotCount (l .fields)) (c .arguments) ∙ ap (take (slotWidth * slotCount (l .fields))) (h .are)
 
-  as-packed : packing l packed c ≡ packCall (packedBy l packed)
+  as-packed : hostPacking l packed c ≡ packCall (packedBy l packed)
   as-packed =
       pack-served (argumentBytes l packed c) (c .packReply) (textOf l packed) (l .area) (outputBy l packed)
       (lends-arguments packed)
@@ -65,7 +65,7 @@ module _ (l : Layouts) (packed layout : Bool) (c : Lent) (h : Meant l packed lay
   long : length (recordBytes (argumentsBy l packed)) ≡ endOf (fieldsBy l packed)
   long = ap length (sym (back .records packed)) ∙ back .ends packed
 
-  packs : packing l packed c ≡ filledWith (outputBy l packed) (recordBytes (argumentsBy l packed))
+  packs : hostPacking l packed c ≡ filledWith (outputBy l packed) (recordBytes (argumentsBy l packed))
   unfolding packCall
   packs = as-packed ∙ ap packCall (back .packings packed) ∙ rw long
 
@@ -88,8 +88,8 @@ module _ (l : Layouts) (packed layout : Bool) (c : Lent) (h : Meant l packed lay
   short : packedBy l packed .answer .first < numberLimit
   short = rw (back .packings packed) (omega (arith, ends-within packed))
 
-  record-is : resultOf (packing l packed c) ≡ recordBy l packed
-  record-is = ap resultOf as-packed ∙ result-is (packedBy l packed) short
+  record-is : resultIn (hostPacking l packed c) ≡ recordBy l packed
+  record-is = ap resultIn as-packed ∙ result-is (packedBy l packed) short
 
   -- the call on numbers, of any record
   numbersAll : List ℕ → ReadAll
@@ -98,11 +98,11 @@ module _ (l : Layouts) (packed layout : Bool) (c : Lent) (h : Meant l packed lay
   left : Read
   left = read (textOf l layout) (cutRecord l packed (c .cut)) (numbersIn (c .table)) (c .values) (c .mark)
 
-  as-read : reading l packed layout c
+  as-read : hostReading l packed layout c
       ≡ stepsCall (c .table) (withSteps left (carriedOut (c .cut) 0 (fieldsBy l layout)))
   unfolding left numbersAll
   as-read =
-      read-served (c .table) (c .readReply) (textOf l layout) (take (c .cut) (resultOf (packing l packed c)))
+      read-served (c .table) (c .readReply) (textOf l layout) (take (c .cut) (resultIn (hostPacking l packed c)))
       (c .values) (c .mark) (h .lends)
       ∙ ap (λ (bs : List ℕ). stepsCall (c .table) (numbersAll (take (c .cut) bs))) record-is
       ∙ ap (λ (k : ℕ). stepsCall (c .table) (withSteps left k))
@@ -117,9 +117,9 @@ module _ (l : Layouts) (packed layout : Bool) (c : Lent) (h : Meant l packed lay
       → stepsCall (c .table) (withSteps (putInto (numbersIn (c .table)) (c .values) (c .mark) (starts l) values) k)
       ≡ record {
         returned = 0;
-        slots = storeAt (c .table) 0 (bytesOf (slotNumbers (c .mark) (starts l) values));
+        slots = storeAt (c .table) 0 (numbersBytes (slotNumbers (c .mark) (starts l) values));
         area = storeAt (c .values) (c .mark) (valueBytes values);
-        reply = bytesOf (0 ∷ length values ∷ (c .mark + length (valueBytes values)) ∷ k ∷ []);
+        reply = numbersBytes (0 ∷ length values ∷ (c .mark + length (valueBytes values)) ∷ k ∷ []);
       }
   unfolding stepsCall readCall longReply putInto
   seen-as k =
@@ -127,20 +127,20 @@ module _ (l : Layouts) (packed layout : Bool) (c : Lent) (h : Meant l packed lay
       let long : length rows ≡ slotWidth * length values = length-slot-numbers (c .mark) (starts l) values in
       rw (set-bytes (c .table) (h .lends .are-slots) rows (length values) long)
 
-  shows : let r = reading l packed layout c in
+  shows : let r = hostReading l packed layout c in
       map (shown (r .area)) (take (length values) (slotsIn (r .slots))) ≡ values
   unfolding left stepsCall readCall
   shows =
-      let slots : numbersIn (reading l packed layout c .slots) ≡ left .slots =
-      read-agrees (textOf l layout) (take (c .cut) (resultOf (packing l packed c))) (c .table) (c .values) (c .mark)
+      let slots : numbersIn (hostReading l packed layout c .slots) ≡ left .slots =
+      read-agrees (textOf l layout) (take (c .cut) (resultIn (hostPacking l packed c))) (c .table) (c .values) (c .mark)
       (c .readReply) (h .lends) .same
       ∙ ap
       (λ (bs : List ℕ). read (textOf l layout) (take (c .cut) bs) (numbersIn (c .table)) (c .values) (c .mark) .slots)
       record-is in
-      let area : reading l packed layout c .area ≡ left .area = ap (λ (r : ReadCall). r .area) as-read in
+      let area : hostReading l packed layout c .area ≡ left .area = ap (λ (r : ReadCall). r .area) as-read in
       rw (slots, area) (back .shows packed layout (c .cut) (numbersIn (c .table)) (c .values) (c .mark) (h .reads))
 
-  keeps-back : KeepsBack l packed layout c
+  keeps-back : HostKeepsBack l packed layout c
   keeps-back = record {
     packs = packs;
     reads =

@@ -6,23 +6,23 @@ use mathlib.Core.List.{List}
 use lib.ListN.{take}
 use Rattle.record.specs.Table.{slotWidth}
 use Rattle.record.proofs.Tables.{slots-take}
-use Rattle.sheet.specs.Sheet.{write}
+use Rattle.sheet.specs.Sheet.{writeSheet}
 use Rattle.sheet.specs.Claims.{sheetOf}
 use Rattle.rescue.specs.declared.fill.Rescued.{Rescued}
-use Rattle.rescue.specs.fill.Rescue.{Outcome, rescue}
-use Rattle.rescue.specs.Claims.{setBy, SavesAll as NumbersSaved}
+use Rattle.rescue.specs.Rescue.{Outcome, rescue}
+use Rattle.rescue.specs.Claims.{slotsSetBy, SavesAll as NumbersSaved}
 use Rattle.rescue.proofs.Claims.{rescued-saved}
-use Rattle.host.specs.numbers.Numbers.{numbersIn}
+use Rattle.host.specs.Numbers.{numbersIn}
 use Rattle.host.specs.Host.{PackCall, ReadCall, packCall}
-use Rattle.host_sheet.specs.damaged.{rescueReply, rescueCall}
-use Rattle.host_claims.specs.Seen.{firstSlots, resultOf}
+use Rattle.host_sheet.specs.Rescuing.{rescueReply, rescueCall}
+use Rattle.host_claims.specs.Seen.{firstSlots, resultIn}
 use Rattle.host_claims.specs.Agreeing.{Agrees}
-use Rattle.host_claims.specs.Rescues.{Lent, rescued, written, rescuedAgain, Meant, SavesAll, HostRescuedSaved}
+use Rattle.host_claims.specs.Rescues.{RescuesLent, rescued, writtenAfter, rescuedAgain, RescuesMeant, HostSavesAll, HostRescuedSaved}
 use Rattle.host_claims.proofs.Laws.{write-served, rescue-served, slots-first, numbers-first}
 use Rattle.host_claims.proofs.Agreeing.{rescue-agrees}
 use Rattle.host_claims.proofs.Sheets.{sheet-found}
 
-module _ (c : Lent) (m : Meant c) where
+module _ (c : RescuesLent) (m : RescuesMeant c) where
   -- ---- the first rescue
 
   o : Outcome
@@ -40,49 +40,49 @@ module _ (c : Lent) (m : Meant c) where
   unfolding rescueCall
   area-same = ap (λ (r : ReadCall). r .area) as-rescued
 
-  set : numbersIn (firstSlots (c .legs) (rescued c .slots)) ≡ setBy (c .legs) o
+  set : numbersIn (firstSlots (c .legs) (rescued c .slots)) ≡ slotsSetBy (c .legs) o
   set = numbers-first (c .legs) (rescued c .slots) ∙ ap (take (slotWidth * c .legs)) (agrees .same)
 
   -- ---- the sheet that is written
 
-  as-written : written c ≡ packCall (write (setBy (c .legs) o) (o .area) (c .buffer))
+  as-written : writtenAfter c ≡ packCall (writeSheet (slotsSetBy (c .legs) o) (o .area) (c .buffer))
   as-written =
       write-served (firstSlots (c .legs) (rescued c .slots)) (c .writeReply) (rescued c .area) (c .buffer)
       (record { are-slots = slots-first (c .legs) (rescued c .slots) (agrees .slots); reply-size = m .write-reply })
-      ∙ ap₂ (λ (ns area : List ℕ). packCall (write ns area (c .buffer))) set area-same
+      ∙ ap₂ (λ (ns area : List ℕ). packCall (writeSheet ns area (c .buffer))) set area-same
 
-  found : resultOf (written c) ≡ sheetOf (write (setBy (c .legs) o) (o .area) (c .buffer))
+  found : resultIn (writtenAfter c) ≡ sheetOf (writeSheet (slotsSetBy (c .legs) o) (o .area) (c .buffer))
   unfolding o
-  found = ap resultOf as-written ∙ sheet-found (setBy (c .legs) o) (o .area) (c .buffer) (m .again .stored .writing)
+  found = ap resultIn as-written ∙ sheet-found (slotsSetBy (c .legs) o) (o .area) (c .buffer) (m .again .stored .writing)
 
   -- ---- the second rescue
 
   p : Outcome
   p =
-      rescue (sheetOf (write (setBy (c .legs) o) (o .area) (c .buffer))) (c .legs) (numbersIn (c .table)) (c .values)
+      rescue (sheetOf (writeSheet (slotsSetBy (c .legs) o) (o .area) (c .buffer))) (c .legs) (numbersIn (c .table)) (c .values)
       (c .start)
 
   as-again : rescuedAgain c ≡ rescueCall (c .table) p
   unfolding p
   as-again =
-      rescue-served (c .table) (c .lastReply) (resultOf (written c)) (c .legs) (c .values) (c .start) (m .lends-again)
+      rescue-served (c .table) (c .lastReply) (resultIn (writtenAfter c)) (c .legs) (c .values) (c .start) (m .lends-again)
       ∙ ap
       (λ (bs : List ℕ). rescueCall (c .table) (rescue bs (c .legs) (numbersIn (c .table)) (c .values) (c .start))) found
 
   again-same : numbersIn (rescuedAgain c .slots) ≡ p .slots
   unfolding p
   again-same =
-      rescue-agrees (resultOf (written c)) (c .legs) (c .table) (c .values) (c .start) (c .lastReply)
+      rescue-agrees (resultIn (writtenAfter c)) (c .legs) (c .table) (c .values) (c .start) (c .lastReply)
       (m .lends-again) .same
       ∙ ap (λ (bs : List ℕ). rescue bs (c .legs) (numbersIn (c .table)) (c .values) (c .start) .slots) found
 
-  saves : NumbersSaved (c .legs) (setBy (c .legs) o) (o .area) p
+  saves : NumbersSaved (c .legs) (slotsSetBy (c .legs) o) (o .area) p
   unfolding o p
   saves =
       rescued-saved (c .sheet) (c .legs) (numbersIn (c .slots)) (c .area) (c .mark) (c .buffer) (numbersIn (c .table))
       (c .values) (c .start) (m .again)
 
-  saves-all : SavesAll c
+  saves-all : HostSavesAll c
   unfolding o rescueCall rescueReply packCall
   saves-all = record {
     rescues = ap (λ (r : ReadCall). r .returned) as-rescued ∙ m .again .rescuing;

@@ -9,17 +9,17 @@ use Rattle.layout.specs.Layout.{slotCount}
 use Rattle.record.specs.Bytes.{storeAt}
 use Rattle.record.specs.Table.{shown, slotNumbers, valueBytes}
 use Rattle.evolution.specs.Claim.{Layouts, Reading, textOf, fieldsBy, outputBy, argumentsBy, recordBytes, due, starts, carriedOut}
-use Rattle.host.specs.numbers.Numbers.{numbersIn, bytesOf}
+use Rattle.host.specs.Numbers.{numbersIn, numbersBytes}
 use Rattle.host.specs.Host.{replySize, longReplySize, PackCall, ReadCall}
-use Rattle.host_record.specs.pack.{curlewPack}
-use Rattle.host_record.specs.read.Calls.{curlewRead}
-use Rattle.host_claims.specs.Seen.{Slots, Lends, firstSlots, slotsIn, resultOf, filledWith}
+use Rattle.host_record.specs.Packing.{curlewPack}
+use Rattle.host_record.specs.Reading.{curlewRead}
+use Rattle.host_claims.specs.Seen.{Slots, Lends, firstSlots, slotsIn, resultIn, filledWith}
 
 -- ---- the calls
 
--- What they are lent beside the layouts, their buffers and the area: the arguments, as slot bytes; the two replies; the
--- cut; the table, area and mark of the reading.
-pub record Lent : Type 0 where
+-- What the calls are lent beside the layouts, their buffers and the area: the arguments, as slot bytes; the two
+-- replies; the cut; the table, area and mark of the reading.
+pub record HostLent : Type 0 where
   pub arguments : List ℕ
   pub packReply : List ℕ
   pub cut : ℕ
@@ -29,54 +29,55 @@ pub record Lent : Type 0 where
   pub readReply : List ℕ
 
 -- the arguments of a packing: all slots for the new layout, the first of them for the old one
-abbrev pub argumentBytes : Layouts → Bool → Lent → List ℕ
+abbrev pub argumentBytes : Layouts → Bool → HostLent → List ℕ
 argumentBytes l true c = c .arguments
 argumentBytes l false c = firstSlots (slotCount (l .fields)) (c .arguments)
 
-abbrev pub packing : Layouts → Bool → Lent → PackCall
-packing l packed c =
+abbrev pub hostPacking : Layouts → Bool → HostLent → PackCall
+hostPacking l packed c =
     curlewPack (textOf l packed) (argumentBytes l packed c) (l .area) (outputBy l packed) (c .packReply)
 
--- of its record, the first bytes are read
-abbrev pub reading : Layouts → Bool → Bool → Lent → ReadCall
-reading l packed layout c =
-    curlewRead (textOf l layout) (take (c .cut) (resultOf (packing l packed c))) (c .table) (c .values) (c .mark)
+-- the first bytes of the record that was packed are read
+abbrev pub hostReading : Layouts → Bool → Bool → HostLent → ReadCall
+hostReading l packed layout c =
+    curlewRead (textOf l layout) (take (c .cut) (resultIn (hostPacking l packed c))) (c .table) (c .values) (c .mark)
     (c .readReply)
 
 -- ---- the claim
 
 -- The calls are such as demand 3 speaks of: the numbers in the argument bytes are its arguments, and the reading is one
 -- of its readings over the numbers in the table.
-pub record Meant (l : Layouts) (packed layout : Bool) (c : Lent) : Type 0 where
+pub record HostMeant (l : Layouts) (packed layout : Bool) (c : HostLent) : Type 0 where
   pub arguments : Slots (c .arguments)
   pub are : numbersIn (c .arguments) ≡ l .slots
   pub pack-reply : length (c .packReply) ≡ replySize
   pub lends : Lends (c .table) (c .readReply) longReplySize
   pub reads : Reading l packed layout (c .cut) (numbersIn (c .table)) (c .values) (c .mark)
 
-pub record KeepsBack (l : Layouts) (packed layout : Bool) (c : Lent) : Type 0 where
+pub record HostKeepsBack (l : Layouts) (packed layout : Bool) (c : HostLent) : Type 0 where
   -- the packing returns 0, its reply is 0, the end of the last field and 0, and the record lies at the front of the
   -- buffer
-  pub packs : packing l packed c ≡ filledWith (outputBy l packed) (recordBytes (argumentsBy l packed))
-  -- the reading returns 0; its reply is 0, the number of values due, the place behind them, and the steps; the first
+  pub packs : hostPacking l packed c ≡ filledWith (outputBy l packed) (recordBytes (argumentsBy l packed))
+  -- the reading returns 0; its reply is 0, the number of values due, the place after them, and the steps; the first
   -- slots are those of the values due, from the mark on, and the area holds them there; every other byte is as lent
   pub reads :
-      reading l packed layout c
+      hostReading l packed layout c
       ≡ record {
         returned = 0;
-        slots = storeAt (c .table) 0 (bytesOf (slotNumbers (c .mark) (starts l) (due l layout (c .cut))));
+        slots = storeAt (c .table) 0 (numbersBytes (slotNumbers (c .mark) (starts l) (due l layout (c .cut))));
         area = storeAt (c .values) (c .mark) (valueBytes (due l layout (c .cut)));
         reply =
-            bytesOf
+            numbersBytes
             (0 ∷ length (due l layout (c .cut)) ∷ (c .mark + length (valueBytes (due l layout (c .cut))))
             ∷ carriedOut (c .cut) 0 (fieldsBy l layout) ∷ []);
       }
-  -- and each set slot, taken out of its bytes, shows its value
+  -- each set slot, taken out of its bytes, shows its value
   pub shows :
-      map (shown (reading l packed layout c .area))
-      (take (length (due l layout (c .cut))) (slotsIn (reading l packed layout c .slots)))
+      map (shown (hostReading l packed layout c .area))
+      (take (length (due l layout (c .cut))) (slotsIn (hostReading l packed layout c .slots)))
       ≡ due l layout (c .cut)
 
 -- DEMAND 3 for a C program
 abbrev pub HostDemand3 : Type 0
-HostDemand3 = (l : Layouts) (packed layout : Bool) (c : Lent) → Meant l packed layout c → KeepsBack l packed layout c
+HostDemand3 =
+    (l : Layouts) (packed layout : Bool) (c : HostLent) → HostMeant l packed layout c → HostKeepsBack l packed layout c

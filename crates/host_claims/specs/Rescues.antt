@@ -5,16 +5,16 @@ use mathlib.Core.Path.{_≡_}
 use mathlib.Core.List.{List, [], _∷_, map}
 use lib.ListN.{length, take}
 use Rattle.sheet.specs.Claims.{seen}
-use Rattle.rescue.specs.Claims.{Again}
-use Rattle.host.specs.numbers.Numbers.{numbersIn, bytesOf}
+use Rattle.rescue.specs.Claims.{RescuedAgain}
+use Rattle.host.specs.Numbers.{numbersIn, numbersBytes}
 use Rattle.host.specs.Host.{replySize, PackCall, ReadCall}
-use Rattle.host_sheet.specs.write.{curlewSheetWrite}
-use Rattle.host_sheet.specs.damaged.{rescueReplySize, curlewSheetRescue}
-use Rattle.host_claims.specs.Seen.{Lends, firstSlots, slotsIn, resultOf}
+use Rattle.host_sheet.specs.Writing.{curlewSheetWrite}
+use Rattle.host_sheet.specs.Rescuing.{rescueReplySize, curlewSheetRescue}
+use Rattle.host_claims.specs.Seen.{Lends, firstSlots, slotsIn, resultIn}
 
 -- What the three calls are lent: the damaged sheet and the legs that it should have; slots, area and mark for the first
 -- rescue; a buffer for the sheet that is written; slots, area and mark for the second; and the replies.
-pub record Lent : Type 0 where
+pub record RescuesLent : Type 0 where
   pub sheet : List ℕ
   pub legs : ℕ
   pub slots : List ℕ
@@ -28,36 +28,38 @@ pub record Lent : Type 0 where
   pub start : ℕ
   pub lastReply : List ℕ
 
-abbrev pub rescued : Lent → ReadCall
+abbrev pub rescued : RescuesLent → ReadCall
 rescued c = curlewSheetRescue (c .sheet) (c .legs) (c .slots) (c .area) (c .mark) (c .reply)
 
--- the slots of the legs are written ..
-abbrev pub written : Lent → PackCall
-written c = curlewSheetWrite (firstSlots (c .legs) (rescued c .slots)) (rescued c .area) (c .buffer) (c .writeReply)
+-- the slots of the legs, as the first rescue left them, are written
+abbrev pub writtenAfter : RescuesLent → PackCall
+writtenAfter c =
+    curlewSheetWrite (firstSlots (c .legs) (rescued c .slots)) (rescued c .area) (c .buffer) (c .writeReply)
 
--- .. and what that wrote is rescued
-abbrev pub rescuedAgain : Lent → ReadCall
-rescuedAgain c = curlewSheetRescue (resultOf (written c)) (c .legs) (c .table) (c .values) (c .start) (c .lastReply)
+-- the sheet that was written is rescued
+abbrev pub rescuedAgain : RescuesLent → ReadCall
+rescuedAgain c =
+    curlewSheetRescue (resultIn (writtenAfter c)) (c .legs) (c .table) (c .values) (c .start) (c .lastReply)
 
 -- as M-109 has it: the first rescue and the writing are accepted, and there are slots and room for the second
-pub record Meant (c : Lent) : Type 0 where
+pub record RescuesMeant (c : RescuesLent) : Type 0 where
   pub lends : Lends (c .slots) (c .reply) rescueReplySize
   pub write-reply : length (c .writeReply) ≡ replySize
   pub lends-again : Lends (c .table) (c .lastReply) rescueReplySize
   pub again :
-      Again (c .sheet) (c .legs) (numbersIn (c .slots)) (c .area) (c .mark)
+      RescuedAgain (c .sheet) (c .legs) (numbersIn (c .slots)) (c .area) (c .mark)
       (c .buffer) (numbersIn (c .table)) (c .values) (c .start)
 
--- every call returns 0; the last one replies 0, all legs kept, none blanked and nothing dropped, and each leg shows
+-- every call returns 0; the last one replies 0, all legs kept, none cleared and nothing dropped, and each leg shows
 -- what the first rescue left
-pub record SavesAll (c : Lent) : Type 0 where
+pub record HostSavesAll (c : RescuesLent) : Type 0 where
   pub rescues : rescued c .returned ≡ 0
-  pub writes : written c .returned ≡ 0
+  pub writes : writtenAfter c .returned ≡ 0
   pub rescues-again : rescuedAgain c .returned ≡ 0
-  pub reply : rescuedAgain c .reply ≡ bytesOf (0 ∷ c .legs ∷ 0 ∷ 0 ∷ [])
+  pub reply : rescuedAgain c .reply ≡ numbersBytes (0 ∷ c .legs ∷ 0 ∷ 0 ∷ [])
   pub shows :
       map (seen (rescuedAgain c .area)) (take (c .legs) (slotsIn (rescuedAgain c .slots)))
       ≡ map (seen (rescued c .area)) (take (c .legs) (slotsIn (rescued c .slots)))
 
 abbrev pub HostRescuedSaved : Type 0
-HostRescuedSaved = (c : Lent) → Meant c → SavesAll c
+HostRescuedSaved = (c : RescuesLent) → RescuesMeant c → HostSavesAll c

@@ -7,7 +7,7 @@ use Rattle.record.specs.declared.slots.Slot.{Slot}
 use Rattle.record.specs.Bytes.{numberAt}
 use Rattle.record.specs.Table.{slotsOf}
 use Rattle.record.specs.Packing.{accepted}
-use Rattle.host.specs.numbers.Numbers.{numberSize, numbersIn}
+use Rattle.host.specs.Numbers.{numberSize, numbersIn}
 use Rattle.host.specs.Host.{slotSize, replyOf, PackCall}
 
 -- ---- what it lends
@@ -17,7 +17,7 @@ pub record Slots (slots : List ℕ) : Type 0 where
   pub whole : length slots % slotSize ≡ 0
   pub bytes : (i : ℕ) → getD slots i 0 < 256
 
--- the same, and a reply of the call's own size
+-- a run of slots, and a reply of the call's own size
 pub record Lends (slots reply : List ℕ) (size : ℕ) : Type 0 where
   pub are-slots : Slots slots
   pub reply-size : length reply ≡ size
@@ -37,11 +37,11 @@ abbrev pub slotsIn : List ℕ → List Slot
 slotsIn slots = slotsOf (numbersIn slots)
 
 -- what a call put at the front of its buffer: as many bytes as its reply says
-abbrev pub resultOf : PackCall → List ℕ
-resultOf c = take (replied 1 (c .reply)) (c .output)
+abbrev pub resultIn : PackCall → List ℕ
+resultIn c = take (replied 1 (c .reply)) (c .output)
 
 -- a call that was accepted and put bs at the front of a buffer: it returned 0, replied 0, the length of bs and 0, and
--- the bytes of the buffer behind bs stay
+-- the bytes of the buffer after bs stay
 abbrev pub filledWith : List ℕ → List ℕ → PackCall
 filledWith buffer bs = record {
   returned = 0;

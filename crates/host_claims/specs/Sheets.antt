@@ -5,11 +5,11 @@ use mathlib.Core.Path.{_≡_}
 use mathlib.Core.List.{List, map}
 use lib.ListN.{length, take}
 use Rattle.sheet.specs.Claims.{seen, Stored, Loaded}
-use Rattle.host.specs.numbers.Numbers.{numbersIn}
+use Rattle.host.specs.Numbers.{numbersIn}
 use Rattle.host.specs.Host.{replySize, PackCall, ReadCall}
-use Rattle.host_sheet.specs.write.{curlewSheetWrite}
-use Rattle.host_sheet.specs.read.{curlewSheetRead}
-use Rattle.host_claims.specs.Seen.{Lends, firstSlots, replied, slotsIn, resultOf, filledWith}
+use Rattle.host_sheet.specs.Writing.{curlewSheetWrite}
+use Rattle.host_sheet.specs.Reading.{curlewSheetRead}
+use Rattle.host_claims.specs.Seen.{Lends, firstSlots, replied, slotsIn, resultIn, filledWith}
 
 -- ---- table to sheet and back
 
@@ -28,7 +28,7 @@ HostTableKept =
     → Lends slots reply replySize → Lends table reply′ replySize
     → Stored (numbersIn slots) area buffer (numbersIn table) values mark
     → let w = curlewSheetWrite slots area buffer reply in
-    KeepsTable slots area w (curlewSheetRead (resultOf w) table values mark reply′)
+    KeepsTable slots area w (curlewSheetRead (resultIn w) table values mark reply′)
 
 -- ---- sheet to table and back
 

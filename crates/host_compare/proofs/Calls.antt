@@ -22,18 +22,19 @@ use Rattle.record.specs.Reading.{reads}
 use Rattle.record.proofs.Bytes.{All}
 use Rattle.record.proofs.Sizes.{too-many as sizes-many}
 use Rattle.record.proofs.Tables.{length-slots}
-use Rattle.reader.specs.checking.Checks.{checked}
-use Rattle.compare.specs.difference.{reportWidth}
+use Rattle.reader.specs.inside.Checks.{readChecked}
+use Rattle.compare.specs.Difference.{reportWidth}
 use Rattle.compare.specs.Comparing.{Shown, compares, compareEffect, Compared, compare}
 use Rattle.compare.proofs.Calls.{accepted-reads}
 use Rattle.compare.proofs.Lent.{Kept, Settled, settled, reportOver, report-over}
-use Rattle.host.specs.numbers.Numbers.{numberSize, numbersIn, bytesOf}
+use Rattle.host.specs.Numbers.{numberSize, numbersIn, numbersBytes}
 use Rattle.host.proofs.numbers.NumberLaws.{length-numbersIn, length-bytesOf, bytes-stored}
-use Rattle.host.specs.Host.{slotSize, replySize, replyOf, slotsFit}
+use Rattle.host.specs.Host.{slotSize, replySize, replyOf}
+use Rattle.host.specs.inside.Small.{slotBytesFit}
 use Rattle.host.proofs.Guards.{Fit, too-many}
-use Rattle.host_compare.specs.Calls.{rowSize, wholeSlots, comparesLent, compareCall, curlewCompare}
-use Rattle.host_compare.specs.report.{Fits, putBack}
-use Rattle.host_compare.specs.Steps.{secondCut}
+use Rattle.host_compare.specs.Calls.{findingSize, wholeSlots, comparesLent, compareCall, curlewCompare}
+use Rattle.host_compare.specs.inside.report.{Fits, putBack}
+use Rattle.host_compare.specs.inside.Steps.{secondCut}
 
 -- ---- slots that are not served
 
@@ -43,7 +44,7 @@ unfolding reads
 reads-many layout bs ns area many = rw (sizes-many (length layout) (length ns) (length bs) (length area) many)
 
 -- are refused with 1, as slots that are not whole
-cut : {A : Type 0} (slots : List ℕ) (next : Result A) → slotsFit (length slots) ≡ false → (slotWidth * maxSlots < length (numbersIn slots) → next ≡ refused BadSize 0)
+cut : {A : Type 0} (slots : List ℕ) (next : Result A) → slotBytesFit (length slots) ≡ false → (slotWidth * maxSlots < length (numbersIn slots) → next ≡ refused BadSize 0)
     → demand (wholeSlots slots) BadSize 0 >>= (λ _. next) ≡ refused BadSize 0
 cut {A} slots next bad many = go (wholeSlots slots) refl
   where
@@ -61,12 +62,12 @@ reads-same layout bs area xs ys same = rw (length-slots xs, length-slots ys, sam
 
 -- what the check of the first reading says to a second table that is not served
 module _ (layout bs slots area : List ℕ) where
-  cut-refused : {why : Refusal} {place : ℕ} → reads layout bs slots area 0 ≡ refused why place → secondCut (checked layout bs slots area 0) ≡ refusal why place
-  unfolding checked
+  cut-refused : {why : Refusal} {place : ℕ} → reads layout bs slots area 0 ≡ refused why place → secondCut (readChecked layout bs slots area 0) ≡ refusal why place
+  unfolding readChecked
   cut-refused {why} e = rw (e, ne-eqb (numberOf why) 0 (λ z. no-number-zero why z))
 
-  cut-accepted : {vs : List Value} → reads layout bs slots area 0 ≡ ok vs → secondCut (checked layout bs slots area 0) ≡ refusal BadSize 0
-  unfolding checked
+  cut-accepted : {vs : List Value} → reads layout bs slots area 0 ≡ ok vs → secondCut (readChecked layout bs slots area 0) ≡ refusal BadSize 0
+  unfolding readChecked
   cut-accepted {vs} e = let r = accepted-reads layout bs slots area vs e in rw (e, r .fields)
 
 pub said : {a b : Answer} {r : ℕ} {reply : List ℕ} → a ≡ b → (r ≡ a .number) × (reply ≡ replyOf a) → (r ≡ b .number) × (reply ≡ replyOf b)
@@ -93,7 +94,7 @@ module _ (layout first second fslots farea sslots sarea report reply : List ℕ)
     unfolding curlewCompare compareCall compareEffect
     refused-by {why} e p q = rw (eq-eqb (length reply) replySize sized, e, q .0, q .1, p, ne-eqb (numberOf why) 0 (λ z. no-number-zero why z))
 
-    pub first-cut : {r : ℕ} {a : Answer} {reply′ : List ℕ} → slotsFit (length fslots) ≡ false → a ≡ refusal BadSize 0 → (r ≡ a .number) × (reply′ ≡ replyOf a)
+    pub first-cut : {r : ℕ} {a : Answer} {reply′ : List ℕ} → slotBytesFit (length fslots) ≡ false → a ≡ refusal BadSize 0 → (r ≡ a .number) × (reply′ ≡ replyOf a)
         → record { returned = r; firstSlots = fslots; firstArea = farea; secondSlots = sslots; secondArea = sarea; report = report; reply = reply′ } ≡ curlewCompare layout first second fslots farea sslots sarea report reply
     unfolding comparesLent
     first-cut bad p q = refused-by lent p q
@@ -113,8 +114,8 @@ module _ (layout first second fslots farea sslots sarea report reply : List ℕ)
       unfolding compares
       second-many e many = rw (e, reads-many layout second (numbersIn sslots) sarea many)
 
-      pub second-cut : (ns : List ℕ) {r : ℕ} {reply′ : List ℕ} → length ns ≡ length fslots / numberSize → slotsFit (length sslots) ≡ false
-          → (r ≡ secondCut (checked layout first ns farea 0) .number) × (reply′ ≡ replyOf (secondCut (checked layout first ns farea 0)))
+      pub second-cut : (ns : List ℕ) {r : ℕ} {reply′ : List ℕ} → length ns ≡ length fslots / numberSize → slotBytesFit (length sslots) ≡ false
+          → (r ≡ secondCut (readChecked layout first ns farea 0) .number) × (reply′ ≡ replyOf (secondCut (readChecked layout first ns farea 0)))
           → record { returned = r; firstSlots = fslots; firstArea = farea; secondSlots = sslots; secondArea = sarea; report = report; reply = reply′ } ≡ curlewCompare layout first second fslots farea sslots sarea report reply
       second-cut ns {r} {reply′} lent bad q = by (reads layout first (numbersIn fslots) farea 0) refl
         where
@@ -153,29 +154,29 @@ kept-store n before after k =
     let rest : drop (n * slotWidth) before ≡ drop (n * slotWidth) after = rw (← m) (sym (k .rest)) in
     rw (zero-add, long, rest) (take-append-drop (n * slotWidth) after)
 
-kept-bytes : (n : ℕ) (slots after : List ℕ) {slots′ : List ℕ} → Kept n (numbersIn slots) after → length slots % numberSize ≡ 0 → All (λ b. b < 256) slots → slots′ ≡ storeAt slots 0 (bytesOf (take (n * slotWidth) after))
-    → slots′ ≡ bytesOf after
-kept-bytes n slots after k whole below e = e ∙ sym (bytes-stored slots (take (n * slotWidth) after) whole below) ∙ ap bytesOf (kept-store n (numbersIn slots) after k)
+kept-bytes : (n : ℕ) (slots after : List ℕ) {slots′ : List ℕ} → Kept n (numbersIn slots) after → length slots % numberSize ≡ 0 → All (λ b. b < 256) slots → slots′ ≡ storeAt slots 0 (numbersBytes (take (n * slotWidth) after))
+    → slots′ ≡ numbersBytes after
+kept-bytes n slots after k whole below e = e ∙ sym (bytes-stored slots (take (n * slotWidth) after) whole below) ∙ ap numbersBytes (kept-store n (numbersIn slots) after k)
 
--- the rows are written, and the rest of the report stays
-rows-bytes : (n : ℕ) (rows numbers report : List ℕ) {report′ : List ℕ} → reportWidth * n ≤ length rows → report′ ≡ storeAt report 0 (bytesOf (part rows 0 (reportWidth * n)))
-    → report′ ≡ bytesOf (take (reportWidth * n) (take (reportWidth * n) rows ++ drop (reportWidth * n) numbers)) ++ drop (rowSize * n) report
-rows-bytes n rows numbers report h e =
-    let long : length (take (reportWidth * n) rows) ≡ reportWidth * n = length-take-le (reportWidth * n) rows h in
-    let size : 0 + length (bytesOf (take (reportWidth * n) rows)) ≡ rowSize * n = omega (arith, length-bytesOf (take (reportWidth * n) rows)) in
-    e ∙ rw (size, take-at (take (reportWidth * n) rows) (drop (reportWidth * n) numbers) (reportWidth * n) long)
+-- the findings are written, and the rest of the report stays
+findings-bytes : (n : ℕ) (findings numbers report : List ℕ) {report′ : List ℕ} → reportWidth * n ≤ length findings → report′ ≡ storeAt report 0 (numbersBytes (part findings 0 (reportWidth * n)))
+    → report′ ≡ numbersBytes (take (reportWidth * n) (take (reportWidth * n) findings ++ drop (reportWidth * n) numbers)) ++ drop (findingSize * n) report
+findings-bytes n findings numbers report h e =
+    let long : length (take (reportWidth * n) findings) ≡ reportWidth * n = length-take-le (reportWidth * n) findings h in
+    let size : 0 + length (numbersBytes (take (reportWidth * n) findings)) ≡ findingSize * n = omega (arith, length-bytesOf (take (reportWidth * n) findings)) in
+    e ∙ rw (size, take-at (take (reportWidth * n) findings) (drop (reportWidth * n) numbers) (reportWidth * n) long)
 
-module _ (layout first second fslots farea sslots sarea report rows : List ℕ) (short : length rows ≡ min (length report / numberSize) (reportWidth * maxSlots))
-    {ns ms : List ℕ} (d : ns ≡ numbersIn fslots) (e : ms ≡ numbersIn sslots) {ns′ farea′ ms′ sarea′ rows′ : List ℕ} {a : Answer}
-    (c : record { answer = a; firstSlots = ns′; firstArea = farea′; secondSlots = ms′; secondArea = sarea′; report = rows′ } ≡ compare layout first second ns farea ms sarea rows) where
-  p : record { answer = a; firstSlots = ns′; firstArea = farea′; secondSlots = ms′; secondArea = sarea′; report = rows′ } ≡ compare layout first second (numbersIn fslots) farea (numbersIn sslots) sarea rows
+module _ (layout first second fslots farea sslots sarea report findings : List ℕ) (short : length findings ≡ min (length report / numberSize) (reportWidth * maxSlots))
+    {ns ms : List ℕ} (d : ns ≡ numbersIn fslots) (e : ms ≡ numbersIn sslots) {ns′ farea′ ms′ sarea′ findings′ : List ℕ} {a : Answer}
+    (c : record { answer = a; firstSlots = ns′; firstArea = farea′; secondSlots = ms′; secondArea = sarea′; report = findings′ } ≡ compare layout first second ns farea ms sarea findings) where
+  p : record { answer = a; firstSlots = ns′; firstArea = farea′; secondSlots = ms′; secondArea = sarea′; report = findings′ } ≡ compare layout first second (numbersIn fslots) farea (numbersIn sslots) sarea findings
   p = c ∙ rw (d, e)
 
   over : compare layout first second (numbersIn fslots) farea (numbersIn sslots) sarea (numbersIn report)
-      ≡ reportOver (numbersIn report) (record { answer = a; firstSlots = ns′; firstArea = farea′; secondSlots = ms′; secondArea = sarea′; report = rows′ })
+      ≡ reportOver (numbersIn report) (record { answer = a; firstSlots = ns′; firstArea = farea′; secondSlots = ms′; secondArea = sarea′; report = findings′ })
   over =
-      let room : length rows ≡ min (length (numbersIn report)) (reportWidth * maxSlots) = rw length-numbersIn short in
-      report-over layout first second (numbersIn fslots) farea (numbersIn sslots) sarea (numbersIn report) rows room ∙ ap (reportOver (numbersIn report)) (sym p)
+      let room : length findings ≡ min (length (numbersIn report)) (reportWidth * maxSlots) = rw length-numbersIn short in
+      report-over layout first second (numbersIn fslots) farea (numbersIn sslots) sarea (numbersIn report) findings room ∙ ap (reportOver (numbersIn report)) (sym p)
 
   left : {r : ℕ} {reply′ : List ℕ} → (r ≡ a .number) × (reply′ ≡ replyOf a) → (a .number ≡ 0 → ⊥)
       → record { returned = r; firstSlots = fslots; firstArea = farea′; secondSlots = sslots; secondArea = sarea′; report = report; reply = reply′ }
@@ -184,41 +185,41 @@ module _ (layout first second fslots farea sslots sarea report rows : List ℕ) 
   left q h = rw (over, ne-eqb (a .number) 0 h, q .0, q .1)
 
   module _ (z : a .number ≡ 0) where
-    settles : Settled (numbersIn fslots) (numbersIn sslots) rows (record { answer = a; firstSlots = ns′; firstArea = farea′; secondSlots = ms′; secondArea = sarea′; report = rows′ })
+    settles : Settled (numbersIn fslots) (numbersIn sslots) findings (record { answer = a; firstSlots = ns′; firstArea = farea′; secondSlots = ms′; secondArea = sarea′; report = findings′ })
     settles =
-        let accepted : compare layout first second (numbersIn fslots) farea (numbersIn sslots) sarea rows .answer .number ≡ 0 = rw (← p) z in
-        subst (Settled (numbersIn fslots) (numbersIn sslots) rows) (sym p) (settled layout first second (numbersIn fslots) farea (numbersIn sslots) sarea rows accepted)
+        let accepted : compare layout first second (numbersIn fslots) farea (numbersIn sslots) sarea findings .answer .number ≡ 0 = rw (← p) z in
+        subst (Settled (numbersIn fslots) (numbersIn sslots) findings) (sym p) (settled layout first second (numbersIn fslots) farea (numbersIn sslots) sarea findings accepted)
 
-    rows-lent : (length rows′ * numberSize ≤ length report) × (0 + reportWidth * a .first ≤ length rows′)
-    rows-lent = (omega (arith, settles .long, short), omega (arith, settles .rows, settles .long))
+    findings-lent : (length findings′ * numberSize ≤ length report) × (0 + reportWidth * a .first ≤ length findings′)
+    findings-lent = (omega (arith, settles .long, short), omega (arith, settles .findings, settles .long))
 
     written : {fslots′ sslots′ report′ reply′ : List ℕ} {r : ℕ} → (r ≡ a .number) × (reply′ ≡ replyOf a) → length fslots % numberSize ≡ 0 → All (λ b. b < 256) fslots → length sslots % numberSize ≡ 0 → All (λ b. b < 256) sslots
-        → fslots′ ≡ storeAt fslots 0 (bytesOf (take (a .first * slotWidth) ns′)) → sslots′ ≡ storeAt sslots 0 (bytesOf (take (a .first * slotWidth) ms′)) → report′ ≡ storeAt report 0 (bytesOf (part rows′ 0 (reportWidth * a .first)))
+        → fslots′ ≡ storeAt fslots 0 (numbersBytes (take (a .first * slotWidth) ns′)) → sslots′ ≡ storeAt sslots 0 (numbersBytes (take (a .first * slotWidth) ms′)) → report′ ≡ storeAt report 0 (numbersBytes (part findings′ 0 (reportWidth * a .first)))
         → record { returned = r; firstSlots = fslots′; firstArea = farea′; secondSlots = sslots′; secondArea = sarea′; report = report′; reply = reply′ }
         ≡ compareCall fslots sslots report (compare layout first second (numbersIn fslots) farea (numbersIn sslots) sarea (numbersIn report))
     unfolding compareCall
     written q w b w′ b′ f g h =
         let s = settles in
         let n : ℕ = a .first in
-        let rest : reportWidth * n ≤ length rows′ = omega (arith, s .rows, s .long) in
-        rw (over, eq-eqb (a .number) 0 z, q .0, q .1, kept-bytes n fslots ns′ (s .first) w b f, kept-bytes n sslots ms′ (s .second) w′ b′ g, rows-bytes n rows′ (numbersIn report) report rest h)
+        let rest : reportWidth * n ≤ length findings′ = omega (arith, s .findings, s .long) in
+        rw (over, eq-eqb (a .number) 0 z, q .0, q .1, kept-bytes n fslots ns′ (s .first) w b f, kept-bytes n sslots ms′ (s .second) w′ b′ g, findings-bytes n findings′ (numbersIn report) report rest h)
 
-  pub fits : a .number ≡ 0 → Fits (a .first) fslots sslots report ns′ ms′ rows′
+  pub fits : a .number ≡ 0 → Fits (a .first) fslots sslots report ns′ ms′ findings′
   fits z =
       let s = settles z in
-      record { first = fields-lent fslots (s .first); second = fields-lent sslots (s .second); rows = rows-lent z }
+      record { first = fields-lent fslots (s .first); second = fields-lent sslots (s .second); findings = findings-lent z }
 
   module _ {fslots′ sslots′ report′ reply′ : List ℕ} {r : ℕ} (q : (r ≡ a .number) × (reply′ ≡ replyOf a)) (w : length fslots % numberSize ≡ 0) (b : All (λ b. b < 256) fslots) (w′ : length sslots % numberSize ≡ 0)
       (b′ : All (λ b. b < 256) sslots) where
-    by-answer : (t : Bool) → eqb (a .number) 0 ≡ t → fslots′ ≡ (if t then storeAt fslots 0 (bytesOf (take (a .first * slotWidth) ns′)) else fslots)
-        → sslots′ ≡ (if t then storeAt sslots 0 (bytesOf (take (a .first * slotWidth) ms′)) else sslots) → report′ ≡ (if t then storeAt report 0 (bytesOf (part rows′ 0 (reportWidth * a .first))) else report)
+    by-answer : (t : Bool) → eqb (a .number) 0 ≡ t → fslots′ ≡ (if t then storeAt fslots 0 (numbersBytes (take (a .first * slotWidth) ns′)) else fslots)
+        → sslots′ ≡ (if t then storeAt sslots 0 (numbersBytes (take (a .first * slotWidth) ms′)) else sslots) → report′ ≡ (if t then storeAt report 0 (numbersBytes (part findings′ 0 (reportWidth * a .first))) else report)
         → record { returned = r; firstSlots = fslots′; firstArea = farea′; secondSlots = sslots′; secondArea = sarea′; report = report′; reply = reply′ }
         ≡ compareCall fslots sslots report (compare layout first second (numbersIn fslots) farea (numbersIn sslots) sarea (numbersIn report))
     by-answer true e f g h = written (eqb-true (a .number) 0 e) q w b w′ b′ f g h
     by-answer false e f g h = rw (f, g, h) (left q (eqb-false (a .number) 0 e))
 
-    pub left-by : fslots′ ≡ putBack a fslots (bytesOf (take (a .first * slotWidth) ns′)) → sslots′ ≡ putBack a sslots (bytesOf (take (a .first * slotWidth) ms′))
-        → report′ ≡ putBack a report (bytesOf (part rows′ 0 (reportWidth * a .first)))
+    pub left-by : fslots′ ≡ putBack a fslots (numbersBytes (take (a .first * slotWidth) ns′)) → sslots′ ≡ putBack a sslots (numbersBytes (take (a .first * slotWidth) ms′))
+        → report′ ≡ putBack a report (numbersBytes (part findings′ 0 (reportWidth * a .first)))
         → record { returned = r; firstSlots = fslots′; firstArea = farea′; secondSlots = sslots′; secondArea = sarea′; report = report′; reply = reply′ }
         ≡ compareCall fslots sslots report (compare layout first second (numbersIn fslots) farea (numbersIn sslots) sarea (numbersIn report))
     unfolding putBack

@@ -1,5 +1,3 @@
--- What comparing for a C host means; then what the code's steps promise.
+-- What comparing means for a C host.
 pub mod Calls
-pub mod Steps
--- What writing back a comparison means.
-pub mod report
+pub mod inside

@@ -3,19 +3,19 @@ ghost use mathlib.Core.Path.{_≡_};
 ghost use Prim.Native.Nat.{_*_, _/_, _%_, min};
 ghost use lib.ListN.{length};
 ghost use Rattle.record.specs.Table.{slotWidth, maxSlots};
-ghost use Rattle.host.specs.numbers.Numbers.{numberSize};
+ghost use Rattle.host.specs.Numbers.{numberSize};
 ghost use Rattle.host.specs.Host.{replySize};
-ghost use Rattle.compare.specs.difference.{reportWidth};
+ghost use Rattle.compare.specs.Difference.{reportWidth};
 ghost use Rattle.host_compare.specs.Calls.{CompareServed, HostCompares};
-ghost use Rattle.host_compare.specs.Steps.{SecondRefused};
+ghost use Rattle.host_compare.specs.inside.Steps.{SecondRefused};
 use layout::Refusal;
 use reader::checking;
 use record::Answer;
 
-// What it leaves, written back.
+// What a comparing leaves, written back as bytes.
 mod report;
 
-// The numbers of a report that has a row for every slot.
+// The numbers of a report that has a finding for every slot.
 const MAX_REPORT: usize = compare::report::REPORT_WIDTH * record::MAX_SLOTS;
 
 // The second table is cut or too long: the answer to the first reading's refusals, and else 1.
@@ -43,12 +43,16 @@ fn compare_by(
     reply: &mut [u8],
     first_room: &mut [u32],
     second_room: &mut [u32],
-    rows: &mut [u32],
+    findings: &mut [u32],
 ) -> u32
-    requires { ⌜ (length (now reply) ≡ replySize) × (length (now rows) ≡ min (length (now report) / numberSize) (reportWidth * maxSlots)) ⌝ }
-    requires { ⌜ (length (now «first_slots») ≡ length (now «first_room») * numberSize) × (length (now «first_room») % slotWidth ≡ 0) ⌝ }
-    requires { ⌜ (length (now «second_slots») ≡ length (now «second_room») * numberSize) × (length (now «second_room») % slotWidth ≡ 0) ⌝ }
-    ensures { λ r. ⌜ CompareServed layout first second «first_slots» «first_area» «second_slots» «second_area» report reply r ⌝ }
+    requires { ⌜ (length (now reply) ≡ replySize)
+        × (length (now findings) ≡ min (length (now report) / numberSize) (reportWidth * maxSlots)) ⌝ }
+    requires { ⌜ (length (now «first_slots») ≡ length (now «first_room») * numberSize)
+        × (length (now «first_room») % slotWidth ≡ 0) ⌝ }
+    requires { ⌜ (length (now «second_slots») ≡ length (now «second_room») * numberSize)
+        × (length (now «second_room») % slotWidth ≡ 0) ⌝ }
+    ensures { λ r. ⌜ CompareServed layout first second «first_slots» «first_area» «second_slots» «second_area» report
+        reply r ⌝ }
 {
     host::numbers::decode(first_slots, first_room);
     host::numbers::decode(second_slots, second_room);
@@ -60,7 +64,7 @@ fn compare_by(
         first_area,
         second_room,
         second_area,
-        rows,
+        findings,
     );
     report::write_back(
         first_slots,
@@ -69,12 +73,13 @@ fn compare_by(
         reply,
         first_room,
         second_room,
-        rows,
+        findings,
         a,
     )
 }
 
-// Reads two copies of a record by their layout, each into its own table and area, and says for each value field what differs.
+// Reads two copies of a record by their layout, each into its own table and area, and says for each value field what
+// differs.
 pub fn compare(
     layout: &[u8],
     first: &[u8],
@@ -86,7 +91,8 @@ pub fn compare(
     report: &mut [u8],
     reply: &mut [u8],
 ) -> u32
-    ensures { λ r. ⌜ HostCompares layout first second «first_slots» «first_area» «second_slots» «second_area» report reply r ⌝ }
+    ensures { λ r. ⌜ HostCompares layout first second «first_slots» «first_area» «second_slots» «second_area» report
+        reply r ⌝ }
 {
     if !host::reply_fits(reply.len()) {
         return 1;
@@ -102,7 +108,7 @@ pub fn compare(
     let m = second_slots.len() / host::numbers::NUMBER_SIZE;
     let mut second_room: [u32; record::MAX_NUMBERS] = [0; record::MAX_NUMBERS];
     let k = record::least(report.len() / host::numbers::NUMBER_SIZE, MAX_REPORT);
-    let mut rows: [u32; MAX_REPORT] = [0; MAX_REPORT];
+    let mut findings: [u32; MAX_REPORT] = [0; MAX_REPORT];
     compare_by(
         layout,
         first,
@@ -115,6 +121,6 @@ pub fn compare(
         reply,
         &mut first_room[..n],
         &mut second_room[..m],
-        &mut rows[..k],
+        &mut findings[..k],
     )
 }

@@ -1,8 +1,6 @@
--- What the call that describes a layout means for a C host.
-pub mod layouts
--- What the call that lists a layout's fields means for a C host.
-pub mod rows
--- What the call on Perl templates means for a C host.
-pub mod templates
--- What the two calls about promises mean for a C host.
-pub mod theorems
+-- What the calls on layouts mean for a C host: a layout described, its fields, which theorems cover it, a Perl template
+-- as a layout.
+pub mod Layouts
+pub mod Fields
+pub mod Theorems
+pub mod Templates

@@ -1,5 +1,5 @@
 // Layouts described for a C host.
-ghost use Rattle.host_layout.specs.layouts.{HostDescribes};
+ghost use Rattle.host_layout.specs.Layouts.{HostDescribes};
 
 // Says how many slots a layout takes and how long its shortest record is.
 pub fn describe(layout: &[u8], reply: &mut [u8]) -> u32

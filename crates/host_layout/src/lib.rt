@@ -1,10 +1,10 @@
-// What a layout says of itself, for a C host.
+// The calls on layouts for a C host.
 
-// Layouts described.
+// A layout described: its slots and its shortest record.
 pub mod layouts;
-// A layout's fields.
+// The fields of a layout, a row each.
 pub mod rows;
-// Perl templates.
-pub mod templates;
-// Which theorems cover a layout.
+// Which theorems cover a layout, and whether one layout is another with fields added.
 pub mod theorems;
+// A Perl template as a layout.
+pub mod templates;

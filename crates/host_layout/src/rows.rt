@@ -1,5 +1,5 @@
 // The fields of a layout for a C host.
-ghost use Rattle.host_layout.specs.rows.{HostLists};
+ghost use Rattle.host_layout.specs.Fields.{HostLists};
 use describe::fields;
 
 // Writes a row of eight numbers for each field of a layout.

@@ -1,5 +1,5 @@
 // Perl templates for a C host.
-ghost use Rattle.host_layout.specs.templates.{HostConverts};
+ghost use Rattle.host_layout.specs.Templates.{HostConverts};
 
 // Writes the layout that a Perl template stands for.
 pub fn from_perl(template: &[u8], layout: &mut [u8], reply: &mut [u8]) -> u32

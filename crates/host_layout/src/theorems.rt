@@ -1,5 +1,5 @@
 // What a layout promises, asked by a C host; and whether one layout is another with fields added.
-ghost use Rattle.host_layout.specs.theorems.{Tells, HostPromises, HostExtends};
+ghost use Rattle.host_layout.specs.Theorems.{Tells, HostPromises, HostExtends};
 use promises::Told;
 
 // Writes four numbers into the reply, and hands back the first; a reply of another size stays as it is.

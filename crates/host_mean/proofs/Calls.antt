@@ -18,18 +18,18 @@ use Rattle.record.proofs.NumberLaws.{length-numberBytes}
 use Rattle.record.proofs.Stores.{store-next, store-whole}
 use Rattle.mean.specs.declared.marks.LegMean.the-variants.{Unmarked}
 use Rattle.mean.specs.declared.marks.Marks.{Marks}
-use Rattle.mean.specs.marks.Mean.{legs, marksEffect, mean}
-use Rattle.host.specs.numbers.Numbers.{numberSize, numbersIn, bytesOf}
+use Rattle.mean.specs.Mean.{legs, marksEffect, mean}
+use Rattle.host.specs.Numbers.{numberSize, numbersIn, numbersBytes}
 use Rattle.host.proofs.numbers.NumberLaws.{length-bytesOf}
-use Rattle.host.specs.Host.{slotsFit}
+use Rattle.host.specs.inside.Small.{slotBytesFit}
 use Rattle.host.proofs.Guards.{Fit, guarded-unwritten, guarded-refused, guarded-served}
 use Rattle.host_mean.specs.Calls.{meanReplySize, meanReply, meanCall, curlewMean}
 
 -- the numbers and then the pattern fill the reply
 pub reply-filled : (d : List ℕ) (a b c f p : ℕ) → length d ≡ meanReplySize
-    → storeAt (storeAt d 0 (bytesOf (a ∷ b ∷ c ∷ f ∷ []))) (numberSize * 4) (numberBytes integerSize p) ≡ bytesOf (a ∷ b ∷ c ∷ f ∷ []) ++ numberBytes integerSize p
+    → storeAt (storeAt d 0 (numbersBytes (a ∷ b ∷ c ∷ f ∷ []))) (numberSize * 4) (numberBytes integerSize p) ≡ numbersBytes (a ∷ b ∷ c ∷ f ∷ []) ++ numberBytes integerSize p
 reply-filled d a b c f p e =
-    let s : List ℕ = bytesOf (a ∷ b ∷ c ∷ f ∷ []) in
+    let s : List ℕ = numbersBytes (a ∷ b ∷ c ∷ f ∷ []) in
     let t : List ℕ = numberBytes integerSize p in
     let ls : length s ≡ numberSize * 4 = length-bytesOf (a ∷ b ∷ c ∷ f ∷ []) in
     let lt : length t ≡ integerSize = length-numberBytes integerSize p in
@@ -56,7 +56,7 @@ module _ (slots area : List ℕ) where
     mean-unwritten h = guarded-unwritten meanReplySize reply slots _ _ _ h
 
     module _ (sized : eqb (length reply) meanReplySize ≡ true) where
-      pub mean-refused : {a : Answer} {r : ℕ} {reply′ : List ℕ} → slotsFit (length slots) ≡ false → a ≡ refusal BadSize 0
+      pub mean-refused : {a : Answer} {r : ℕ} {reply′ : List ℕ} → slotBytesFit (length slots) ≡ false → a ≡ refusal BadSize 0
           → (r ≡ a .number) × (reply′ ≡ meanReply (record { answer = a; mean = Unmarked })) → record { returned = r; reply = reply′ } ≡ curlewMean slots area reply
       unfolding curlewMean meanCall
       mean-refused {a} {r} {reply′} bad e q =

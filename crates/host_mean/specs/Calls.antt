@@ -1,4 +1,5 @@
--- The mean of the marked legs for a C host (02, M-104; 01, Slot tables). THE EFFECT OF A CALL is `curlewMean`, at the end.
+-- The mean of the marked legs for a C host (02, M-104; 01, Slot tables). THE EFFECT OF A CALL is `curlewMean`, at the
+-- end.
 use Prim.Native.Nat.{ℕ, _+_, _*_}
 use mathlib.Core.Path.{_≡_}
 use mathlib.Core.List.{List, [], _∷_, _++_}
@@ -12,8 +13,8 @@ use Rattle.record.specs.Packing.{refusal}
 use Rattle.mean.specs.declared.marks.LegMean.{LegMean}
 use Rattle.mean.specs.declared.marks.LegMean.the-variants.{Unmarked, Of}
 use Rattle.mean.specs.declared.marks.Marks.{Marks}
-use Rattle.mean.specs.marks.Mean.{mean}
-use Rattle.host.specs.numbers.Numbers.{numberSize, numbersIn, bytesOf}
+use Rattle.mean.specs.Mean.{mean}
+use Rattle.host.specs.Numbers.{numberSize, numbersIn, numbersBytes}
 use Rattle.host.specs.Host.{guarded}
 
 -- ---- the reply
@@ -31,8 +32,10 @@ pattern (Of x) = toBits binary64 x
 
 -- the answer's three numbers, whether a mean follows, and the bytes of its pattern
 unfoldable pub meanReply : Marks → List ℕ
-unfolding bytesOf numberBytes pattern
-meanReply r = bytesOf (r .answer .number ∷ r .answer .first ∷ r .answer .second ∷ follows (r .mean) ∷ []) ++ numberBytes integerSize (pattern (r .mean))
+unfolding numbersBytes numberBytes pattern
+meanReply r =
+    numbersBytes (r .answer .number ∷ r .answer .first ∷ r .answer .second ∷ follows (r .mean) ∷ [])
+    ++ numberBytes integerSize (pattern (r .mean))
 
 abbrev pub meanReplySize : ℕ
 meanReplySize = numberSize * 4 + integerSize
@@ -57,9 +60,11 @@ curlewMean slots area reply =
     (meanCall (record { answer = refusal BadSize 0; mean = Unmarked }))
     (meanCall (mean (numbersIn slots) area))
 
--- what a call promises that returned r; and the same where the reply is written and the slots are whole
+-- what a call promises that returned r; and what it promises where the reply is written and the slots are whole
 abbrev pub HostMeans : Lent → Lent → Lent → ℕ → Type 0
-HostMeans slots area reply r = record { returned = r; reply = after reply } ≡ curlewMean (before slots) (before area) (before reply)
+HostMeans slots area reply r =
+    record { returned = r; reply = after reply } ≡ curlewMean (before slots) (before area) (before reply)
 
 abbrev pub MeanServed : Lent → Lent → Lent → ℕ → Type 0
-MeanServed slots area reply r = record { returned = r; reply = after reply } ≡ meanCall (mean (numbersIn (before slots)) (before area))
+MeanServed slots area reply r =
+    record { returned = r; reply = after reply } ≡ meanCall (mean (numbersIn (before slots)) (before area))

@@ -1,2 +1,2 @@
--- What the mean for a C host means.
+-- What the mean means for a C host.
 pub mod Calls

@@ -3,9 +3,10 @@ ghost use mathlib.Core.Path.{_≡_};
 ghost use Prim.Native.Nat.{_*_, _%_};
 ghost use lib.Dec.{eqb};
 ghost use lib.ListN.{length};
+ghost use Rattle.layout.specs.Lent.{after};
 ghost use Rattle.record.specs.Table.{slotWidth};
-ghost use Rattle.host.specs.numbers.Numbers.{numberSize};
-ghost use Rattle.mean.specs.marks.Claims.{Numeric};
+ghost use Rattle.host.specs.Numbers.{numberSize};
+ghost use Rattle.mean.specs.Claims.{Numeric};
 ghost use Rattle.host_mean.specs.Calls.{meanReplySize, follows, pattern, meanReply, MeanServed, HostMeans};
 use byte_runs::big_endian;
 use layout::Refusal;
@@ -16,13 +17,13 @@ use record::Answer;
 // Where the pattern stands in the reply, and the reply's bytes.
 const PATTERN_AT: usize = host::numbers::NUMBER_SIZE * 4;
 
-const REPLY_SIZE: usize = PATTERN_AT + record::INTEGER_SIZE;
+const MEAN_REPLY_SIZE: usize = PATTERN_AT + record::INTEGER_SIZE;
 
-// Whether a reply of so many bytes is one of the mean.
+// Whether a reply of `size` bytes is one of the mean.
 fn reply_fits(size: usize) -> bool
     ensures { λ r. ⌜ r ≡ eqb size meanReplySize ⌝ }
 {
-    size == REPLY_SIZE
+    size == MEAN_REPLY_SIZE
 }
 
 // 1 where a mean follows, 0 where no leg is marked.
@@ -49,7 +50,7 @@ fn pattern(m: LegMean) -> u64
 // Writes an answer and its mean into the reply, and hands back the answer's number.
 fn reply_with(reply: &mut [u8], r: Marks) -> u32
     requires { ⌜ (length (now reply) ≡ meanReplySize) × Numeric (r .mean) ⌝ }
-    ensures { λ x. ⌜ (x ≡ r .answer .number) × (now (reply .exit) ≡ meanReply r) ⌝ }
+    ensures { λ x. ⌜ (x ≡ r .answer .number) × (after reply ≡ meanReply r) ⌝ }
 {
     let a = r.answer;
     let m = r.mean;
@@ -61,7 +62,8 @@ fn reply_with(reply: &mut [u8], r: Marks) -> u32
 
 // The mean, with room lent for the slots' numbers.
 fn mean_by(slots: &[u8], area: &[u8], reply: &mut [u8], room: &mut [u32]) -> u32
-    requires { ⌜ (length (now reply) ≡ meanReplySize) × (length (now slots) ≡ length (now room) * numberSize) × (length (now room) % slotWidth ≡ 0) ⌝ }
+    requires { ⌜ (length (now reply) ≡ meanReplySize) × (length (now slots) ≡ length (now room) * numberSize)
+        × (length (now room) % slotWidth ≡ 0) ⌝ }
     ensures { λ r. ⌜ MeanServed slots area reply r ⌝ }
 {
     host::numbers::decode(slots, room);

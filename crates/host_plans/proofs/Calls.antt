@@ -8,7 +8,7 @@ use mathlib.Core.List.{List}
 use lib.Dec.{eqb}
 use lib.ListN.{length}
 use Rattle.layout.specs.declared.Refusal.{Refusal}
-use Rattle.layout.specs.declared.Refusal.the-variants.{BadSize, WrongSlots}
+use Rattle.layout.specs.declared.Refusal.the-variants.{BadSize, BadSlots}
 use Rattle.layout.specs.declared.Parsed.{Parsed}
 use Rattle.layout.specs.declared.Parsed.the-variants.{Fields, Refused}
 use Rattle.layout.specs.Refusals.{numberOf}
@@ -23,24 +23,26 @@ use Rattle.record.specs.Packing.{Packed, refusal}
 use Rattle.record.specs.Reading.{ReadAll}
 use Rattle.record.proofs.Bytes.{All}
 use Rattle.record.proofs.Sizes.{Sized, sized, too-many}
-use Rattle.pack_check.specs.measuring.{Prepared}
-use Rattle.packer.specs.passes.{finishes}
+use Rattle.pack_check.specs.inside.measuring.{Prepared}
+use Rattle.packer.specs.inside.passes.{finishes}
 use Rattle.packer.proofs.WholeLaws as whole
-use Rattle.reader.specs.checking.Sizes.{lentFits}
+use Rattle.reader.specs.inside.Sizes.{readLentFits}
 use Rattle.reader.proofs.checking.Calls.{Fit as Lent, fit as lent, sizes-refuse-fields, fields-refuse}
-use Rattle.reader.specs.passes.{Ready, readWords}
-use Rattle.reader.proofs.passes.Whole as words
-use Rattle.host.specs.numbers.Numbers.{numberSize, numbersIn}
+use Rattle.reader.specs.inside.passes.{ReadReady, readCodes}
+use Rattle.reader.proofs.passes.Whole as codes
+use Rattle.host.specs.Numbers.{numberSize, numbersIn}
 use Rattle.host.proofs.numbers.NumberLaws.{length-numbersIn}
-use Rattle.host.specs.Host.{replySize, longReplySize, replyOf, longReply, packCall, readCall, slotsFit}
+use Rattle.host.specs.Host.{replySize, longReplySize, replyOf, longReply, packCall, readCall}
+use Rattle.host.specs.inside.Small.{slotBytesFit}
 use Rattle.host.proofs.Guards.{Fit, guarded-unwritten, guarded-refused, guarded-served}
 use Rattle.host.proofs.Calls as host
-use Rattle.host_record.specs.read.Calls.{stepsCall, writtenBack}
+use Rattle.host_record.specs.Reading.{stepsCall}
+use Rattle.host_record.specs.inside.Steps.{writtenBack}
 use Rattle.host_record.proofs.read.Calls.{fields-many, fields-room, fields-replied}
 use Rattle.plans.specs.Plans.{planFields, prepare, packPlan, readPlan}
-use Rattle.plans.proofs.Calls.{plan-inside, plan-sizes, plan-refused, plan-words}
+use Rattle.plans.proofs.Calls.{plan-inside, plan-sizes, plan-refused, plan-codes}
 use Rattle.host_plans.specs.Calls.{curlewPrepare, curlewPackPlan, curlewReadPlan}
-use Rattle.host_plans.specs.Steps.{PackJudged, Packable, ReadJudged, Readable}
+use Rattle.host_plans.specs.inside.Steps.{PackJudged, Packable, ReadJudged, PlanReady}
 
 -- ---- a layout prepared
 
@@ -68,7 +70,7 @@ module _ (plan slots area out : List ℕ) where
     pack-unwritten h = guarded-unwritten replySize reply slots _ _ _ h
 
     module _ (sized : eqb (length reply) replySize ≡ true) where
-      pub pack-refused : {a : Answer} {r : ℕ} {reply′ : List ℕ} → slotsFit (length slots) ≡ false → a ≡ refusal BadSize 0 → (r ≡ a .number) × (reply′ ≡ replyOf a)
+      pub pack-refused : {a : Answer} {r : ℕ} {reply′ : List ℕ} → slotBytesFit (length slots) ≡ false → a ≡ refusal BadSize 0 → (r ≡ a .number) × (reply′ ≡ replyOf a)
           → record { returned = r; output = out; reply = reply′ } ≡ curlewPackPlan plan slots area out reply
       unfolding curlewPackPlan packCall
       pack-refused {a} {r} {reply′} bad e q =
@@ -108,7 +110,7 @@ module _ {p : Parsed} {plan slots area out : List ℕ} (j : PackJudged p plan sl
     learnt : Learnt (planFields true plan) n needed plan
     learnt = parsed-fields (planFields true plan) p n needed plan (j .parsed) e
 
-    pub pack-slots : {a : Answer} → (length slots / numberSize / slotWidth ≡ needed → ⊥) → a ≡ refusal WrongSlots 0 → record { answer = a; output = out } ≡ packPlan plan (numbersIn slots) area out
+    pub pack-slots : {a : Answer} → (length slots / numberSize / slotWidth ≡ needed → ⊥) → a ≡ refusal BadSlots 0 → record { answer = a; output = out } ≡ packPlan plan (numbersIn slots) area out
     unfolding packPlan
     pack-slots h q =
         rw q
@@ -181,7 +183,7 @@ module _ (plan bytes slots area : List ℕ) (mark : ℕ) where
       unfolding readPlan
       many h = fields-many (length plan) (planFields false plan) (numbersIn slots) bytes area h mark
 
-      pub read-refused : {a : Answer} {r : ℕ} {reply′ : List ℕ} → slotsFit (length slots) ≡ false → a ≡ refusal BadSize 0 → (r ≡ a .number) × (reply′ ≡ longReply a 0)
+      pub read-refused : {a : Answer} {r : ℕ} {reply′ : List ℕ} → slotBytesFit (length slots) ≡ false → a ≡ refusal BadSize 0 → (r ≡ a .number) × (reply′ ≡ longReply a 0)
           → record { returned = r; slots = slots; area = area; reply = reply′ } ≡ curlewReadPlan plan bytes slots area mark reply
       unfolding curlewReadPlan stepsCall readCall
       read-refused {a} {r} {reply′} bad e q =
@@ -195,10 +197,10 @@ module _ (plan bytes slots area : List ℕ) (mark : ℕ) where
       read-served f e = e ∙ guarded-served longReplySize reply slots _ _ _ sized f
 
       -- sizes that do not fit
-      pub read-unfit : {a : Answer} {r : ℕ} {reply′ : List ℕ} → Fit (length slots) → lentFits (length plan) (length slots / numberSize) (length bytes) (length area) mark ≡ false → a ≡ refusal BadSize 0
+      pub read-unfit : {a : Answer} {r : ℕ} {reply′ : List ℕ} → Fit (length slots) → readLentFits (length plan) (length slots / numberSize) (length bytes) (length area) mark ≡ false → a ≡ refusal BadSize 0
           → (r ≡ a .number) × (reply′ ≡ longReply a 0) → record { returned = r; slots = slots; area = area; reply = reply′ } ≡ curlewReadPlan plan bytes slots area mark reply
       read-unfit {a} {r} {reply′} f bad e q =
-          let unfit : lentFits (length plan) (length (numbersIn slots)) (length bytes) (length area) mark ≡ false = rw length-numbersIn bad in
+          let unfit : readLentFits (length plan) (length (numbersIn slots)) (length bytes) (length area) mark ≡ false = rw length-numbersIn bad in
           let left : record { answer = record { answer = a; steps = 0 }; slots = numbersIn slots; area = area } ≡ readPlan plan bytes (numbersIn slots) area mark =
           plan-refused plan bytes (numbersIn slots) area mark (sizes-refuse-fields (length plan) (planFields false plan) bytes (numbersIn slots) area mark unfit) e in
           read-served f (left-refused slots area BadSize 0 e q ∙ ap (stepsCall slots) left)
@@ -219,13 +221,13 @@ module _ {p : Parsed} {plan bytes slots area : List ℕ} {mark : ℕ} {reply : L
       (fields-refuse (length plan) (planFields false plan) bytes (numbersIn slots) area mark sizes (parsed-refused (planFields false plan) p why place plan (j .parsed) e)) h in
       left-refused slots area why place h q ∙ ap (stepsCall slots) left
 
-  pub readable : {n taken : ℕ} → p ≡ Fields n taken → Readable n taken plan bytes slots area mark reply
+  pub readable : {n taken : ℕ} → p ≡ Fields n taken → PlanReady n taken plan bytes slots area mark reply
   readable {n} {taken} e =
       let l : Learnt (planFields false plan) n taken plan = parsed-fields (planFields false plan) p n taken plan (j .parsed) e in
       record { sized = j .sized; whole = j .whole; fine = j .fine; fields = l .fields; count = l .taken; few = l .few }
 
 -- with room for the slots' numbers, whatever it holds
-module _ {n taken : ℕ} {plan bytes slots area : List ℕ} {mark : ℕ} {reply : List ℕ} (k : Readable n taken plan bytes slots area mark reply) where
+module _ {n taken : ℕ} {plan bytes slots area : List ℕ} {mark : ℕ} {reply : List ℕ} (k : PlanReady n taken plan bytes slots area mark reply) where
   room-fit : Lent (length plan) (length slots / numberSize) (length bytes) (length area) mark
   room-fit = lent (k .fine)
 
@@ -245,8 +247,8 @@ module _ {n taken : ℕ} {plan bytes slots area : List ℕ} {mark : ℕ} {reply 
     here : Lent (length plan) (length ns) (length bytes) (length area) mark
     here = let e : length slots / numberSize ≡ length ns = omega arith in rw e at room-fit
 
-    pub room-ready : Ready n taken plan bytes ns area mark
-    room-ready = words.ready (length plan) (planFields false plan) bytes ns area mark here learnt-by
+    pub room-ready : ReadReady n taken plan bytes ns area mark
+    room-ready = codes.ready (length plan) (planFields false plan) bytes ns area mark here learnt-by
 
-    pub room-read : {x : ReadAll} → x ≡ readWords n taken plan bytes ns area mark → x ≡ readPlan plan bytes ns area mark
-    room-read q = plan-words plan bytes ns area mark here learnt-by q
+    pub room-read : {x : ReadAll} → x ≡ readCodes n taken plan bytes ns area mark → x ≡ readPlan plan bytes ns area mark
+    room-read q = plan-codes plan bytes ns area mark here learnt-by q

@@ -1,3 +1,3 @@
--- What plans mean for a C host. Steps is what the functions inside the calls rely on.
+-- What the calls by plans mean for a C host.
 pub mod Calls
-pub mod Steps
+pub mod inside

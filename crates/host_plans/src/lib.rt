@@ -1,12 +1,12 @@
-// Layouts prepared once, for a C host. A plan is a run of numbers of 32 bits that the host owns. Few slots get a small array: clearing the large one
-// costs more than a small record. (The passes are called from here, and not by way of `plans::pack` and `plans::read`: a call that hands on as many runs
-// costs more than the checks of a small plan.)
+// Layouts prepared once, for a C host. A plan is a run of numbers of 32 bits that the host owns. Few slots get a small
+// array: clearing the large one costs more than a small record. (The passes are called from here, and not by way of
+// `plans::pack` and `plans::read`: a call that hands on as many runs costs more than the checks of a small plan.)
 ghost use mathlib.Core.Path.{_≡_};
 ghost use Prim.Native.Nat.{_*_};
 ghost use lib.ListN.{length};
-ghost use Rattle.host.specs.numbers.Numbers.{numberSize};
+ghost use Rattle.host.specs.Numbers.{numberSize};
 ghost use Rattle.host_plans.specs.Calls.{HostPrepares, HostPacksPlan, HostReadsPlan};
-ghost use Rattle.host_plans.specs.Steps.{RoomFor, Packable, Packs, PackJudged, PacksByPlan, Readable, ReadJudged, ReadsByPlan};
+ghost use Rattle.host_plans.specs.inside.Steps.{RoomFor, Packable, PlanPacks, PackJudged, PacksByPlan, PlanReady, ReadJudged, ReadsByPlan};
 use layout::Parsed;
 use layout::Refusal;
 use reader::checking;
@@ -24,8 +24,8 @@ pub fn prepare(layout: &[u8], plan: &mut [u32], reply: &mut [u8]) -> u32
     host::reply_with(reply, a)
 }
 
-// Packs by the n fields of a plan, with room lent for the slots' numbers: for few slots, and for more. (Each has one caller, so that the compiler builds it
-// in there.)
+// Packs by the n fields of a plan, with room lent for the slots' numbers: for few slots, and for more. (Each has one
+// caller, so that the compiler builds it in there.)
 fn pack_few(
     plan: &[u32],
     n: usize,
@@ -35,7 +35,7 @@ fn pack_few(
     room: &mut [u32],
 ) -> Answer
     requires { ⌜ Packable n (now plan) (now slots) (now out) × RoomFor (now slots) (now room) ⌝ }
-    ensures { λ a. ⌜ Packs n plan slots area out a ⌝ }
+    ensures { λ a. ⌜ PlanPacks n plan slots area out a ⌝ }
 {
     host::numbers::decode(slots, room);
     packer::passes::pack(plan, n, room, area, out)
@@ -50,7 +50,7 @@ fn pack_many(
     room: &mut [u32],
 ) -> Answer
     requires { ⌜ Packable n (now plan) (now slots) (now out) × RoomFor (now slots) (now room) ⌝ }
-    ensures { λ a. ⌜ Packs n plan slots area out a ⌝ }
+    ensures { λ a. ⌜ PlanPacks n plan slots area out a ⌝ }
 {
     host::numbers::decode(slots, room);
     packer::passes::pack(plan, n, room, area, out)
@@ -66,7 +66,7 @@ fn packed(p: Parsed, plan: &[u32], slots: &[u8], area: &[u8], out: &mut [u8]) ->
         Parsed::Fields(n, needed) => {
             let k = slots.len() / host::numbers::NUMBER_SIZE;
             if k / record::SLOT_WIDTH != needed {
-                return Answer::refused(Refusal::WrongSlots, 0);
+                return Answer::refused(Refusal::BadSlots, 0);
             }
             if k <= host::FEW_NUMBERS {
                 let mut room: [u32; host::FEW_NUMBERS] = [0; host::FEW_NUMBERS];
@@ -97,8 +97,9 @@ pub fn pack(plan: &[u32], slots: &[u8], area: &[u8], out: &mut [u8], reply: &mut
     host::reply_with(reply, a)
 }
 
-// Reads by the n fields of a plan, of which so many take a slot, with room lent for the slots' numbers: what stands there does not count. For few slots,
-// and for more. (The test of `reader::passes::read` stands in the first too: the fields are then written by a call from there, where it costs least.)
+// Reads by the n fields of a plan, of which `taken` take a slot, with room lent for the slots' numbers: what stands
+// there does not count. For few slots, and for more. (The test of `reader::passes::read` stands in the first too: the
+// fields are then written by a call from there, where it costs least.)
 fn read_few(
     plan: &[u32],
     n: usize,
@@ -110,7 +111,8 @@ fn read_few(
     reply: &mut [u8],
     room: &mut [u32],
 ) -> u32
-    requires { ⌜ Readable n taken (now plan) (now bytes) (now slots) (now area) mark (now reply) × (length (now slots) ≡ length (now room) * numberSize) ⌝ }
+    requires { ⌜ PlanReady n taken (now plan) (now bytes) (now slots) (now area) mark (now reply)
+        × (length (now slots) ≡ length (now room) * numberSize) ⌝ }
     ensures { λ r. ⌜ ReadsByPlan plan bytes slots area mark reply r ⌝ }
 {
     if checking::surely_fits(n, taken, bytes.len(), room.len(), area.len() - mark) {
@@ -132,7 +134,8 @@ fn read_many(
     reply: &mut [u8],
     room: &mut [u32],
 ) -> u32
-    requires { ⌜ Readable n taken (now plan) (now bytes) (now slots) (now area) mark (now reply) × (length (now slots) ≡ length (now room) * numberSize) ⌝ }
+    requires { ⌜ PlanReady n taken (now plan) (now bytes) (now slots) (now area) mark (now reply)
+        × (length (now slots) ≡ length (now room) * numberSize) ⌝ }
     ensures { λ r. ⌜ ReadsByPlan plan bytes slots area mark reply r ⌝ }
 {
     let r = reader::passes::read(plan, n, taken, bytes, room, area, mark);

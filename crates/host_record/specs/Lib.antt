@@ -1,3 +1,5 @@
--- What packing for a C host means.
-pub mod pack
-pub mod read
+-- What packing and reading mean for a C host, and what a reading claims besides.
+pub mod Packing
+pub mod Reading
+pub mod Claims
+pub mod inside

@@ -1,6 +1,4 @@
-// Packing and reading for a C host.
+// Packing and reading for a C host: `pack::pack` and `read::read`.
 
-// Packing.
 pub mod pack;
-// Reading.
 pub mod read;

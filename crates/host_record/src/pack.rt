@@ -1,5 +1,7 @@
-// Packing for a C host. A short layout and few slots get small arrays: clearing the large ones costs more than a small record.
-ghost use Rattle.host_record.specs.pack.{RoomFor, Packs, HostPacks};
+// Packing for a C host. A short layout and few slots get small arrays: clearing the large ones costs more than a small
+// record.
+ghost use Rattle.host_record.specs.Packing.{HostPacks};
+ghost use Rattle.host_record.specs.inside.Steps.{RoomFor, Packs};
 use layout::Refusal;
 use record::Answer;
 
@@ -12,7 +14,7 @@ fn pack_short(layout: &[u8], slots: &[u8], area: &[u8], out: &mut [u8], room: &m
     packer::pack_short(layout, room, area, out)
 }
 
-// The same, as quick by any layout.
+// Packs, as quick by any layout, with room lent for the slots' numbers.
 fn pack_long(layout: &[u8], slots: &[u8], area: &[u8], out: &mut [u8], room: &mut [u32]) -> Answer
     requires { ⌜ RoomFor (now slots) (now room) ⌝ }
     ensures { λ a. ⌜ Packs layout slots area out a ⌝ }

@@ -1,21 +1,25 @@
-// Reading for a C host. A short layout and few slots get small arrays: clearing the large ones costs more than a small record.
+// Reading for a C host. A short layout and few slots get small arrays: clearing the large ones costs more than a small
+// record.
 ghost use mathlib.Core.Path.{_≡_};
 ghost use Prim.Native.Nat.{_*_, _≤_};
 ghost use lib.ListN.{length};
+ghost use Rattle.layout.specs.Lent.{before, after};
 ghost use Rattle.record.specs.Table.{slotWidth};
-ghost use Rattle.host.specs.numbers.Numbers.{numberSize};
+ghost use Rattle.host.specs.Numbers.{numberSize};
 ghost use Rattle.host.specs.Host.{longReplySize, longReply};
-ghost use Rattle.host_record.specs.read.Calls.{writtenBack, Reads, HostReads};
+ghost use Rattle.host_record.specs.Reading.{HostReads};
+ghost use Rattle.host_record.specs.inside.Steps.{writtenBack, Reads};
 use layout::Refusal;
 use record::Answer;
 use record::ReadAnswer;
 
-// Writes a reading's answer into the reply, and back into the slots those that an accepted reading set; the rest stays as lent.
+// Writes a reading's answer into the reply, and back into the slots those that an accepted reading set; the rest stays
+// as lent.
 pub fn read_back(slots: &mut [u8], reply: &mut [u8], room: &[u32], r: ReadAnswer) -> u32
     requires { ⌜ (length (now reply) ≡ longReplySize) × (length (now slots) ≡ length (now room) * numberSize)
         × (r .answer .number ≡ 0 → r .answer .first * slotWidth ≤ length (now room)) ⌝ }
-    ensures { λ n. ⌜ (n ≡ r .answer .number) × (now (reply .exit) ≡ longReply (r .answer) (r .steps))
-        × (now (slots .exit) ≡ writtenBack (now (slots .entry)) (now (room .entry)) (r .answer)) ⌝ }
+    ensures { λ n. ⌜ (n ≡ r .answer .number) × (after reply ≡ longReply (r .answer) (r .steps))
+        × (after slots ≡ writtenBack (before slots) (before room) (r .answer)) ⌝ }
 {
     let a = r.answer;
     if a.number != 0 {
@@ -42,7 +46,7 @@ fn read_short(
     read_back(slots, reply, room, r)
 }
 
-// The same, as quick by any layout.
+// Reads, as quick by any layout, with room lent for the slots' numbers: what stands there does not count.
 fn read_long(
     layout: &[u8],
     bytes: &[u8],

@@ -1,6 +1,4 @@
--- What writing sheets for a C host means.
-pub mod write
--- What reading sheets for a C host means.
-pub mod read
--- What rescuing a sheet for a C host means.
-pub mod damaged
+-- What the calls on sheets mean for a C host.
+pub mod Writing
+pub mod Reading
+pub mod Rescuing

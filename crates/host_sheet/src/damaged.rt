@@ -3,32 +3,34 @@ ghost use mathlib.Core.Path.{_≡_};
 ghost use Prim.Native.Nat.{_*_};
 ghost use lib.Dec.{eqb};
 ghost use lib.ListN.{length};
-ghost use Rattle.host.specs.numbers.Numbers.{numberSize};
-ghost use Rattle.host_sheet.specs.damaged.{rescueReplySize, rescueReply, RescueServed, HostRescues};
+ghost use Rattle.layout.specs.Lent.{after};
+ghost use Rattle.host.specs.Numbers.{numberSize};
+ghost use Rattle.host_sheet.specs.Rescuing.{rescueReplySize, rescueReply, RescueServed, HostRescues};
 use layout::Refusal;
 use rescue::fill::Rescued;
 
 // The bytes of a reply of four numbers.
-const REPLY_SIZE: usize = host::numbers::NUMBER_SIZE * 4;
+const RESCUE_REPLY_SIZE: usize = host::numbers::NUMBER_SIZE * 4;
 
-// Whether a reply of so many bytes is one of a rescue.
+// Whether a reply of `size` bytes is one of a rescue.
 fn reply_fits(size: usize) -> bool
     ensures { λ r. ⌜ r ≡ eqb size rescueReplySize ⌝ }
 {
-    size == REPLY_SIZE
+    size == RESCUE_REPLY_SIZE
 }
 
 // Writes an answer into the reply, and hands back its number.
 fn reply_with(reply: &mut [u8], a: Rescued) -> u32
     requires { ⌜ length (now reply) ≡ rescueReplySize ⌝ }
-    ensures { λ r. ⌜ (r ≡ a .number) × (now (reply .exit) ≡ rescueReply a) ⌝ }
+    ensures { λ r. ⌜ (r ≡ a .number) × (after reply ≡ rescueReply a) ⌝ }
 {
     let four: [u32; 4] = [a.number, a.first, a.second, a.third];
     host::numbers::encode_run(reply, &four, 0, 4);
     a.number
 }
 
-// Rescues, with room lent for the slots' numbers: what stands there does not count. Only the slots of the legs are written back.
+// Rescues, with room lent for the slots' numbers: what stands there does not count. Only the slots of the legs are
+// written back.
 fn rescue_by(
     sheet: &[u8],
     legs: usize,

@@ -1,8 +1,5 @@
-// Sheets for a C host.
+// Sheets for a C host: `write::write`, `read::read` and, for damaged ones, `damaged::rescue`.
 
-// Writing.
-pub mod write;
-// Reading.
-pub mod read;
-// Rescuing.
 pub mod damaged;
+pub mod read;
+pub mod write;

@@ -2,13 +2,14 @@
 ghost use mathlib.Core.Path.{_≡_};
 ghost use Prim.Native.Nat.{_*_};
 ghost use lib.ListN.{length};
-ghost use Rattle.host.specs.numbers.Numbers.{numberSize};
+ghost use Rattle.host.specs.Numbers.{numberSize};
 ghost use Rattle.host.specs.Host.{replySize};
-ghost use Rattle.host_sheet.specs.read.{ReadServed, HostReadsSheet};
+ghost use Rattle.host_sheet.specs.Reading.{ReadServed, HostReadsSheet};
 use layout::Refusal;
 use record::Answer;
 
-// Reads a sheet, with room lent for the slots' numbers: what stands there does not count. Only the slots that an accepted reading set are written back.
+// Reads a sheet, with room lent for the slots' numbers: what stands there does not count. Only the slots that an
+// accepted reading set are written back.
 fn read_by(
     sheet: &[u8],
     slots: &mut [u8],

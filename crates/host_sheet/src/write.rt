@@ -3,15 +3,16 @@ ghost use mathlib.Core.Path.{_≡_};
 ghost use Prim.Native.Nat.{_*_, _%_};
 ghost use lib.ListN.{length};
 ghost use Rattle.record.specs.Table.{slotWidth};
-ghost use Rattle.host.specs.numbers.Numbers.{numberSize};
+ghost use Rattle.host.specs.Numbers.{numberSize};
 ghost use Rattle.host.specs.Host.{replySize};
-ghost use Rattle.host_sheet.specs.write.{WriteServed, HostWritesSheet};
+ghost use Rattle.host_sheet.specs.Writing.{WriteServed, HostWritesSheet};
 use layout::Refusal;
 use record::Answer;
 
 // Writes a sheet, with room lent for the slots' numbers.
 fn write_by(slots: &[u8], area: &[u8], sheet: &mut [u8], reply: &mut [u8], room: &mut [u32]) -> u32
-    requires { ⌜ (length (now reply) ≡ replySize) × (length (now slots) ≡ length (now room) * numberSize) × (length (now room) % slotWidth ≡ 0) ⌝ }
+    requires { ⌜ (length (now reply) ≡ replySize) × (length (now slots) ≡ length (now room) * numberSize)
+        × (length (now room) % slotWidth ≡ 0) ⌝ }
     ensures { λ r. ⌜ WriteServed slots area sheet reply r ⌝ }
 {
     host::numbers::decode(slots, room);

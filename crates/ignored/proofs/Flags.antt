@@ -7,13 +7,13 @@ use mathlib.Core.List.{List, [], _∷_, map}
 use borrow.Author.Tests.{le-leb}
 use lib.Dec.{eqb, leb}
 use lib.ListN.{length, drop}
-use Rattle.layout.specs.declared.Code.{Code}
-use Rattle.layout.specs.declared.Code.the-variants.{Data, Move}
+use Rattle.layout.specs.declared.Role.{Role}
+use Rattle.layout.specs.declared.Role.the-variants.{Data, Move}
 use Rattle.layout.specs.declared.Shape.{Shape}
 use Rattle.layout.specs.declared.Shape.the-variants.{Text, Digits, Integers, Reals}
 use Rattle.layout.specs.declared.Count.{Count}
 use Rattle.layout.specs.declared.Field.{Field}
-use Rattle.layout.specs.declared.Refusal.the-variants.{BadSize, WrongSlots, NoRoom}
+use Rattle.layout.specs.declared.Refusal.the-variants.{BadSize, BadSlots, NoRoom}
 use Rattle.layout.specs.Refusals.{Result, ok, refused, _>>=_, demand}
 use Rattle.layout.specs.Layout.{maxLayout, fieldsOf, slotCount}
 use Rattle.record.specs.declared.slots.Slot.{Slot}
@@ -24,13 +24,13 @@ use Rattle.record.specs.Packing.{Run, start, argumentsFit, filled, packAll, pac
 use Rattle.record.specs.Reading.{loaded, valuesFrom, positionsFrom, stepsFrom, reads, read, readEffect, stepsOf, readSteps, ReadAll, readAll, withSteps}
 use Rattle.ignored.specs.Flags.{unflagged, PackIgnoresFlags, flagIn, flaggedIntegers, ReadIgnoresFlags}
 
-abbrev flag : Code → Bool → Count → Field
-flag k u n = record { code = k; unsigned = u; count = n }
+abbrev flag : Role → Bool → Count → Field
+flag k u n = record { role = k; unsigned = u; count = n }
 
 -- fields with another flag
 module _ (g : Field → Bool) where
   abbrev other : Field → Field
-  other f = flag (f .code) (g f) (f .count)
+  other f = flag (f .role) (g f) (f .count)
 
   count-other : (fs : List Field) → slotCount (map other fs) ≡ slotCount fs
   unfolding slotCount
@@ -42,7 +42,7 @@ module _ (g : Field → Bool) where
   module _ (area : List ℕ) where
     argument-other : (fs : List Field)
         → ((i : ℕ) (ts : List Slot) → argumentsFit area i ts (map other fs) ≡ argumentsFit area i ts fs)
-        → (i : ℕ) (ts : List Slot) (k : Code) (u v : Bool) (n : Count)
+        → (i : ℕ) (ts : List Slot) (k : Role) (u v : Bool) (n : Count)
         → argumentsFit area i ts (flag k v n ∷ map other fs) ≡ argumentsFit area i ts (flag k u n ∷ fs)
     unfolding argumentsFit
     argument-other fs ih i ts (Data s) u v n = rw (ih (suc i) (drop 1 ts))
@@ -53,11 +53,11 @@ module _ (g : Field → Bool) where
     unfolding argumentsFit
     arguments-other [] i ts = refl
     arguments-other (f ∷ fs) i ts =
-        argument-other fs (λ j us. arguments-other fs j us) i ts (f .code) (f .unsigned) (g f) (f .count)
+        argument-other fs (λ j us. arguments-other fs j us) i ts (f .role) (f .unsigned) (g f) (f .count)
 
     field-other : (fs : List Field)
         → ((r : Run) (ts : List Slot) → packAll r (filled area ts (map other fs)) ≡ packAll r (filled area ts fs))
-        → (r : Run) (ts : List Slot) (k : Code) (u v : Bool) (n : Count)
+        → (r : Run) (ts : List Slot) (k : Role) (u v : Bool) (n : Count)
         → packAll r (filled area ts (flag k v n ∷ map other fs)) ≡ packAll r (filled area ts (flag k u n ∷ fs))
     unfolding packAll filled
     field-other fs ih r ts (Data s) u v n = ih _ (drop 1 ts)
@@ -68,7 +68,7 @@ module _ (g : Field → Bool) where
     unfolding packAll filled
     fields-other [] r ts = refl
     fields-other (f ∷ fs) r ts =
-        field-other fs (λ q us. fields-other fs q us) r ts (f .code) (f .unsigned) (g f) (f .count)
+        field-other fs (λ q us. fields-other fs q us) r ts (f .role) (f .unsigned) (g f) (f .count)
 
     packed-other : (fs : List Field) (ts : List Slot)
         → packed (filled area ts (map other fs)) ≡ packed (filled area ts fs)
@@ -84,7 +84,7 @@ module _ (g : Field → Bool) where
 
   position-other : (size : ℕ) (fs : List Field)
       → ((at : ℕ) → positionsFrom size at (map other fs) ≡ positionsFrom size at fs)
-      → (at : ℕ) (k : Code) (u v : Bool) (n : Count)
+      → (at : ℕ) (k : Role) (u v : Bool) (n : Count)
       → positionsFrom size at (flag k v n ∷ map other fs) ≡ positionsFrom size at (flag k u n ∷ fs)
   unfolding positionsFrom
   position-other size fs ih at (Data s) u v n = ap (λ (ps : List ℕ). at ∷ ps) (ih _)
@@ -95,10 +95,10 @@ module _ (g : Field → Bool) where
   unfolding positionsFrom
   positions-other size [] at = refl
   positions-other size (f ∷ fs) at =
-      position-other size fs (λ to. positions-other size fs to) at (f .code) (f .unsigned) (g f) (f .count)
+      position-other size fs (λ to. positions-other size fs to) at (f .role) (f .unsigned) (g f) (f .count)
 
   step-other : (size : ℕ) (fs : List Field) → ((at : ℕ) → stepsFrom size at (map other fs) ≡ stepsFrom size at fs)
-      → (at : ℕ) (k : Code) (u v : Bool) (n : Count)
+      → (at : ℕ) (k : Role) (u v : Bool) (n : Count)
       → stepsFrom size at (flag k v n ∷ map other fs) ≡ stepsFrom size at (flag k u n ∷ fs)
   unfolding stepsFrom
   step-other size fs ih at (Data s) u v n = rw (ih (at + bytesFor s (itemsOf s n (size - at))))
@@ -108,7 +108,7 @@ module _ (g : Field → Bool) where
   unfolding stepsFrom
   steps-other size [] at = refl
   steps-other size (f ∷ fs) at =
-      step-other size fs (λ to. steps-other size fs to) at (f .code) (f .unsigned) (g f) (f .count)
+      step-other size fs (λ to. steps-other size fs to) at (f .role) (f .unsigned) (g f) (f .count)
 
 -- the values, where the flags of integers stay
 loaded-same : (s : Shape) (u : Bool) (n : ℕ) (bs : List ℕ) → loaded s (flagIn (Data s) u) n bs ≡ loaded s u n bs
@@ -120,7 +120,7 @@ loaded-same (Reals single big) u n bs = refl
 
 module _ (bs : List ℕ) where
   value-same : (fs : List Field) → ((at : ℕ) → valuesFrom bs at (map flaggedIntegers fs) ≡ valuesFrom bs at fs)
-      → (at : ℕ) (k : Code) (u : Bool) (n : Count)
+      → (at : ℕ) (k : Role) (u : Bool) (n : Count)
       → valuesFrom bs at (flag k (flagIn k u) n ∷ map flaggedIntegers fs) ≡ valuesFrom bs at (flag k u n ∷ fs)
   unfolding valuesFrom
   value-same fs ih at (Data s) u n =
@@ -131,7 +131,7 @@ module _ (bs : List ℕ) where
   values-same : (fs : List Field) (at : ℕ) → valuesFrom bs at (map flaggedIntegers fs) ≡ valuesFrom bs at fs
   unfolding valuesFrom
   values-same [] at = refl
-  values-same (f ∷ fs) at = value-same fs (λ to. values-same fs to) at (f .code) (f .unsigned) (f .count)
+  values-same (f ∷ fs) at = value-same fs (λ to. values-same fs to) at (f .role) (f .unsigned) (f .count)
 
 -- ---- the calls
 
@@ -139,7 +139,7 @@ module _ (bs : List ℕ) where
 abbrev packsBy : List ℕ → List ℕ → List ℕ → List Field → Result (List ℕ)
 packsBy slots area output fs = do
   _ ← demand (leb (length output) maxRecord && tableFits (length slots) (length area)) BadSize 0
-  _ ← demand (eqb (length (slotsOf slots)) (slotCount fs)) WrongSlots 0
+  _ ← demand (eqb (length (slotsOf slots)) (slotCount fs)) BadSlots 0
   finished area (slotsOf slots) fs output
 
 packs-by-fields : (layout slots area output : List ℕ) (fs : List Field) → fieldsOf true layout ≡ ok fs
@@ -162,7 +162,7 @@ pack-ignores-flags layout layout′ a slots area output =
 abbrev readsBy : List ℕ → List ℕ → List ℕ → ℕ → List Field → Result (List Value)
 readsBy bs slots area mark fs = do
   _ ← demand (leb (length bs) maxRecord && tableFits (length slots) (length area) && leb mark (length area)) BadSize 0
-  _ ← demand (leb (slotCount fs) (length (slotsOf slots))) WrongSlots 0
+  _ ← demand (leb (slotCount fs) (length (slotsOf slots))) BadSlots 0
   let vs = valuesFrom bs 0 fs
   _ ← demand (leb (mark + length (valueBytes vs)) (length area)) NoRoom 0
   ok vs
@@ -175,7 +175,7 @@ allBy bs slots area mark fs =
 module _ (layout bs slots area : List ℕ) (mark : ℕ) (fs : List Field) (f : fieldsOf false layout ≡ ok fs)
     (short : length layout ≤ maxLayout) where
   abbrev g : Field → Bool
-  g f = flagIn (f .code) (f .unsigned)
+  g f = flagIn (f .role) (f .unsigned)
 
   reads-by-fields : reads layout bs slots area mark ≡ readsBy bs slots area mark (map flaggedIntegers fs)
   unfolding reads

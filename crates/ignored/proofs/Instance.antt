@@ -6,7 +6,7 @@ use mathlib.Core.Path.{_≡_, refl}
 use mathlib.Core.Bool.{true, false}
 use mathlib.Core.List.{List, [], _∷_}
 use lib.ListN.{getD}
-use Rattle.layout.specs.declared.Code.the-variants.{Data, Move}
+use Rattle.layout.specs.declared.Role.the-variants.{Data, Move}
 use Rattle.layout.specs.declared.Motion.the-variants.{Skip}
 use Rattle.layout.specs.declared.Shape.the-variants.{Text, Integers, Reals}
 use Rattle.layout.specs.declared.Count.the-variants.{Absent, Times}
@@ -36,12 +36,12 @@ packed : Alike true unflagged (bytes "au3xu2") (bytes "a3x2")
 unfolding fieldsOf
 packed = record {
   fields =
-      record { code = Data (Text 0); unsigned = true; count = Times 3 }
-      ∷ record { code = Move Skip; unsigned = true; count = Times 2 }
+      record { role = Data (Text 0); unsigned = true; count = Times 3 }
+      ∷ record { role = Move Skip; unsigned = true; count = Times 2 }
       ∷ [];
   fields′ =
-      record { code = Data (Text 0); unsigned = false; count = Times 3 }
-      ∷ record { code = Move Skip; unsigned = false; count = Times 2 }
+      record { role = Data (Text 0); unsigned = false; count = Times 3 }
+      ∷ record { role = Move Skip; unsigned = false; count = Times 2 }
       ∷ [];
   has-fields = refl;
   has-fields′ = refl;
@@ -54,12 +54,12 @@ read : Alike false flaggedIntegers (bytes "q Su") (bytes "quSu")
 unfolding fieldsOf
 read = record {
   fields =
-      record { code = Data (Reals false false); unsigned = false; count = Absent }
-      ∷ record { code = Data (Integers 2 true); unsigned = true; count = Absent }
+      record { role = Data (Reals false false); unsigned = false; count = Absent }
+      ∷ record { role = Data (Integers 2 true); unsigned = true; count = Absent }
       ∷ [];
   fields′ =
-      record { code = Data (Reals false false); unsigned = true; count = Absent }
-      ∷ record { code = Data (Integers 2 true); unsigned = true; count = Absent }
+      record { role = Data (Reals false false); unsigned = true; count = Absent }
+      ∷ record { role = Data (Integers 2 true); unsigned = true; count = Absent }
       ∷ [];
   has-fields = refl;
   has-fields′ = refl;

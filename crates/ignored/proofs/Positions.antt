@@ -9,11 +9,11 @@ use mathlib.Core.List.{List, [], _∷_, map}
 use lib.ListN.{length, getD, length-map, List·getD-map}
 use lib.Seq.{ext-getD, getD-drop}
 use lib.Dec.{eqb}
-use Rattle.layout.specs.declared.Code.{Code}
-use Rattle.layout.specs.declared.Code.the-variants.{Data, Move}
+use Rattle.layout.specs.declared.Role.{Role}
+use Rattle.layout.specs.declared.Role.the-variants.{Data, Move}
 use Rattle.layout.specs.declared.Count.{Count}
 use Rattle.layout.specs.declared.Field.{Field}
-use Rattle.layout.specs.declared.Refusal.the-variants.{BadSize, WrongSlots}
+use Rattle.layout.specs.declared.Refusal.the-variants.{BadSize, BadSlots}
 use Rattle.layout.specs.Refusals.{Result, ok, refused, _>>=_, demand}
 use Rattle.layout.specs.Layout.{fieldsOf, slotCount}
 use Rattle.record.specs.declared.slots.Slot.{Slot}
@@ -24,8 +24,8 @@ use Rattle.record.specs.Packing.{argumentFits, argumentsFit, filled, finished, 
 use Rattle.record.proofs.SlotLaws.{slot-here}
 use Rattle.record.proofs.Tables.{length-slots}
 use Rattle.sheet.specs.Entries.{Entry}
-use Rattle.sheet.specs.Sheet.{entryOf, entriesOf, slotsFit, writes, write}
-use Rattle.mean.specs.marks.Mean.{legOf, legsOf, legs, mean}
+use Rattle.sheet.specs.Sheet.{entryOf, entriesOf, slotsWritable, writesSheet, writeSheet}
+use Rattle.mean.specs.Mean.{legOf, legsOf, legs, mean}
 use Rattle.ignored.specs.Positions.{ButPositions, PackIgnoresPositions, WriteIgnoresPositions, MeanIgnoresPositions}
 
 -- a slot without its position
@@ -72,9 +72,9 @@ module _ (xs ys : List ℕ) (e : ButPositions xs ys) where
 module _ (area : List ℕ) where
   argument-bare : (fs : List Field)
       → ((i : ℕ) (ts : List Slot) → argumentsFit area i (map bare ts) fs ≡ argumentsFit area i ts fs)
-      → (i : ℕ) (ts : List Slot) (k : Code) (u : Bool) (n : Count)
-      → argumentsFit area i (map bare ts) (record { code = k; unsigned = u; count = n } ∷ fs)
-      ≡ argumentsFit area i ts (record { code = k; unsigned = u; count = n } ∷ fs)
+      → (i : ℕ) (ts : List Slot) (k : Role) (u : Bool) (n : Count)
+      → argumentsFit area i (map bare ts) (record { role = k; unsigned = u; count = n } ∷ fs)
+      ≡ argumentsFit area i ts (record { role = k; unsigned = u; count = n } ∷ fs)
   unfolding argumentsFit argumentFits shown
   argument-bare fs ih i [] k u n = refl
   argument-bare fs ih i (t ∷ ts) (Data s) u n = rw (ih (suc i) ts)
@@ -85,12 +85,12 @@ module _ (area : List ℕ) where
   unfolding argumentsFit
   arguments-bare [] i ts = refl
   arguments-bare (f ∷ fs) i ts =
-      argument-bare fs (λ j us. arguments-bare fs j us) i ts (f .code) (f .unsigned) (f .count)
+      argument-bare fs (λ j us. arguments-bare fs j us) i ts (f .role) (f .unsigned) (f .count)
 
   fill-bare : (fs : List Field) → ((ts : List Slot) → filled area (map bare ts) fs ≡ filled area ts fs)
-      → (ts : List Slot) (k : Code) (u : Bool) (n : Count)
-      → filled area (map bare ts) (record { code = k; unsigned = u; count = n } ∷ fs)
-      ≡ filled area ts (record { code = k; unsigned = u; count = n } ∷ fs)
+      → (ts : List Slot) (k : Role) (u : Bool) (n : Count)
+      → filled area (map bare ts) (record { role = k; unsigned = u; count = n } ∷ fs)
+      ≡ filled area ts (record { role = k; unsigned = u; count = n } ∷ fs)
   unfolding filled shown
   fill-bare fs ih [] k u n = refl
   fill-bare fs ih (t ∷ ts) (Data s) u n = rw (ih ts)
@@ -99,7 +99,7 @@ module _ (area : List ℕ) where
   filled-bare : (fs : List Field) (ts : List Slot) → filled area (map bare ts) fs ≡ filled area ts fs
   unfolding filled
   filled-bare [] ts = refl
-  filled-bare (f ∷ fs) ts = fill-bare fs (λ us. filled-bare fs us) ts (f .code) (f .unsigned) (f .count)
+  filled-bare (f ∷ fs) ts = fill-bare fs (λ us. filled-bare fs us) ts (f .role) (f .unsigned) (f .count)
 
   finished-bare : (output : List ℕ) (fs : List Field) (ts : List Slot)
       → finished area (map bare ts) fs output ≡ finished area ts fs output
@@ -127,7 +127,7 @@ module _ (slots slots′ area : List ℕ) (e : ButPositions slots slots′) wher
       (λ _.
       bind-same (fieldsOf true layout) _ _
       (λ fs.
-      bind-same (demand (eqb (length (slotsOf slots′)) (slotCount fs)) WrongSlots 0) _ _
+      bind-same (demand (eqb (length (slotsOf slots′)) (slotCount fs)) BadSlots 0) _ _
       (λ _. finished-same output fs))))
 
 pub pack-ignores-positions : PackIgnoresPositions
@@ -137,8 +137,8 @@ pack-ignores-positions layout slots slots′ area output e =
 
 -- ---- sheets
 
-slots-fit-bare : (area : List ℕ) (ts : List Slot) (i : ℕ) → slotsFit area i (map bare ts) ≡ slotsFit area i ts
-unfolding slotsFit
+slots-fit-bare : (area : List ℕ) (ts : List Slot) (i : ℕ) → slotsWritable area i (map bare ts) ≡ slotsWritable area i ts
+unfolding slotsWritable
 slots-fit-bare area [] i = refl
 slots-fit-bare area (t ∷ ts) i = rw (slots-fit-bare area ts (suc i))
 
@@ -148,11 +148,11 @@ entries-bare area [] = refl
 entries-bare area (t ∷ ts) = ap (λ (es : List Entry). entryOf area t ∷ es) (entries-bare area ts)
 
 pub write-ignores-positions : WriteIgnoresPositions
-unfolding write writes
+unfolding writeSheet writesSheet
 write-ignores-positions slots slots′ area buffer e =
-    let fits : slotsFit area 0 (slotsOf slots) ≡ slotsFit area 0 (slotsOf slots′) =
+    let fits : slotsWritable area 0 (slotsOf slots) ≡ slotsWritable area 0 (slotsOf slots′) =
     sym (slots-fit-bare area (slotsOf slots) 0)
-    ∙ ap (slotsFit area 0) (same-bare slots slots′ e)
+    ∙ ap (slotsWritable area 0) (same-bare slots slots′ e)
     ∙ slots-fit-bare area (slotsOf slots′) 0 in
     let entries : entriesOf area (slotsOf slots) ≡ entriesOf area (slotsOf slots′) =
     sym (entries-bare area (slotsOf slots))

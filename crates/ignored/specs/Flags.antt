@@ -5,8 +5,8 @@ use mathlib.Core.Path.{_≡_}
 use mathlib.Core.Bool.{Bool, true, false}
 use mathlib.Core.List.{List, map}
 use lib.ListN.{length}
-use Rattle.layout.specs.declared.Code.{Code}
-use Rattle.layout.specs.declared.Code.the-variants.{Data, Move}
+use Rattle.layout.specs.declared.Role.{Role}
+use Rattle.layout.specs.declared.Role.the-variants.{Data, Move}
 use Rattle.layout.specs.declared.Shape.the-variants.{Text, Digits, Integers, Reals}
 use Rattle.layout.specs.declared.Field.{Field}
 use Rattle.layout.specs.Refusals.{ok}
@@ -18,10 +18,9 @@ use Rattle.record.specs.Reading.{readAll}
 
 -- a field without its flag
 abbrev pub unflagged : Field → Field
-unflagged f = record { code = f .code; unsigned = false; count = f .count }
+unflagged f = record { role = f .role; unsigned = false; count = f .count }
 
--- two layouts, as packing or reading (the first argument) takes them, whose fields are the same once `bare` is made of
--- each
+-- two layouts, for packing (true) or reading (false), whose fields are the same once `bare` is applied to each
 pub record Alike (packing : Bool) (bare : Field → Field) (layout layout′ : List ℕ) : Type 0 where
   pub fields : List Field
   pub fields′ : List Field
@@ -39,8 +38,8 @@ PackIgnoresFlags =
 
 -- ---- reading
 
--- the flag of integers, and no other
-abbrev pub flagIn : Code → Bool → Bool
+-- the flag of a field of integers; of any other role none
+abbrev pub flagIn : Role → Bool → Bool
 flagIn (Data (Text pad)) u = false
 flagIn (Data (Digits hex high)) u = false
 flagIn (Data (Integers w big)) u = u
@@ -48,7 +47,7 @@ flagIn (Data (Reals single big)) u = false
 flagIn (Move m) u = false
 
 abbrev pub flaggedIntegers : Field → Field
-flaggedIntegers f = record { code = f .code; unsigned = flagIn (f .code) (f .unsigned); count = f .count }
+flaggedIntegers f = record { role = f .role; unsigned = flagIn (f .role) (f .unsigned); count = f .count }
 
 abbrev pub ReadIgnoresFlags : Type 0
 ReadIgnoresFlags =

@@ -6,29 +6,30 @@ use mathlib.Core.List.{List}
 use lib.ListN.{length, getD}
 use Rattle.record.specs.Table.{slotWidth}
 use Rattle.record.specs.Packing.{pack}
-use Rattle.sheet.specs.Sheet.{write}
-use Rattle.mean.specs.marks.Mean.{mean}
+use Rattle.sheet.specs.Sheet.{writeSheet}
+use Rattle.mean.specs.Mean.{mean}
 
 -- the place of the position among the numbers of a slot
 abbrev pub positionPlace : ℕ
 positionPlace = 3
 
--- as many numbers, and all but the positions are the same
+-- two tables have as many numbers, and all but the positions are the same
 pub record ButPositions (slots slots′ : List ℕ) : Type 0 where
   pub as-many : length slots ≡ length slots′
   pub others : (i : ℕ) → (i % slotWidth ≡ positionPlace → ⊥) → getD slots i 0 ≡ getD slots′ i 0
 
--- every packing, accepted or refused ..
+-- every packing, accepted or refused, is the same for two tables that differ in positions alone
 abbrev pub PackIgnoresPositions : Type 0
 PackIgnoresPositions =
     (layout slots slots′ area output : List ℕ) → ButPositions slots slots′
     → pack layout slots area output ≡ pack layout slots′ area output
 
--- .. every sheet that is written ..
+-- every sheet that is written is the same for two tables that differ in positions alone
 abbrev pub WriteIgnoresPositions : Type 0
 WriteIgnoresPositions =
-    (slots slots′ area buffer : List ℕ) → ButPositions slots slots′ → write slots area buffer ≡ write slots′ area buffer
+    (slots slots′ area buffer : List ℕ) → ButPositions slots slots′
+    → writeSheet slots area buffer ≡ writeSheet slots′ area buffer
 
--- .. and every mean
+-- every mean is the same for two tables that differ in positions alone
 abbrev pub MeanIgnoresPositions : Type 0
 MeanIgnoresPositions = (slots slots′ area : List ℕ) → ButPositions slots slots′ → mean slots area ≡ mean slots′ area

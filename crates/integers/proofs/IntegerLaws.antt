@@ -11,7 +11,7 @@ use Rattle.record.specs.Bytes.{part, storeAt, pieces, join, digits, number, ord
 use Rattle.record.proofs.Bytes.{All, all-take, all-drop, all-ordered, all-below, length-digits, length-ordered, digits-number, join-pieces, drop-take}
 use Rattle.record.proofs.Stores.{runs, runs-first, length-runs, length-part, getD-reverse, Put, put-none, put-more, put-done, Wrote, wrote-next, store-next, length-storeAt}
 use Rattle.byte_runs.proofs.WordLaws.{put-low}
-use Rattle.integers.specs.Eights.{eights}
+use Rattle.integers.specs.inside.Eights.{eights}
 
 -- ---- bytes
 
@@ -122,7 +122,7 @@ eights-kept xs start n inside =
     let kept : map (ordered false) (pieces 8 n (drop start xs)) ≡ pieces 8 n (drop start xs) = map-id (pieces 8 n (drop start xs)) in
     sym (rw (kept, ← pieces-take 8 n (drop start xs)) (join-pieces 8 n (part xs start (n * 8)) (length-part (n * 8) start xs inside)))
 
--- one more run stored behind those before it; and m more
+-- one more run stored after those before it; and m more
 pub eight-more : {d₀ d d′ : List ℕ} {at i n : ℕ} (xs : List ℕ) (start : ℕ) → Wrote d₀ at (eightAt true xs start) d i → i < n → at + n * 8 ≤ length d₀ → start + n * 8 ≤ length xs
     → d′ ≡ storeAt d (at + i * 8) (eightAt true xs start i) → Wrote d₀ at (eightAt true xs start) d′ (i + 1)
 eight-more {d₀} {d} {d′} {at} {i} {n} xs start w h room inside e =

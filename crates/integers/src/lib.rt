@@ -1,4 +1,5 @@
-// What storing and reading the integers of `c s S i I w W` share: bytes copied in their order or turned round, two and four bytes as a number, and runs of eight.
+// What storing and reading the integers of `c s S i I w W` share: bytes copied in their order or turned round, two and
+// four bytes as a number, and runs of eight.
 ghost use mathlib.Core.Path.{_≡_};
 ghost use mathlib.Core.Bool.{true};
 ghost use mathlib.Core.List.{List};
@@ -6,7 +7,7 @@ ghost use Prim.Native.Nat.{ℕ, _+_, _*_, _≤_, _<_};
 ghost use lib.ListN.{length, getD, drop};
 ghost use Rattle.layout.specs.Lent.{before, after};
 ghost use Rattle.record.specs.Bytes.{part, storeAt, digits, ordered};
-ghost use Rattle.integers.specs.Eights.{eights};
+ghost use Rattle.integers.specs.inside.Eights.{eights};
 use byte_runs::big_endian;
 
 // Integers stored.
@@ -138,7 +139,7 @@ fn turn_each(out: &mut [u8], at: usize, from: &[u8], start: usize, n: usize)
     }
 }
 
-// The same, four runs a turn: of a known count the compiler makes straight code.
+// Copies n runs of eight bytes, each turned round, four runs a turn: of a known count the compiler makes straight code.
 fn turn_eights(out: &mut [u8], at: usize, from: &[u8], start: usize, n: usize)
     requires { ⌜ (at + n * 8 ≤ length (now out)) × (start + n * 8 ≤ length (now from)) ⌝ }
     ensures { λ _. ⌜ after out ≡ storeAt (before out) at (eights true n (drop start (before from))) ⌝ }

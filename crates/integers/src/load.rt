@@ -1,5 +1,5 @@
-// `c s S i I w W`, read: from fields of 1 to 8 bytes into integers of eight big-endian bytes in the area. A field's bytes are the last ones of an
-// item, in their order where the field is big-endian, else turned round.
+// `c s S i I w W`, read: from fields of 1 to 8 bytes into integers of eight big-endian bytes in the area. A field's
+// bytes are the last ones of an item, in their order where the field is big-endian, else turned round.
 ghost use mathlib.Core.Path.{_≡_};
 ghost use mathlib.Core.Bool.{Bool, true};
 ghost use Prim.Native.Nat.{_+_, _*_, _≤_};
@@ -9,7 +9,7 @@ ghost use Rattle.layout.specs.Lent.{before, after};
 ghost use Rattle.record.specs.Bytes.{part, storeAt, digits, number, ordered};
 ghost use Rattle.record.specs.Table.{integerBytes};
 ghost use Rattle.record.specs.Reading.{loaded, widened};
-ghost use Rattle.integers.specs.load.{Width, Narrow, itemBytes, fillerOf};
+ghost use Rattle.integers.specs.inside.load.{Width, Narrow, itemBytes, fillerOf};
 use byte_runs::big_endian;
 
 // An integer of one byte with eight: its sign goes on.
@@ -26,7 +26,8 @@ fn widen_one(v: u8, unsigned: bool) -> u64
 // Reads one integer of one byte, in which no order shows.
 fn load_one(area: &mut [u8], to: usize, input: &[u8], at: usize, unsigned: bool)
     requires { ⌜ (to + 8 ≤ length (now area)) × (at + 1 ≤ length (now input)) ⌝ }
-    ensures { λ _. ⌜ ((big : Bool) → after area ≡ storeAt (before area) to (itemBytes 1 big unsigned (part (before input) at 1))) ⌝ }
+    ensures { λ _. ⌜ ((big : Bool)
+        → after area ≡ storeAt (before area) to (itemBytes 1 big unsigned (part (before input) at 1))) ⌝ }
 {
     big_endian::put_number(
         area,
@@ -112,7 +113,8 @@ fn load_item(
     load_one(area, to, input, at, unsigned)
 }
 
-// Reads n integers of a width below eight. Callers have constants for the width and the order, so that the turn of each becomes a loop of its own.
+// Reads n integers of a width below eight. Callers have constants for the width and the order, so that the turn of each
+// becomes a loop of its own.
 fn load_each(
     area: &mut [u8],
     to: usize,
@@ -124,7 +126,9 @@ fn load_each(
     unsigned: bool,
 )
     requires { ⌜ Narrow w × (to + n * 8 ≤ length (now area)) × (at + n * w ≤ length (now input)) ⌝ }
-    ensures { λ _. ⌜ after area ≡ storeAt (before area) to (integerBytes (loaded (Integers w big) unsigned n (part (before input) at (n * w)) .items)) ⌝ }
+    ensures { λ _. ⌜ after area
+        ≡ storeAt (before area) to
+        (integerBytes (loaded (Integers w big) unsigned n (part (before input) at (n * w)) .items)) ⌝ }
 {
     let mut i = 0;
     let mut from = at;
@@ -137,10 +141,13 @@ fn load_each(
     }
 }
 
-// The same with the flag. (Where both calls are of one function the compiler joins them again, and the loop then tests the flag.)
+// Reads n unsigned integers of a width below eight. (Where both calls of `load` are of one function the compiler joins
+// them again, and the loop then tests the flag.)
 fn load_unsigned(area: &mut [u8], to: usize, input: &[u8], at: usize, n: usize, w: usize, big: bool)
     requires { ⌜ Narrow w × (to + n * 8 ≤ length (now area)) × (at + n * w ≤ length (now input)) ⌝ }
-    ensures { λ _. ⌜ after area ≡ storeAt (before area) to (integerBytes (loaded (Integers w big) true n (part (before input) at (n * w)) .items)) ⌝ }
+    ensures { λ _. ⌜ after area
+        ≡ storeAt (before area) to
+        (integerBytes (loaded (Integers w big) true n (part (before input) at (n * w)) .items)) ⌝ }
 {
     load_each(area, to, input, at, n, w, big, true)
 }
@@ -157,7 +164,9 @@ pub fn load(
     unsigned: bool,
 )
     requires { ⌜ Width w × (to + n * 8 ≤ length (now area)) × (at + n * w ≤ length (now input)) ⌝ }
-    ensures { λ _. ⌜ after area ≡ storeAt (before area) to (integerBytes (loaded (Integers w big) unsigned n (part (before input) at (n * w)) .items)) ⌝ }
+    ensures { λ _. ⌜ after area
+        ≡ storeAt (before area) to
+        (integerBytes (loaded (Integers w big) unsigned n (part (before input) at (n * w)) .items)) ⌝ }
 {
     if w == 8 {
         return super::copy_eights(area, to, input, at, n, !big);

@@ -1,5 +1,5 @@
-// `c s S i I w W`, stored: from integers of eight big-endian bytes in the area into fields of 1 to 8 bytes. A field's bytes are the last ones of an
-// item, in their order where the field is big-endian, else turned round.
+// `c s S i I w W`, stored: from integers of eight big-endian bytes in the area into fields of 1 to 8 bytes. A field's
+// bytes are the last ones of an item, in their order where the field is big-endian, else turned round.
 ghost use mathlib.Core.Path.{_≡_};
 ghost use mathlib.Core.Bool.{not};
 ghost use Prim.Native.Nat.{_+_, _-_, _*_, _≤_};
@@ -24,11 +24,12 @@ fn store_item(out: &mut [u8], at: usize, area: &[u8], start: usize, w: usize, bi
     super::copy_ordered(out, at, area, start + (8 - w), w, !big)
 }
 
-// Stores the w low-order bytes of each of n integers of the area, one after the other. Callers have a constant for w, so that the turn of each width
-// becomes a loop of its own.
+// Stores the w low-order bytes of each of n integers of the area, one after the other. Callers have a constant for w,
+// so that the turn of each width becomes a loop of its own.
 fn store_each(out: &mut [u8], at: usize, area: &[u8], start: usize, n: usize, w: usize, big: bool)
     requires { ⌜ (w ≤ 8) × (at + n * w ≤ length (now out)) × (start + n * 8 ≤ length (now area)) ⌝ }
-    ensures { λ _. ⌜ after out ≡ storeAt (before out) at (stored (Integers w big) n (integersIn n (drop start (before area)))) ⌝ }
+    ensures { λ _. ⌜ after out
+        ≡ storeAt (before out) at (stored (Integers w big) n (integersIn n (drop start (before area)))) ⌝ }
 {
     let mut i = 0;
     while i < n {
@@ -40,7 +41,8 @@ fn store_each(out: &mut [u8], at: usize, area: &[u8], start: usize, n: usize, w:
 // Stores the w low-order bytes of each of n integers of the area. One alone, the usual field, is spared the loop.
 pub fn store(out: &mut [u8], at: usize, area: &[u8], start: usize, n: usize, w: usize, big: bool)
     requires { ⌜ (w ≤ 8) × (at + n * w ≤ length (now out)) × (start + n * 8 ≤ length (now area)) ⌝ }
-    ensures { λ _. ⌜ after out ≡ storeAt (before out) at (stored (Integers w big) n (integersIn n (drop start (before area)))) ⌝ }
+    ensures { λ _. ⌜ after out
+        ≡ storeAt (before out) at (stored (Integers w big) n (integersIn n (drop start (before area)))) ⌝ }
 {
     if n == 1 {
         return super::copy_ordered(out, at, area, start + (8 - w), w, !big);

@@ -1,3 +1,3 @@
 -- The proof of M-113, and an instance of its premises.
-pub mod Glues
+pub mod Joining
 mod Instance

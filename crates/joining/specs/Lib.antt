@@ -1,4 +1,3 @@
--- M-113, templates glued together.
+-- M-113: records packed by layouts one after the other; and the call that packs two.
 pub mod Claim
--- The call that packs two templates, and M-113 of it.
-pub mod pack_both
+pub mod Calls

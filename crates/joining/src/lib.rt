@@ -1,3 +1,3 @@
-// Templates glued together (document 02, M-113): packing by two layouts joined gives the two results joined. The claim, its proof and an instance, and no code.
-// A call that runs it.
+// Records packed by layouts one after the other (document 02, M-113): packing by two layouts joined gives the two
+// results joined. The claim is in specs/, its proof in proofs/. The call that packs two: `pack_both`.
 pub mod pack_both;

@@ -1,12 +1,13 @@
 // A record of two templates, packed one after the other into one buffer.
-// What is accepted keeps M-113, whose claim and proof are in the crate `joining`.
+// What is accepted keeps M-113, whose claim is in specs/Claim.antt and whose proof is in proofs/.
 ghost use mathlib.Core.Path.{_≡_};
 ghost use lib.ListN.{length};
-ghost use Rattle.joining.specs.pack_both.{PacksBoth};
+ghost use Rattle.joining.specs.Calls.{PacksBoth};
 use layout::Refusal;
 use record::Answer;
 
-// Packs by one layout and then by another, with room lent for the first result: the buffer is written only when both are accepted.
+// Packs by one layout and then by another, with room lent for the first result: the buffer is written only when both
+// are accepted.
 fn both_by(
     first: &[u8],
     first_slots: &[u32],
@@ -34,8 +35,9 @@ fn both_by(
     Answer::accepted(a.first + b.first, 0)
 }
 
-// Packs by one layout and then, into the buffer behind its result, by another. Answers 0 and the length of both, or the first refusal, which
-// changes nothing. What is accepted is what packing by the two texts joined gives, without their being joined anywhere.
+// Packs by one layout and then, into the buffer after its result, by another. Answers 0 and the length of both, or the
+// first refusal, which changes nothing. What is accepted is what packing by the two texts joined gives, without their
+// being joined anywhere.
 pub fn pack_both(
     first: &[u8],
     first_slots: &[u32],

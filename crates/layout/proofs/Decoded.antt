@@ -1,4 +1,4 @@
--- The fields of the words: what a loop over the words goes by, and what a caller of `parse` learns.
+-- The fields of the codes: what a loop over the codes goes by, and what a caller of `parse` learns.
 use Prim.Native.Nat.{ℕ, suc, _+_, _*_, _/_, _%_, _^_, _≤_, _<_, min}
 use native.Mathlib.Numerals.{add-one}
 use native.Mathlib.Omega.{arith}
@@ -7,37 +7,38 @@ use mathlib.Core.Bool.{Bool, true, false}
 use mathlib.Core.List.{List, [], _∷_, _++_, map, map-append}
 use lib.ListN.{length, getD, drop, take, set, length-map, length-take, drop-of-length-le, List·getD-map}
 use lib.Seq.{drop-cons, getD-take, take-suc-set, length-take-le}
-use Rattle.layout.specs.declared.Code.the-variants.{Data}
+use Rattle.layout.specs.declared.Role.the-variants.{Data}
 use Rattle.layout.specs.declared.Field.{Field}
 use Rattle.layout.specs.declared.Refusal.{Refusal}
 use Rattle.layout.specs.declared.Parsed.{Parsed}
 use Rattle.layout.specs.declared.Parsed.the-variants.{Fields, Refused}
 use Rattle.layout.specs.Refusals.{if_then_else_, Result, ok, refused}
-use Rattle.layout.specs.Layout.{maxLayout, takesSlot, toNat, slotCount}
-use Rattle.layout.specs.Words.{lastData, shapeNumbered, countFrom, FieldOf, fieldOf, wordFor, decoded, Parses, slotsTaken, slotsNumbered, flagUnit, countUnit}
+use Rattle.layout.specs.Layout.{maxLayout, takesSlot, toNat, slotCount, slotsTaken}
+use Rattle.layout.specs.Codes.{lastData, countFrom, fieldOf, codeFor, flagUnit, countUnit}
+use Rattle.layout.specs.inside.Parsing.{shapeNumbered, FieldOf, decoded, Parses, slotsNumbered}
 use Rattle.layout.proofs.Steps.{bit-le, field-fits}
-use Rattle.layout.proofs.Numbered.{data-code, move-code, slot-numbered}
+use Rattle.layout.proofs.Numbered.{data-role, move-role, slot-numbered}
 
 pub decoded-length : (n : ℕ) (ws : List ℕ) → n ≤ length ws → length (decoded n ws) ≡ n
 unfolding decoded
 decoded-length n ws h = length-map (take n ws) fieldOf ∙ length-take-le n ws h
 
--- a word more is a field more
+-- a code more is a field more
 pub decoded-more : (n w : ℕ) (ws : List ℕ) → n < length ws → decoded (n + 1) (set ws n w) ≡ decoded n ws ++ (fieldOf w ∷ [])
 unfolding decoded
 decoded-more n w ws h = rw (add-one, take-suc-set ws n w h) (map-append fieldOf (take n ws) (w ∷ []))
 
--- and the words are those of the fields
-pub plan-more : (n w : ℕ) (ws : List ℕ) → n < length ws → map wordFor (decoded n ws) ≡ take n ws → wordFor (fieldOf w) ≡ w
-    → map wordFor (decoded (n + 1) (set ws n w)) ≡ take (n + 1) (set ws n w)
+-- and the codes are those of the fields
+pub plan-more : (n w : ℕ) (ws : List ℕ) → n < length ws → map codeFor (decoded n ws) ≡ take n ws → codeFor (fieldOf w) ≡ w
+    → map codeFor (decoded (n + 1) (set ws n w)) ≡ take (n + 1) (set ws n w)
 plan-more n w ws h e q =
-    ap (map wordFor) (decoded-more n w ws h) ∙ map-append wordFor (decoded n ws) (fieldOf w ∷ []) ∙ (rw (add-one, take-suc-set ws n w h, e, q))
+    ap (map codeFor) (decoded-more n w ws h) ∙ map-append codeFor (decoded n ws) (fieldOf w ∷ []) ∙ (rw (add-one, take-suc-set ws n w h, e, q))
 
 -- the slots of joined fields
 pub count-append : (fs gs : List Field) → slotCount (fs ++ gs) ≡ slotCount fs + slotCount gs
 unfolding slotCount
 count-append [] gs = omega arith
-count-append (f ∷ fs) gs = step (takesSlot (f .code)) (count-append fs gs)
+count-append (f ∷ fs) gs = step (takesSlot (f .role)) (count-append fs gs)
   where
     step : (t : Bool) → slotCount (fs ++ gs) ≡ slotCount fs + slotCount gs
         → (if t then suc (slotCount (fs ++ gs)) else slotCount (fs ++ gs)) ≡ (if t then suc (slotCount fs) else slotCount fs) + slotCount gs
@@ -46,41 +47,41 @@ count-append (f ∷ fs) gs = step (takesSlot (f .code)) (count-append fs gs)
 
 pub slots-more : (fs : List Field) (f : Field) → slotCount (fs ++ (f ∷ [])) ≡ slotCount fs + slotsTaken f
 unfolding slotCount
-slots-more fs f = count-append fs (f ∷ []) ∙ ap (λ (n : ℕ). slotCount fs + n) (one (takesSlot (f .code)))
+slots-more fs f = count-append fs (f ∷ []) ∙ ap (λ (n : ℕ). slotCount fs + n) (one (takesSlot (f .role)))
   where
     one : (t : Bool) → (if t then 1 else 0) ≡ toNat t
     one true = refl
     one false = refl
 
 pub slots-le : (f : Field) → slotsTaken f ≤ 1
-slots-le f = bit-le (takesSlot (f .code))
+slots-le f = bit-le (takesSlot (f .role))
 
--- ---- a word's field by the number of its type
+-- ---- a code's field by the number of its type
 
 module _ (w : ℕ) where
-  pub word-count : fieldOf w .count ≡ countFrom (w / countUnit)
+  pub code-count : fieldOf w .count ≡ countFrom (w / countUnit)
   unfolding fieldOf
-  word-count = refl
+  code-count = refl
 
-  pub word-shape : w % flagUnit ≤ lastData → fieldOf w .code ≡ Data (shapeNumbered (w % flagUnit))
+  pub code-shape : w % flagUnit ≤ lastData → fieldOf w .role ≡ Data (shapeNumbered (w % flagUnit))
   unfolding fieldOf
-  word-shape h = data-code (w % flagUnit) h
+  code-shape h = data-role (w % flagUnit) h
 
-  pub word-slotless : lastData < w % flagUnit → slotsTaken (fieldOf w) ≡ 0
+  pub code-slotless : lastData < w % flagUnit → slotsTaken (fieldOf w) ≡ 0
   unfolding fieldOf
-  word-slotless h = rw (move-code (w % flagUnit) h)
+  code-slotless h = rw (move-role (w % flagUnit) h)
 
-  pub word-slots : slotsNumbered (w % flagUnit) ≡ slotsTaken (fieldOf w)
+  pub code-slots : slotsNumbered (w % flagUnit) ≡ slotsTaken (fieldOf w)
   unfolding fieldOf
-  word-slots = ap toNat (slot-numbered (w % flagUnit))
+  code-slots = ap toNat (slot-numbered (w % flagUnit))
 
--- what a word of 32 bits tells before it is decoded: its field keeps to the limits, and takes so many slots
+-- what a code of 32 bits tells before it is decoded: its field keeps to the limits, and takes r slots
 pub record SlotsIn (w r : ℕ) : Type 0 where
   pub field : FieldOf w (fieldOf w)
   pub taken : r ≡ slotsTaken (fieldOf w)
 
-pub word-told : (w r : ℕ) → w < 2 ^ 32 → r ≡ slotsNumbered (w % flagUnit) → SlotsIn w r
-word-told w r h e = record { field = field-fits w (fieldOf w) h refl; taken = e ∙ word-slots w }
+pub code-told : (w r : ℕ) → w < 2 ^ 32 → r ≡ slotsNumbered (w % flagUnit) → SlotsIn w r
+code-told w r h e = record { field = field-fits w (fieldOf w) h refl; taken = e ∙ code-slots w }
 
 -- the fields from the i-th on
 module _ (n : ℕ) (ws : List ℕ) (h : n ≤ length ws) where
@@ -107,16 +108,16 @@ unfolding decoded
 parsed-fields (ok fs) r n slots ws p e =
     let l : n ≡ length fs = cc (p .answer) in
     let k : slots ≡ slotCount fs = cc (p .answer) in
-    let d : decoded n ws ≡ fs = ap (λ (i : ℕ). decoded i ws) l ∙ p .words in
+    let d : decoded n ws ≡ fs = ap (λ (i : ℕ). decoded i ws) l ∙ p .codes in
     let m : min n (length ws) ≡ n = sym (length-map (take n ws) fieldOf ∙ length-take n ws) ∙ ap length d ∙ sym l in
     record { fields = ap ok (sym d); taken = k ∙ ap slotCount (sym d); few = omega arith; room = p .room }
 parsed-fields (refused why p) r n slots ws q e = let z : _≡_ {A = ℕ} 0 1 = cc (q .answer) in absurd (omega arith)
 
--- and that the words are those of the fields
-pub parsed-plan : (o : Result (List Field)) (r : Parsed) (n slots : ℕ) (ws : List ℕ) → Parses o r ws → r ≡ Fields n slots → map wordFor (decoded n ws) ≡ take n ws
+-- and that the codes are those of the fields
+pub parsed-plan : (o : Result (List Field)) (r : Parsed) (n slots : ℕ) (ws : List ℕ) → Parses o r ws → r ≡ Fields n slots → map codeFor (decoded n ws) ≡ take n ws
 parsed-plan (ok fs) r n slots ws p e =
     let l : n ≡ length fs = cc (p .answer) in
-    let d : decoded n ws ≡ fs = ap (λ (i : ℕ). decoded i ws) l ∙ p .words in
+    let d : decoded n ws ≡ fs = ap (λ (i : ℕ). decoded i ws) l ∙ p .codes in
     rw (d, l) (p .plan)
 parsed-plan (refused why p) r n slots ws q e = let z : _≡_ {A = ℕ} 0 1 = cc (q .answer) in absurd (omega arith)
 

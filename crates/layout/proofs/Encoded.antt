@@ -8,7 +8,8 @@ use borrow.Author.Tests.{eqb-true}
 use lib.Dec.{eqb}
 use Rattle.layout.specs.declared.Typed.{Typed}
 use Rattle.layout.specs.declared.Typed.the-variants.{Known, Unknown}
-use Rattle.layout.specs.Words.{lastType, typeNumbered, known, HasType, countFrom, typeNumber, countNumber}
+use Rattle.layout.specs.Codes.{lastType, typeNumbered, known, countFrom, typeNumber, countNumber}
+use Rattle.layout.specs.inside.Parsing.{HasType}
 
 -- ---- what holds of every number below another, as one computed test
 

@@ -1,5 +1,6 @@
--- Two texts joined: the second, accepted by itself, begins with nothing that could continue the last field of the first, and its fields are the
--- same wherever it stands. So the joined text has the fields of the first and then those of the second.
+-- Two texts joined: the second, accepted by itself, begins with nothing that could continue the last field of the
+-- first, and its fields are the same wherever it stands. So the joined text has the fields of the first and then those
+-- of the second.
 use Prim.Native.Nat.{ℕ, zero, suc, _+_, _-_, _*_, _/_, _≤_, _<_}
 use native.Mathlib.Nat.{not-suc-le-zero, le-of-suc-le-suc, lt-of-not-le}
 use native.Mathlib.Decide.{decLe}
@@ -11,13 +12,13 @@ use borrow.Author.Tests.{lt-leb, ne-eqb}
 use lib.Dec.{eqb}
 use lib.ListN.{length, drop, length-drop}
 use lib.Seq.{drop-append-le}
-use Rattle.layout.specs.declared.Code.{Code}
+use Rattle.layout.specs.declared.Role.{Role}
 use Rattle.layout.specs.declared.Field.{Field}
 use Rattle.layout.specs.declared.Typed.{Typed}
 use Rattle.layout.specs.declared.Typed.the-variants.{Known, Unknown}
-use Rattle.layout.specs.declared.Refusal.the-variants.{UnknownType, CountTooLarge, CountMisused}
+use Rattle.layout.specs.declared.Refusal.the-variants.{BadType, BadCount, BadMove}
 use Rattle.layout.specs.Refusals.{if_then_else_, Result, ok, refused, _>>=_, demand}
-use Rattle.layout.specs.Layout.{isDecimal, digitRun, decimal, typeOf, flagged, countOf, countLength, inLimit, hasMeaning, toNat, Step, space, field, bad, stepFrom, fieldAfter, fieldAt, stepOf, extra, before, fieldsFrom, fieldsOf}
+use Rattle.layout.specs.Layout.{isDecimal, digitRun, decimal, typeOf, flagged, countOf, countLength, inLimit, hasMeaning, toNat, Step, space, field, bad, stepFrom, fieldAfter, fieldAt, stepOf, stepExtra, stepThen, fieldsFrom, fieldsOf}
 use Rattle.layout.proofs.Laws.{no-refusal, bound, ok-inj}
 use Rattle.layout.proofs.Steps.{count-within, flag-within, below-decimal, above-decimal}
 use Rattle.layout.proofs.Letters.{no-letter}
@@ -80,7 +81,7 @@ flag-same [] [] h = refl
 flag-same [] (y ∷ ys) h = h .0
 flag-same (c ∷ cs) ys h = refl
 
-after-same : (packing : Bool) (at : ℕ) (k : Code) (cs ys : List ℕ) → Apart ys → fieldAfter packing at k (cs ++ ys) ≡ fieldAfter packing at k cs
+after-same : (packing : Bool) (at : ℕ) (k : Role) (cs ys : List ℕ) → Apart ys → fieldAfter packing at k (cs ++ ys) ≡ fieldAfter packing at k cs
 unfolding fieldAfter
 after-same packing at k cs ys h =
     let rest : List ℕ = drop (toNat (flagged cs)) cs in
@@ -90,8 +91,8 @@ at-same : (packing : Bool) (at c : ℕ) (cs ys : List ℕ) → Apart ys → fiel
 unfolding fieldAt
 at-same packing at c cs ys h = by-type (typeOf c)
   where
-    by-type : (t : Typed) → _≡_ {A = Result (Field × ℕ)} (elim t [ Known k ↦ fieldAfter packing at k (cs ++ ys) | Unknown ↦ refused UnknownType at ])
-        (elim t [ Known k ↦ fieldAfter packing at k cs | Unknown ↦ refused UnknownType at ])
+    by-type : (t : Typed) → _≡_ {A = Result (Field × ℕ)} (elim t [ Known k ↦ fieldAfter packing at k (cs ++ ys) | Unknown ↦ refused BadType at ])
+        (elim t [ Known k ↦ fieldAfter packing at k cs | Unknown ↦ refused BadType at ])
     by-type (Known k) = after-same packing at k cs ys h
     by-type Unknown = refl
 
@@ -102,13 +103,13 @@ step-same packing at c cs ys h = rw (at-same packing at c cs ys h)
 -- ---- a field ends inside its text
 
 inside-end : (p q : ℕ) (l m : Bool) (f : Field) (n size : ℕ) → n ≤ size
-    → extra (stepFrom (demand l CountTooLarge p >>= (λ _. demand m CountMisused q >>= (λ _. ok (f, n))))) ≤ size
+    → stepExtra (stepFrom (demand l BadCount p >>= (λ _. demand m BadMove q >>= (λ _. ok (f, n))))) ≤ size
 inside-end p q false m f n size h = omega arith
 inside-end p q true false f n size h = omega arith
 inside-end p q true true f n size h = h
 
 inside-typed : (packing : Bool) (at : ℕ) (cs : List ℕ) (t : Typed)
-    → extra (stepFrom (elim t [ Known k ↦ fieldAfter packing at k cs | Unknown ↦ refused UnknownType at ])) ≤ length cs
+    → stepExtra (stepFrom (elim t [ Known k ↦ fieldAfter packing at k cs | Unknown ↦ refused BadType at ])) ≤ length cs
 unfolding fieldAfter
 inside-typed packing at cs (Known k) =
     let u = flagged cs in
@@ -117,11 +118,11 @@ inside-typed packing at cs (Known k) =
     (omega (arith, flag-within cs, count-within rest, length-drop (toNat u) cs))
 inside-typed packing at cs Unknown = omega arith
 
-inside : (packing : Bool) (at c : ℕ) (cs : List ℕ) → extra (stepOf packing at c cs) ≤ length cs
+inside : (packing : Bool) (at c : ℕ) (cs : List ℕ) → stepExtra (stepOf packing at c cs) ≤ length cs
 unfolding stepOf fieldAt
 inside packing at c cs = chosen (eqb c 32) (inside-typed packing at cs (typeOf c))
   where
-    chosen : (t : Bool) → extra (stepFrom (fieldAt packing at c cs)) ≤ length cs → extra (if t then space else stepFrom (fieldAt packing at c cs)) ≤ length cs
+    chosen : (t : Bool) → stepExtra (stepFrom (fieldAt packing at c cs)) ≤ length cs → stepExtra (if t then space else stepFrom (fieldAt packing at c cs)) ≤ length cs
     chosen true h = omega arith
     chosen false h = h
 
@@ -133,15 +134,15 @@ Same (field f n) s = s ≡ field f n
 Same (bad why place) s = Unit {0}
 
 same-end : (p q p′ q′ : ℕ) (l m : Bool) (f : Field) (n : ℕ)
-    → Same (stepFrom (demand l CountTooLarge p >>= (λ _. demand m CountMisused q >>= (λ _. ok (f, n)))))
-    (stepFrom (demand l CountTooLarge p′ >>= (λ _. demand m CountMisused q′ >>= (λ _. ok (f, n)))))
+    → Same (stepFrom (demand l BadCount p >>= (λ _. demand m BadMove q >>= (λ _. ok (f, n)))))
+    (stepFrom (demand l BadCount p′ >>= (λ _. demand m BadMove q′ >>= (λ _. ok (f, n)))))
 same-end p q p′ q′ false m f n = tt
 same-end p q p′ q′ true false f n = tt
 same-end p q p′ q′ true true f n = refl
 
 same-typed : (packing : Bool) (at at′ : ℕ) (cs : List ℕ) (t : Typed)
-    → Same (stepFrom (elim t [ Known k ↦ fieldAfter packing at k cs | Unknown ↦ refused UnknownType at ]))
-    (stepFrom (elim t [ Known k ↦ fieldAfter packing at′ k cs | Unknown ↦ refused UnknownType at′ ]))
+    → Same (stepFrom (elim t [ Known k ↦ fieldAfter packing at k cs | Unknown ↦ refused BadType at ]))
+    (stepFrom (elim t [ Known k ↦ fieldAfter packing at′ k cs | Unknown ↦ refused BadType at′ ]))
 unfolding fieldAfter
 same-typed packing at at′ cs (Known k) =
     let u = flagged cs in
@@ -159,7 +160,7 @@ same-step packing at at′ c cs = chosen _ _ (eqb c 32) (same-typed packing at a
 
 module _ (packing : Bool) where
   moved-step : (at at′ : ℕ) (cs : List ℕ) → ((m : ℕ) (gs : List Field) → fieldsFrom packing at m cs ≡ ok gs → fieldsFrom packing at′ m cs ≡ ok gs)
-      → (s s′ : Step) → Same s s′ → (fs : List Field) → before s (fieldsFrom packing at (extra s) cs) ≡ ok fs → before s′ (fieldsFrom packing at′ (extra s′) cs) ≡ ok fs
+      → (s s′ : Step) → Same s s′ → (fs : List Field) → stepThen s (fieldsFrom packing at (stepExtra s) cs) ≡ ok fs → stepThen s′ (fieldsFrom packing at′ (stepExtra s′) cs) ≡ ok fs
   moved-step at at′ cs ih space s′ l fs e = rw l (ih 0 fs e)
   moved-step at at′ cs ih (field f m) s′ l fs e =
       let (gs, e₁, e₂) = bound (fieldsFrom packing at m cs) (λ gs. ok (f ∷ gs)) fs e in
@@ -177,8 +178,8 @@ module _ (packing : Bool) where
 
   module _ (ys : List ℕ) (gs : List Field) (second : (i : ℕ) → fieldsFrom packing i 0 ys ≡ ok gs) where
     joined-step : (at : ℕ) (cs : List ℕ) → ((m : ℕ) (fs : List Field) → m ≤ length cs → fieldsFrom packing at m cs ≡ ok fs → fieldsFrom packing at m (cs ++ ys) ≡ ok (fs ++ gs))
-        → (s : Step) → extra s ≤ length cs → (fs : List Field) → before s (fieldsFrom packing at (extra s) cs) ≡ ok fs
-        → before s (fieldsFrom packing at (extra s) (cs ++ ys)) ≡ ok (fs ++ gs)
+        → (s : Step) → stepExtra s ≤ length cs → (fs : List Field) → stepThen s (fieldsFrom packing at (stepExtra s) cs) ≡ ok fs
+        → stepThen s (fieldsFrom packing at (stepExtra s) (cs ++ ys)) ≡ ok (fs ++ gs)
     joined-step at cs ih space l fs e = ih 0 fs l e
     joined-step at cs ih (field f m) l fs e =
         let (hs, e₁, e₂) = bound (fieldsFrom packing at m cs) (λ hs. ok (f ∷ hs)) fs e in

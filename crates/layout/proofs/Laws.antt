@@ -10,21 +10,21 @@ use borrow.Author.Tests.{eq-eqb}
 use lib.Dec.{eqb}
 use lib.ListN.{length, getD, drop, drop-of-length-le}
 use lib.Seq.{drop-nil, drop-cons, drop-drop}
-use Rattle.layout.specs.declared.Code.{Code}
-use Rattle.layout.specs.declared.Code.the-variants.{Data, Move}
-use Rattle.layout.specs.declared.Motion.the-variants.{Skip, Back, Goto}
+use Rattle.layout.specs.declared.Role.{Role}
+use Rattle.layout.specs.declared.Role.the-variants.{Data, Move}
 use Rattle.layout.specs.declared.Shape.{Shape}
 use Rattle.layout.specs.declared.Shape.the-variants.{Text, Digits, Integers}
+use Rattle.layout.specs.declared.Motion.the-variants.{Skip, Back, Goto}
 use Rattle.layout.specs.declared.Count.{Count}
 use Rattle.layout.specs.declared.Count.the-variants.{Absent, Star, Times}
 use Rattle.layout.specs.declared.Field.{Field}
 use Rattle.layout.specs.declared.Typed.{Typed}
 use Rattle.layout.specs.declared.Typed.the-variants.{Known, Unknown}
 use Rattle.layout.specs.declared.Refusal.{Refusal}
-use Rattle.layout.specs.declared.Refusal.the-variants.{UnknownType, CountTooLarge, CountMisused}
+use Rattle.layout.specs.declared.Refusal.the-variants.{BadType, BadCount, BadMove}
 use Rattle.layout.specs.Refusals.{if_then_else_, numberOf, Result, ok, refused, _>>=_, demand}
-use Rattle.layout.specs.Layout.{isDecimal, digitRun, decimal, typeOf, flagged, countOf, countLength, inLimit, hasMeaning, toNat, Step, space, field, bad, stepFrom, fieldAfter, fieldAt, stepOf, extra, before, fieldsFrom, fieldsOf}
-use Rattle.layout.specs.Words.{FitCode, rest}
+use Rattle.layout.specs.Layout.{isDecimal, digitRun, decimal, typeOf, flagged, countOf, countLength, inLimit, hasMeaning, toNat, Step, space, field, bad, stepFrom, fieldAfter, fieldAt, stepOf, stepExtra, stepThen, fieldsFrom, fieldsOf}
+use Rattle.layout.specs.inside.Parsing.{FitRole, rest}
 
 -- ---- results
 
@@ -64,7 +64,7 @@ no-number-zero n e = absurd (suc-ne-zero _ e)
 -- ---- the types
 
 abbrev pub FitType : Typed → Type 0
-FitType (Known k) = FitCode k
+FitType (Known k) = FitRole k
 FitType Unknown = Unit {0}
 
 pub fit-either : (t : Bool) (a b : Typed) → FitType a → FitType b → FitType (if t then a else b)
@@ -97,20 +97,20 @@ sound-type c =
 
 abbrev pub AllSound : List Field → Type 0
 AllSound [] = Unit {0}
-AllSound (f ∷ fs) = FitCode (f .code) × AllSound fs
+AllSound (f ∷ fs) = FitRole (f .role) × AllSound fs
 
 -- ---- a layout that packs also reads, with the same fields, and its types are sound
 
 abbrev Later : Step → Step → Type 0
 Later space s = s ≡ space
-Later (field f n) s = (s ≡ field f n) × FitCode (f .code)
+Later (field f n) s = (s ≡ field f n) × FitRole (f .role)
 Later (bad n p) s = Unit {0}
 
-abbrev ending : Bool → ℕ → Bool → Code → Count → Bool → ℕ → Result (Field × ℕ)
+abbrev ending : Bool → ℕ → Bool → Role → Count → Bool → ℕ → Result (Field × ℕ)
 ending packing at l k n u m =
-    demand l CountTooLarge (suc at + toNat u) >>= (λ _. demand (hasMeaning packing k n) CountMisused at >>= (λ _. ok (record { code = k; unsigned = u; count = n }, m)))
+    demand l BadCount (suc at + toNat u) >>= (λ _. demand (hasMeaning packing k n) BadMove at >>= (λ _. ok (record { role = k; unsigned = u; count = n }, m)))
 
-later-end : (at : ℕ) (l : Bool) (k : Code) (n : Count) (u : Bool) (m : ℕ) → FitCode k
+later-end : (at : ℕ) (l : Bool) (k : Role) (n : Count) (u : Bool) (m : ℕ) → FitRole k
     → Later (stepFrom (ending true at l k n u m)) (stepFrom (ending false at l k n u m))
 later-end at false k n u m h = tt
 later-end at true (Data s) n u m h = (refl, h)
@@ -123,8 +123,8 @@ later-end at true (Move Goto) Star u m h = (refl, h)
 later-end at true (Move Goto) (Times n) u m h = (refl, h)
 
 later-typed : (at : ℕ) (cs : List ℕ) (t : Typed) → FitType t
-    → Later (stepFrom (elim t [ Known k ↦ fieldAfter true at k cs | Unknown ↦ refused UnknownType at ]))
-    (stepFrom (elim t [ Known k ↦ fieldAfter false at k cs | Unknown ↦ refused UnknownType at ]))
+    → Later (stepFrom (elim t [ Known k ↦ fieldAfter true at k cs | Unknown ↦ refused BadType at ]))
+    (stepFrom (elim t [ Known k ↦ fieldAfter false at k cs | Unknown ↦ refused BadType at ]))
 unfolding fieldAfter
 later-typed at cs (Known k) h =
     let rest = drop (toNat (flagged cs)) cs in
@@ -146,8 +146,8 @@ pub ok-inj : {A : Type 0} {a b : A} → ok a ≡ ok b → a ≡ b
 ok-inj e = cc
 
 reads-step : (at : ℕ) (cs : List ℕ) → ((m : ℕ) (gs : List Field) → fieldsFrom true at m cs ≡ ok gs → Reads at m cs gs)
-    → (s s′ : Step) → Later s s′ → (fs : List Field) → before s (fieldsFrom true at (extra s) cs) ≡ ok fs
-    → (before s′ (fieldsFrom false at (extra s′) cs) ≡ ok fs) × AllSound fs
+    → (s s′ : Step) → Later s s′ → (fs : List Field) → stepThen s (fieldsFrom true at (stepExtra s) cs) ≡ ok fs
+    → (stepThen s′ (fieldsFrom false at (stepExtra s′) cs) ≡ ok fs) × AllSound fs
 reads-step at cs ih space s′ l fs e = rw l (ih 0 fs e)
 reads-step at cs ih (field f m) s′ l fs e =
     let (gs, e₁, e₂) = bound (fieldsFrom true at m cs) (λ gs. ok (f ∷ gs)) fs e in
@@ -176,12 +176,12 @@ skipped packing (c ∷ cs) at zero = rw add-zero
 skipped packing (c ∷ cs) at (suc n) = skipped packing cs (suc at) n ∙ ap (λ (i : ℕ). fieldsFrom packing i 0 (drop n cs)) (let e : suc at + n ≡ at + suc n = omega arith in e)
 
 pub at-byte : (packing : Bool) (text : List ℕ) (at : ℕ) → at < length text
-    → rest packing text at ≡ before (stepOf packing at (getD text at 0) (drop (suc at) text)) (rest packing text (suc at + extra (stepOf packing at (getD text at 0) (drop (suc at) text))))
+    → rest packing text at ≡ stepThen (stepOf packing at (getD text at 0) (drop (suc at) text)) (rest packing text (suc at + stepExtra (stepOf packing at (getD text at 0) (drop (suc at) text))))
 unfolding rest fieldsFrom
 at-byte packing text at h =
     let s : Step = stepOf packing at (getD text at 0) (drop (suc at) text) in
     ap (fieldsFrom packing at 0) (drop-cons text at 0 h)
-    ∙ ap (before s) (skipped packing (drop (suc at) text) (suc at) (extra s) ∙ ap (fieldsFrom packing (suc at + extra s) 0) (drop-drop (extra s) (suc at) text))
+    ∙ ap (stepThen s) (skipped packing (drop (suc at) text) (suc at) (stepExtra s) ∙ ap (fieldsFrom packing (suc at + stepExtra s) 0) (drop-drop (stepExtra s) (suc at) text))
 
 pub at-end : (packing : Bool) (text : List ℕ) (at : ℕ) → length text ≤ at → rest packing text at ≡ ok []
 unfolding rest fieldsFrom

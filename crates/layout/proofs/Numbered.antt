@@ -1,5 +1,5 @@
--- Laws of the types by number: the form that a number has, what the type of a number takes, and how many bytes an integer has. A number passes or
--- fails each test of `typeNumbered` by the range in which it lies.
+-- Laws of the types by number: the form that a number has, what the type of a number takes, and how many bytes an
+-- integer has. A number passes or fails each test of `typeNumbered` by the range in which it lies.
 use Prim.Native.Nat.{ℕ, zero, suc, _-_, _*_, _/_, _%_, _^_, _≤_, _<_}
 use native.Mathlib.Omega.{arith}
 use native.Mathlib.Nat.{lt-of-not-le}
@@ -8,47 +8,48 @@ use mathlib.Core.Path.{_≡_, refl, ap}
 use mathlib.Core.Bool.{Bool, true, false}
 use borrow.Author.Tests.{lt-ltb, le-ltb, le-leb, lt-leb, ne-eqb}
 use lib.Dec.{eqb, leb, ltb}
-use Rattle.layout.specs.declared.Code.{Code}
-use Rattle.layout.specs.declared.Code.the-variants.{Data, Move}
-use Rattle.layout.specs.declared.Motion.the-variants.{Skip, Back, Goto}
+use Rattle.layout.specs.declared.Role.{Role}
+use Rattle.layout.specs.declared.Role.the-variants.{Data, Move}
 use Rattle.layout.specs.declared.Shape.{Shape}
 use Rattle.layout.specs.declared.Shape.the-variants.{Text, Digits, Integers, Reals}
+use Rattle.layout.specs.declared.Motion.the-variants.{Skip, Back, Goto}
 use Rattle.layout.specs.declared.Count.{Count}
 use Rattle.layout.specs.declared.Typed.{Typed}
 use Rattle.layout.specs.declared.Typed.the-variants.{Known, Unknown}
 use Rattle.layout.specs.Refusals.{if_then_else_}
-use Rattle.layout.specs.Layout.{takesSlot, hasMeaning}
-use Rattle.layout.specs.Words.{lastText, lastBinary, lastDigits, lastIntegers, lastSingle, lastData, skipNumber, backNumber, gotoNumber, lastType, widthNumbered, realSize, sizeNumbered, typeNumbered, known, shapeOf, shapeNumbered, FitCode}
+use Rattle.layout.specs.Layout.{takesSlot, hasMeaning, realSize}
+use Rattle.layout.specs.Codes.{lastText, lastBinary, lastDigits, lastIntegers, lastSingle, lastData, skipNumber, backNumber, gotoNumber, lastType, widthNumbered, typeNumbered, known}
+use Rattle.layout.specs.inside.Parsing.{sizeNumbered, shapeOf, shapeNumbered, FitRole}
 use Rattle.layout.proofs.Steps.{type-fits, known-fits}
 
 -- ---- each form by its numbers
 
-text-code : (d : ℕ) → d ≤ lastText → known (typeNumbered d) ≡ Data (Text (32 * d))
+text-role : (d : ℕ) → d ≤ lastText → known (typeNumbered d) ≡ Data (Text (32 * d))
 unfolding typeNumbered
-text-code d h = rw (le-leb d lastText h)
+text-role d h = rw (le-leb d lastText h)
 
-digits-code : (d : ℕ) → lastText < d → d ≤ lastDigits → known (typeNumbered d) ≡ Data (Digits (ltb lastBinary d) (eqb (d % 2) 1))
+digits-role : (d : ℕ) → lastText < d → d ≤ lastDigits → known (typeNumbered d) ≡ Data (Digits (ltb lastBinary d) (eqb (d % 2) 1))
 unfolding typeNumbered
-digits-code d l h = rw (lt-leb d lastText l, le-leb d lastDigits h)
+digits-role d l h = rw (lt-leb d lastText l, le-leb d lastDigits h)
 
-integers-code : (d : ℕ) → lastDigits < d → d ≤ lastIntegers → known (typeNumbered d) ≡ Data (Integers (widthNumbered d) (eqb (d % 2) 1))
+integers-role : (d : ℕ) → lastDigits < d → d ≤ lastIntegers → known (typeNumbered d) ≡ Data (Integers (widthNumbered d) (eqb (d % 2) 1))
 unfolding typeNumbered
-integers-code d l h = let k : lastText < d = omega arith in rw (lt-leb d lastText k, lt-leb d lastDigits l, le-leb d lastIntegers h)
+integers-role d l h = let k : lastText < d = omega arith in rw (lt-leb d lastText k, lt-leb d lastDigits l, le-leb d lastIntegers h)
 
-reals-code : (d : ℕ) → lastIntegers < d → d ≤ lastData → known (typeNumbered d) ≡ Data (Reals (leb d lastSingle) (eqb (d % 2) 1))
+reals-role : (d : ℕ) → lastIntegers < d → d ≤ lastData → known (typeNumbered d) ≡ Data (Reals (leb d lastSingle) (eqb (d % 2) 1))
 unfolding typeNumbered
-reals-code d l h =
+reals-role d l h =
     let text : lastText < d = omega arith in
     let digits : lastDigits < d = omega arith in
     rw (lt-leb d lastText text, lt-leb d lastDigits digits, lt-leb d lastIntegers l, le-leb d lastData h)
 
 pub shape-text : (d : ℕ) → d ≤ lastText → shapeNumbered d ≡ Text (32 * d)
 unfolding shapeNumbered
-shape-text d h = ap shapeOf (text-code d h)
+shape-text d h = ap shapeOf (text-role d h)
 
 pub shape-digits : (d : ℕ) → lastText < d → d ≤ lastDigits → shapeNumbered d ≡ Digits (ltb lastBinary d) (eqb (d % 2) 1)
 unfolding shapeNumbered
-shape-digits d l h = ap shapeOf (digits-code d l h)
+shape-digits d l h = ap shapeOf (digits-role d l h)
 
 pub shape-binary : (d : ℕ) → lastText < d → d ≤ lastBinary → shapeNumbered d ≡ Digits false (eqb (d % 2) 1)
 shape-binary d l h = let e = shape-digits d l (omega arith) in rw (le-ltb lastBinary d h) at e
@@ -58,11 +59,11 @@ shape-hex d l h = let e = shape-digits d (omega arith) h in rw (lt-ltb lastBinar
 
 pub shape-integers : (d : ℕ) → lastDigits < d → d ≤ lastIntegers → shapeNumbered d ≡ Integers (widthNumbered d) (eqb (d % 2) 1)
 unfolding shapeNumbered
-shape-integers d l h = ap shapeOf (integers-code d l h)
+shape-integers d l h = ap shapeOf (integers-role d l h)
 
 pub shape-reals : (d : ℕ) → lastIntegers < d → d ≤ lastData → shapeNumbered d ≡ Reals (leb d lastSingle) (eqb (d % 2) 1)
 unfolding shapeNumbered
-shape-reals d l h = ap shapeOf (reals-code d l h)
+shape-reals d l h = ap shapeOf (reals-role d l h)
 
 pub shape-kept : (d : ℕ) → d ≡ 0 → shapeNumbered d ≡ Text 0
 unfolding shapeNumbered typeNumbered
@@ -77,9 +78,9 @@ shape-trimmed d e = ap shapeNumbered e
 abbrev oneOf : Bool → Bool → Bool → Shape → Shape → Shape → Shape → Typed
 oneOf text digits integers r s t v = if text then Known (Data r) else if digits then Known (Data s) else if integers then Known (Data t) else Known (Data v)
 
-pub data-code : (d : ℕ) → d ≤ lastData → known (typeNumbered d) ≡ Data (shapeNumbered d)
+pub data-role : (d : ℕ) → d ≤ lastData → known (typeNumbered d) ≡ Data (shapeNumbered d)
 unfolding typeNumbered shapeNumbered
-data-code d h = rw (le-leb d lastData h) (shapes (leb d lastText) (leb d lastDigits) (leb d lastIntegers) _ _ _ _)
+data-role d h = rw (le-leb d lastData h) (shapes (leb d lastText) (leb d lastDigits) (leb d lastIntegers) _ _ _ _)
   where
     shapes : (text digits integers : Bool) (r s t v : Shape) → known (oneOf text digits integers r s t v) ≡ Data (shapeOf (known (oneOf text digits integers r s t v)))
     shapes true digits integers r s t v = refl
@@ -98,8 +99,8 @@ move-type d h =
     let integers : lastIntegers < d = omega arith in
     rw (lt-leb d lastText text, lt-leb d lastDigits digits, lt-leb d lastIntegers integers, lt-leb d lastData h)
 
-pub move-code : (d : ℕ) → lastData < d → takesSlot (known (typeNumbered d)) ≡ false
-move-code d h = rw (move-type d h) (moves (eqb d skipNumber) (eqb d backNumber) (eqb d gotoNumber))
+pub move-role : (d : ℕ) → lastData < d → takesSlot (known (typeNumbered d)) ≡ false
+move-role d h = rw (move-type d h) (moves (eqb d skipNumber) (eqb d backNumber) (eqb d gotoNumber))
   where
     moves : (skip back goto : Bool) → takesSlot (known (moving skip back goto)) ≡ false
     moves true back goto = refl
@@ -117,15 +118,15 @@ number-unknown d h =
 
 pub slot-numbered : (d : ℕ) → leb d lastData ≡ takesSlot (known (typeNumbered d))
 slot-numbered d = elim (decLe d lastData) [
-  | yes h ↦ rw (le-leb d lastData h, data-code d h)
-  | no h ↦ (let k : lastData < d = lt-of-not-le h in rw (lt-leb d lastData k, move-code d k))
+  | yes h ↦ rw (le-leb d lastData h, data-role d h)
+  | no h ↦ (let k : lastData < d = lt-of-not-le h in rw (lt-leb d lastData k, move-role d k))
 ]
 
 -- ---- the count
 
 module _ (packing : Bool) (d : ℕ) (n : Count) where
   pub meaning-data : d ≤ lastData → true ≡ hasMeaning packing (known (typeNumbered d)) n
-  meaning-data h = rw (data-code d h)
+  meaning-data h = rw (data-role d h)
 
   pub meaning-back : lastData < d → (d ≡ skipNumber → ⊥) → (d ≡ gotoNumber → ⊥) → true ≡ hasMeaning packing (known (typeNumbered d)) n
   meaning-back h skip goto = rw (move-type d h, ne-eqb d skipNumber skip, ne-eqb d gotoNumber goto) (backs (eqb d backNumber))
@@ -167,5 +168,5 @@ real-power d l h = rw (lt-leb d lastIntegers l) (elim (decLe d lastSingle) [
   | no k ↦ (let m : lastSingle < d = lt-of-not-le k in let e : d / 2 - 5 ≡ 3 = omega arith in rw (lt-leb d lastSingle m, e))
 ])
 
-pub shape-fits : (d : ℕ) → d ≤ lastData → FitCode (Data (shapeNumbered d))
-shape-fits d h = let f : FitCode (known (typeNumbered d)) = known-fits (typeNumbered d) (type-fits d) in rw (data-code d h) at f
+pub shape-fits : (d : ℕ) → d ≤ lastData → FitRole (Data (shapeNumbered d))
+shape-fits d h = let f : FitRole (known (typeNumbered d)) = known-fits (typeNumbered d) (type-fits d) in rw (data-role d h) at f

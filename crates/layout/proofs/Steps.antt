@@ -1,5 +1,5 @@
--- One step of the layout reader, on plain values: a count, a flag, a word, and the field at a type character. Each law rewrites a definition by
--- what the code has tested.
+-- One step of the layout reader, on plain values: a count, a flag, a code, and the field at a type character. Each law
+-- rewrites a definition by what the code has tested.
 use Prim.Native.Nat.{ℕ, zero, suc, _+_, _-_, _*_, _/_, _%_, _^_, _≤_, _<_, min}
 use native.Mathlib.Nat.{add-zero, suc-ne-zero}
 use native.Mathlib.Numerals.{add-one}
@@ -11,21 +11,22 @@ use borrow.Author.Tests.{eq-eqb, ne-eqb, le-leb, lt-leb}
 use lib.Dec.{eqb, leb, ltb}
 use lib.ListN.{length, getD, drop, drop-of-length-le, length-drop}
 use lib.Seq.{drop-cons, drop-drop}
-use Rattle.layout.specs.declared.Code.{Code}
-use Rattle.layout.specs.declared.Code.the-variants.{Move}
+use Rattle.layout.specs.declared.Role.{Role}
+use Rattle.layout.specs.declared.Role.the-variants.{Move}
 use Rattle.layout.specs.declared.Motion.the-variants.{Skip, Goto}
 use Rattle.layout.specs.declared.Count.{Count}
 use Rattle.layout.specs.declared.Count.the-variants.{Absent, Star, Times}
 use Rattle.layout.specs.declared.Field.{Field}
 use Rattle.layout.specs.declared.Typed.{Typed}
 use Rattle.layout.specs.declared.Typed.the-variants.{Known, Unknown}
-use Rattle.layout.specs.declared.Refusal.the-variants.{UnknownType, CountTooLarge, CountMisused}
+use Rattle.layout.specs.declared.Refusal.the-variants.{BadType, BadCount, BadMove}
+use Rattle.layout.specs.declared.Found.the-variants.{Item, Bad}
 use Rattle.layout.specs.Refusals.{if_then_else_, refused}
 use Rattle.layout.specs.Layout.{maxCount, isDecimal, digitRun, decimal, typeOf, flagged, countOf, countLength, inLimit, hasMeaning, toNat, takesSlot, field, bad, fieldAfter, fieldAt, stepOf}
 use Rattle.layout.proofs.Encoded.{number-back, count-back}
 use Rattle.layout.proofs.Laws.{FitType, fit-either, decimal-held}
-use Rattle.layout.specs.declared.Found.the-variants.{Item, Bad}
-use Rattle.layout.specs.Words.{lastText, lastDigits, lastIntegers, lastData, skipNumber, backNumber, gotoNumber, lastType, typeNumbered, countFrom, known, HasType, fieldOf, wordOf, wordFor, overCount, heldNumber, NumberAt, CountAt, TailAt, FitCode, FitCount, FieldOf, FoundAs, flagUnit, countUnit}
+use Rattle.layout.specs.Codes.{lastText, lastDigits, lastIntegers, lastData, skipNumber, backNumber, gotoNumber, lastType, typeNumbered, countFrom, known, fieldOf, codeOf, codeFor, flagUnit, countUnit}
+use Rattle.layout.specs.inside.Parsing.{HasType, overCount, heldNumber, NumberAt, CountAt, TailAt, FitRole, FitCount, FieldOf, FoundAs}
 
 -- ---- a decimal number from the place i on
 
@@ -129,7 +130,7 @@ held-within Absent h = (refl, refl)
 held-within Star h = (refl, refl)
 held-within (Times n) h = let e : min overCount n ≡ n = omega arith in (le-leb n maxCount (omega arith), ap Times e)
 
--- ---- a word and its field
+-- ---- a code and its field
 
 bit-of : (u : Bool) → eqb (toNat u) 1 ≡ u
 bit-of true = refl
@@ -139,22 +140,22 @@ pub bit-le : (u : Bool) → toNat u ≤ 1
 bit-le true = omega arith
 bit-le false = omega arith
 
-pub word-field : (c : ℕ) (u : Bool) (n : ℕ) → c < 256 → fieldOf (wordOf c u n) ≡ record { code = known (typeNumbered c); unsigned = u; count = countFrom n }
+pub code-field : (c : ℕ) (u : Bool) (n : ℕ) → c < 256 → fieldOf (codeOf c u n) ≡ record { role = known (typeNumbered c); unsigned = u; count = countFrom n }
 unfolding fieldOf
-word-field c u n h =
+code-field c u n h =
     let small : toNat u ≤ 1 = bit-le u in
-    let low : wordOf c u n % flagUnit ≡ c = omega arith in
-    let upper : wordOf c u n / flagUnit ≡ toNat u + 2 * n = omega arith in
+    let low : codeOf c u n % flagUnit ≡ c = omega arith in
+    let upper : codeOf c u n / flagUnit ≡ toNat u + 2 * n = omega arith in
     let flag : (toNat u + 2 * n) % 2 ≡ toNat u = omega arith in
-    let high : wordOf c u n / countUnit ≡ n = omega arith in
+    let high : codeOf c u n / countUnit ≡ n = omega arith in
     rw (low, upper, flag, high, bit-of u)
 
--- a field's word comes back from the field
-pub word-back : (d : ℕ) (u : Bool) (n : ℕ) → d ≤ lastType → HasType d → wordFor (fieldOf (wordOf d u n)) ≡ wordOf d u n
-unfolding wordFor
-word-back d u n l h =
+-- a field's code comes back from the field
+pub code-back : (d : ℕ) (u : Bool) (n : ℕ) → d ≤ lastType → HasType d → codeFor (fieldOf (codeOf d u n)) ≡ codeOf d u n
+unfolding codeFor
+code-back d u n l h =
     let small : d < 256 = omega arith in
-    rw (word-field d u n small, number-back d l h, count-back n)
+    rw (code-field d u n small, number-back d l h, count-back n)
 
 width-fits : (a b c : Bool) → (0 < (if a then 1 else if b then 2 else if c then 4 else 8)) × ((if a then 1 else if b then 2 else if c then 4 else 8) ≤ 8)
 width-fits true b c = (omega arith, omega arith)
@@ -173,7 +174,7 @@ type-fits k =
     (fit-either (eqb k backNumber) _ _ tt
     (fit-either (eqb k gotoNumber) _ _ tt tt))))))
 
-pub known-fits : (t : Typed) → FitType t → FitCode (known t)
+pub known-fits : (t : Typed) → FitType t → FitRole (known t)
 known-fits (Known k) h = h
 known-fits Unknown h = tt
 
@@ -185,25 +186,25 @@ count-fits (suc (suc n)) h = omega arith
 pub field-fits : (w : ℕ) (f : Field) → w < 2 ^ 32 → f ≡ fieldOf w → FieldOf w f
 unfolding fieldOf
 field-fits w f h e =
-    record { same = e; code = rw e (known-fits (typeNumbered (w % flagUnit)) (type-fits (w % flagUnit))); count = rw e (count-fits (w / countUnit) (omega arith)) }
+    record { same = e; role = rw e (known-fits (typeNumbered (w % flagUnit)) (type-fits (w % flagUnit))); count = rw e (count-fits (w / countUnit) (omega arith)) }
 
 -- ---- the field at a type character
 
 module _ (packing : Bool) (p c : ℕ) (cs : List ℕ) (no-space : c ≡ 32 → ⊥) where
-  at-unknown : typeOf c ≡ Unknown → fieldAt packing p c cs ≡ refused UnknownType p
+  at-unknown : typeOf c ≡ Unknown → fieldAt packing p c cs ≡ refused BadType p
   unfolding fieldAt
   at-unknown e = rw (e, fieldAt)
 
-  at-known : (k : Code) → typeOf c ≡ Known k → fieldAt packing p c cs ≡ fieldAfter packing p k cs
+  at-known : (k : Role) → typeOf c ≡ Known k → fieldAt packing p c cs ≡ fieldAfter packing p k cs
   unfolding fieldAt
   at-known k e = rw (e, fieldAt)
 
-  pub step-unknown : typeOf c ≡ Unknown → stepOf packing p c cs ≡ bad UnknownType p
+  pub step-unknown : typeOf c ≡ Unknown → stepOf packing p c cs ≡ bad BadType p
   unfolding stepOf
   step-unknown e = rw (ne-eqb c 32 no-space, at-unknown e)
 
-  module _ (k : Code) (e : typeOf c ≡ Known k) (u : Bool) (flag : u ≡ flagged cs) (v : ℕ) (held : v ≡ heldNumber (countOf (drop (toNat u) cs))) where
-    pub step-large : lastCount < v → stepOf packing p c cs ≡ bad CountTooLarge (suc p + toNat u)
+  module _ (k : Role) (e : typeOf c ≡ Known k) (u : Bool) (flag : u ≡ flagged cs) (v : ℕ) (held : v ≡ heldNumber (countOf (drop (toNat u) cs))) where
+    pub step-large : lastCount < v → stepOf packing p c cs ≡ bad BadCount (suc p + toNat u)
     unfolding stepOf fieldAfter
     step-large h =
         let n : Count = countOf (drop (toNat u) cs) in
@@ -211,7 +212,7 @@ module _ (packing : Bool) (p c : ℕ) (cs : List ℕ) (no-space : c ≡ 32 → �
         rw (ne-eqb c 32 no-space, at-known k e, ← flag, over)
 
     module _ (within : v ≤ lastCount) where
-      pub step-meaningless : hasMeaning packing k (countFrom v) ≡ false → stepOf packing p c cs ≡ bad CountMisused p
+      pub step-meaningless : hasMeaning packing k (countFrom v) ≡ false → stepOf packing p c cs ≡ bad BadMove p
       unfolding stepOf fieldAfter
       step-meaningless m =
           let n : Count = countOf (drop (toNat u) cs) in
@@ -220,13 +221,13 @@ module _ (packing : Bool) (p c : ℕ) (cs : List ℕ) (no-space : c ≡ 32 → �
           rw (ne-eqb c 32 no-space, at-known k e, ← flag, w .0, ← same, m)
 
       pub step-field : (d : ℕ) → d < 256 → typeNumbered d ≡ Known k → hasMeaning packing k (countFrom v) ≡ true
-          → stepOf packing p c cs ≡ field (fieldOf (wordOf d u v)) (toNat u + countLength (drop (toNat u) cs))
+          → stepOf packing p c cs ≡ field (fieldOf (codeOf d u v)) (toNat u + countLength (drop (toNat u) cs))
       unfolding stepOf fieldAfter
       step-field d h type m =
           let n : Count = countOf (drop (toNat u) cs) in
           let w : (inLimit n ≡ true) × (countFrom (heldNumber n) ≡ n) = held-within n (omega arith) in
           let same : countFrom v ≡ n = ap countFrom held ∙ w .1 in
-          rw (ne-eqb c 32 no-space, at-known k e, ← flag, w .0, ← same, m, word-field d u v h, type)
+          rw (ne-eqb c 32 no-space, at-known k e, ← flag, w .0, ← same, m, code-field d u v h, type)
 
 -- ---- a field lies inside the text
 
@@ -253,7 +254,8 @@ unfolding flagged
 flag-within [] = omega arith
 flag-within (c ∷ cs) = omega (arith, bit-le (eqb c 117))
 
--- ---- what `read_field` has seen when the count is read: the type's number d, the flag b as a number, the count's number v, and the place e after it
+-- ---- what `read_field` has seen when the count is read: the type's number d, the flag b as a number, the count's
+-- number v, and the place e after it
 
 pub record Seen (text : List ℕ) (p d b v e : ℕ) : Type 0 where
   pub start : p < length text
@@ -264,7 +266,7 @@ pub record Seen (text : List ℕ) (p d b v e : ℕ) : Type 0 where
   pub tail : TailAt text (p + 1) b v e
 
 module _ (packing : Bool) (text : List ℕ) (p d b v e : ℕ) (s : Seen text p d b v e) where
-  abbrev k : Code
+  abbrev k : Role
   k = known (typeNumbered d)
 
   abbrev u : Bool
@@ -291,11 +293,11 @@ module _ (packing : Bool) (text : List ℕ) (p d b v e : ℕ) (s : Seen text p d
   number : v ≡ heldNumber (countOf (drop (toNat u) (drop (suc p) text)))
   number = s .tail .1 .0 ∙ ap (λ (cs : List ℕ). heldNumber (countOf cs)) tail
 
-  pub read-large : lastCount < v → FoundAs packing text p (Bad CountTooLarge (p + 1 + b))
+  pub read-large : lastCount < v → FoundAs packing text p (Bad BadCount (p + 1 + b))
   read-large h =
       record { step = rw place (step-large packing p _ _ (s .no-space) k typed u refl v number h); told = tt }
 
-  pub read-meaningless : v ≤ lastCount → hasMeaning packing k (countFrom v) ≡ false → FoundAs packing text p (Bad CountMisused p)
+  pub read-meaningless : v ≤ lastCount → hasMeaning packing k (countFrom v) ≡ false → FoundAs packing text p (Bad BadMove p)
   read-meaningless h m =
       record { step = step-meaningless packing p _ _ (s .no-space) k typed u refl v number h m; told = tt }
 
@@ -313,9 +315,9 @@ module _ (packing : Bool) (text : List ℕ) (p d b v e : ℕ) (s : Seen text p d
   pub read-item : v ≤ lastCount → hasMeaning packing k (countFrom v) ≡ true → (t : ℕ) → t ≡ toNat (takesSlot k)
       → FoundAs packing text p (Item (d + flagUnit * b + countUnit * v) (e - (p + 1)) t)
   read-item h m t slot =
-      let w : d + flagUnit * b + countUnit * v ≡ wordOf d u v = ap (λ (x : ℕ). d + flagUnit * x + countUnit * v) bit in
+      let w : d + flagUnit * b + countUnit * v ≡ codeOf d u v = ap (λ (x : ℕ). d + flagUnit * x + countUnit * v) bit in
       let small : d < 256 = omega (arith, s .low) in
       record {
         step = rw (w, more) (step-field packing p _ _ (s .no-space) k typed u refl v number h d small numbered m);
-        told = (slot ∙ (rw (w, word-field d u v small)), omega (arith, inside, s .start, s .tail .1 .1), rw w (word-back d u v (s .low) (s .named)));
+        told = (slot ∙ (rw (w, code-field d u v small)), omega (arith, inside, s .start, s .tail .1 .1), rw w (code-back d u v (s .low) (s .named)));
       }

@@ -1,4 +1,5 @@
--- The turns of `parse`'s loop, on plain values: what is read stands in front of what is to come, and each turn moves one field over.
+-- The turns of `parse`'s loop, on plain values: what is read stands in front of what is to come, and each turn moves
+-- one field over.
 use Prim.Native.Nat.{ℕ, suc, _+_, _≤_, _<_}
 use native.Mathlib.Omega.{arith}
 use mathlib.Core.Path.{_≡_, refl, sym, ap, _∙_}
@@ -10,8 +11,9 @@ use Rattle.layout.specs.declared.Refusal.{Refusal}
 use Rattle.layout.specs.declared.Parsed.the-variants.{Fields, Refused}
 use Rattle.layout.specs.declared.Found.the-variants.{Item, Bad}
 use Rattle.layout.specs.Refusals.{Result, ok, refused, _>>=_}
-use Rattle.layout.specs.Layout.{maxLayout, before, fieldsOf, slotCount}
-use Rattle.layout.specs.Words.{rest, fieldOf, wordFor, decoded, Parses, stepFound, FoundAs}
+use Rattle.layout.specs.Layout.{maxLayout, stepThen, fieldsOf, slotCount}
+use Rattle.layout.specs.Codes.{fieldOf, codeFor}
+use Rattle.layout.specs.inside.Parsing.{rest, decoded, Parses, stepFound, FoundAs}
 use Rattle.layout.proofs.Laws.{at-byte, at-end}
 use Rattle.layout.proofs.Decoded.{decoded-length, decoded-more, plan-more, slots-more, slots-le}
 
@@ -29,7 +31,7 @@ pub after-one : (fs : List Field) (f : Field) (r : Result (List Field)) → afte
 after-one fs f (ok gs) = ap ok (sym (append-assoc fs (f ∷ []) gs))
 after-one fs f (refused n p) = refl
 
--- ---- the loop: of the words, which are `size`, n are read from the text before `at`, and `slots` of these take a slot
+-- ---- the loop: of the codes, which are `size`, n are read from the text before `at`, and `slots` of these take a slot
 
 pub record Reading (packing : Bool) (text : List ℕ) (size at n slots : ℕ) (ws : List ℕ) : Type 0 where
   pub few : n ≤ at
@@ -38,7 +40,7 @@ pub record Reading (packing : Bool) (text : List ℕ) (size at n slots : ℕ) (w
   pub less : slots ≤ n
   pub so-far : rest packing text 0 ≡ after (decoded n ws) (rest packing text at)
   pub taken : slots ≡ slotCount (decoded n ws)
-  pub plan : map wordFor (decoded n ws) ≡ take n ws
+  pub plan : map codeFor (decoded n ws) ≡ take n ws
 
 module _ (packing : Bool) (text : List ℕ) (size : ℕ) where
   pub reading-none : (ws : List ℕ) → length ws ≡ size → Reading packing text size 0 0 0 ws
@@ -54,7 +56,7 @@ module _ (packing : Bool) (text : List ℕ) (size : ℕ) where
     pub reading-more : (w m k : ℕ) → at < length text → FoundAs packing text at (Item w m k) → Reading packing text size (at + 1 + m) (n + 1) (slots + k) (set ws n w)
     reading-more w m k h a =
         let step = a .step in
-        let e : rest packing text at ≡ before (stepFound (Item w m k)) (rest packing text (suc at + m)) = rw step at (at-byte packing text at h) in
+        let e : rest packing text at ≡ stepThen (stepFound (Item w m k)) (rest packing text (suc at + m)) = rw step at (at-byte packing text at h) in
         let d : decoded (n + 1) (set ws n w) ≡ decoded n ws ++ (fieldOf w ∷ []) = decoded-more n w ws (omega (arith, fits, r .few, r .long)) in
         let next : at + 1 + m ≡ suc at + m = omega arith in
         record {
@@ -73,7 +75,7 @@ module _ (packing : Bool) (text : List ℕ) (size : ℕ) where
         let step = a .step in
         let e : rest packing text at ≡ refused why place = rw step at (at-byte packing text at h) in
         let o : fieldsOf packing text ≡ refused why place = r .so-far ∙ ap (after (decoded n ws)) e in
-        rw o (record { answer = refl; words = tt; plan = tt; room = omega (arith, fits, r .long) })
+        rw o (record { answer = refl; codes = tt; plan = tt; room = omega (arith, fits, r .long) })
 
     pub reading-done : length text ≤ at → Parses (fieldsOf packing text) (Fields n slots) ws
     unfolding fieldsOf rest
@@ -81,4 +83,4 @@ module _ (packing : Bool) (text : List ℕ) (size : ℕ) where
         let e : rest packing text at ≡ ok [] = at-end packing text at h in
         let o : fieldsOf packing text ≡ ok (decoded n ws) = r .so-far ∙ ap (after (decoded n ws)) e ∙ ap ok (append-nil (decoded n ws)) in
         let l : length (decoded n ws) ≡ n = decoded-length n ws (omega (arith, fits, r .few, r .within, r .long)) in
-        rw o (record { answer = rw (l, ← r .taken) refl; words = ap (λ (i : ℕ). decoded i ws) l; plan = rw l (r .plan); room = omega (arith, fits, r .long) })
+        rw o (record { answer = rw (l, ← r .taken) refl; codes = ap (λ (i : ℕ). decoded i ws) l; plan = rw l (r .plan); room = omega (arith, fits, r .long) })

@@ -1,41 +1,38 @@
--- The text of a layout (01, Layout text, and the numbers 2, 3 and 4 of its table): from bytes to fields.
--- The types Code, Shape, Motion, Count and Field are the source's. A text is the list of its bytes, and a place is an index into it.
+-- The text of a layout (01, Layout text, and the numbers 2, 3 and 4 of its table): from bytes to fields. The types
+-- Role, Shape, Motion, Count and Field are the source's (src/lib.rt). A text is the list of its bytes, and a place is
+-- an index into it.
 use Prim.Native.Nat.{ℕ, zero, suc, _+_, _-_, _*_}
 use mathlib.Core.Bool.{Bool, true, false, _&&_, not}
 use mathlib.Core.List.{List, [], _∷_}
 use lib.ListN.{drop}
 use lib.Dec.{eqb, leb}
-use Rattle.layout.specs.declared.Code.{Code}
-use Rattle.layout.specs.declared.Code.the-variants.{Data, Move}
-use Rattle.layout.specs.declared.Motion.the-variants.{Skip, Back, Goto}
+use Rattle.layout.specs.declared.Role.{Role}
+use Rattle.layout.specs.declared.Role.the-variants.{Data, Move}
 use Rattle.layout.specs.declared.Shape.the-variants.{Text, Digits, Integers, Reals}
+use Rattle.layout.specs.declared.Motion.the-variants.{Skip, Back, Goto}
 use Rattle.layout.specs.declared.Count.{Count}
 use Rattle.layout.specs.declared.Count.the-variants.{Absent, Star, Times}
 use Rattle.layout.specs.declared.Field.{Field}
 use Rattle.layout.specs.declared.Typed.{Typed}
 use Rattle.layout.specs.declared.Typed.the-variants.{Known, Unknown}
 use Rattle.layout.specs.declared.Refusal.{Refusal}
-use Rattle.layout.specs.declared.Refusal.the-variants.{UnknownType, CountTooLarge, CountMisused}
+use Rattle.layout.specs.declared.Refusal.the-variants.{BadType, BadCount, BadMove}
 use Rattle.layout.specs.Refusals.{if_then_else_, Result, ok, refused, _>>=_, demand}
 
 -- ---- the limits (01, Slot tables, sizes)
 
--- the bytes of a layout
+-- the most bytes of a layout
 abbrev pub maxLayout : ℕ
 maxLayout = 256
 
--- the bytes of a layout that is read into a small array; both ways of reading it answer the same
-abbrev pub shortLayout : ℕ
-shortLayout = 32
-
--- a count
+-- the largest count
 abbrev pub maxCount : ℕ
 maxCount = 32768
 
 -- ---- the type characters (01, What the work covers)
 
--- the pad of a text; hex or binary digits, high or low digit first; an integer's bytes, big- or little-endian; a real as a single or a double, big- or
--- little-endian (02, M-108)
+-- what a type character stands for: the pad of a text; hex or binary digits, high or low digit first; an integer's
+-- bytes, big- or little-endian; a real as a single or a double, big- or little-endian (02, M-108)
 unfoldable pub typeOf : ℕ → Typed
 typeOf c =
     if eqb c 97 then Known (Data (Text 0))  -- a
@@ -61,9 +58,14 @@ typeOf c =
     else Unknown
 
 -- what moves the cursor has no slot, and everything else has one (01, Layout text)
-abbrev pub takesSlot : Code → Bool
+abbrev pub takesSlot : Role → Bool
 takesSlot (Data s) = true
 takesSlot (Move m) = false
+
+-- the bytes of a real: a single or a double
+abbrev pub realSize : Bool → ℕ
+realSize true = 4
+realSize false = 8
 
 -- 1 for true, 0 for false
 abbrev pub toNat : Bool → ℕ
@@ -85,10 +87,10 @@ unfoldable pub digitRun : List ℕ → ℕ
 digitRun [] = 0
 digitRun (c ∷ cs) = if isDecimal c then suc (digitRun cs) else 0
 
--- the number that those digits make, after digits that made `before`; leading zeros change nothing
+-- the number that the digits in front make, after digits that made `value`; leading zeros change nothing
 unfoldable pub decimal : ℕ → List ℕ → ℕ
-decimal before [] = before
-decimal before (c ∷ cs) = if isDecimal c then decimal (10 * before + (c - 48)) cs else before
+decimal value [] = value
+decimal value (c ∷ cs) = if isDecimal c then decimal (10 * value + (c - 48)) cs else value
 
 -- the count in front, `*` (byte 42) or digits, and how many bytes it takes
 unfoldable pub countOf : List ℕ → Count
@@ -107,8 +109,8 @@ inLimit Absent = true
 inLimit Star = true
 inLimit (Times n) = leb n maxCount
 
--- a count means something after a type, so that number 4 does not apply: `@` has one, and in packing `x` has no star
-abbrev pub hasMeaning : Bool → Code → Count → Bool
+-- a count means something for a role, so that number 4 does not apply: `@` has one, and in packing `x` has no star
+abbrev pub hasMeaning : Bool → Role → Count → Bool
 hasMeaning packing (Data s) n = true
 hasMeaning packing (Move Skip) Absent = true
 hasMeaning packing (Move Skip) Star = not packing
@@ -130,38 +132,39 @@ abbrev pub stepFrom : Result (Field × ℕ) → Step
 stepFrom (ok f) = field (f .0) (f .1)
 stepFrom (refused why place) = bad why place
 
--- the field of type k at the place `at`, whose flag and count stand in front of cs; and how many bytes those take. A count over the limit is
--- refused at its own first digit (02, M-106), one that is missing or means nothing at the type character.
-unfoldable pub fieldAfter : Bool → ℕ → Code → List ℕ → Result (Field × ℕ)
+-- the field of the role k at the place `at`, whose flag and count stand in front of cs; and how many bytes those take.
+-- A count over the limit is refused at its own first digit (02, M-106), one that is missing or means nothing at the
+-- type character.
+unfoldable pub fieldAfter : Bool → ℕ → Role → List ℕ → Result (Field × ℕ)
 unfolding flagged countOf countLength
 fieldAfter packing at k cs = do
   let u = flagged cs
   let rest = drop (toNat u) cs
   let n = countOf rest
-  _ ← demand (inLimit n) CountTooLarge (suc at + toNat u)
-  _ ← demand (hasMeaning packing k n) CountMisused at
-  ok (record { code = k; unsigned = u; count = n }, toNat u + countLength rest)
+  _ ← demand (inLimit n) BadCount (suc at + toNat u)
+  _ ← demand (hasMeaning packing k n) BadMove at
+  ok (record { role = k; unsigned = u; count = n }, toNat u + countLength rest)
 
 -- the field whose type character c stands at the place `at`, followed by cs
 unfoldable pub fieldAt : Bool → ℕ → ℕ → List ℕ → Result (Field × ℕ)
 unfolding typeOf fieldAfter
-fieldAt packing at c cs = elim (typeOf c) [ Known k ↦ fieldAfter packing at k cs | Unknown ↦ refused UnknownType at ]
+fieldAt packing at c cs = elim (typeOf c) [ Known k ↦ fieldAfter packing at k cs | Unknown ↦ refused BadType at ]
 
 unfoldable pub stepOf : Bool → ℕ → ℕ → List ℕ → Step
 unfolding fieldAt
 stepOf packing at c cs = if eqb c 32 then space else stepFrom (fieldAt packing at c cs)
 
 -- how many bytes after the one at its place a step takes
-abbrev pub extra : Step → ℕ
-extra space = 0
-extra (field f n) = n
-extra (bad why place) = 0
+abbrev pub stepExtra : Step → ℕ
+stepExtra space = 0
+stepExtra (field f n) = n
+stepExtra (bad why place) = 0
 
--- a step in front of the fields that follow
-abbrev pub before : Step → Result (List Field) → Result (List Field)
-before space rest = rest
-before (field f n) rest = rest >>= (λ fs. ok (f ∷ fs))
-before (bad why place) rest = refused why place
+-- the fields from a step on: the step, and the fields that follow it (`rest`)
+abbrev pub stepThen : Step → Result (List Field) → Result (List Field)
+stepThen space rest = rest
+stepThen (field f n) rest = rest >>= (λ fs. ok (f ∷ fs))
+stepThen (bad why place) rest = refused why place
 
 -- the fields of the text from the place `at` on, after its next n bytes, which belong to the field before
 unfoldable pub fieldsFrom : Bool → ℕ → ℕ → List ℕ → Result (List Field)
@@ -170,15 +173,18 @@ fieldsFrom packing at n [] = ok []
 fieldsFrom packing at (suc n) (c ∷ cs) = fieldsFrom packing (suc at) n cs
 fieldsFrom packing at zero (c ∷ cs) =
     let s = stepOf packing at c cs in
-    let rest = fieldsFrom packing (suc at) (extra s) cs in
-    before s rest
+    let rest = fieldsFrom packing (suc at) (stepExtra s) cs in
+    stepThen s rest
 
 -- THE FIELDS OF A LAYOUT, for packing (true) or reading (false), or the first refusal from the left
 unfoldable pub fieldsOf : Bool → List ℕ → Result (List Field)
 unfolding fieldsFrom
 fieldsOf packing text = fieldsFrom packing 0 0 text
 
--- how many of the fields take a slot
+-- the slots that one field takes, and how many of a run of fields take one
+abbrev pub slotsTaken : Field → ℕ
+slotsTaken f = toNat (takesSlot (f .role))
+
 unfoldable pub slotCount : List Field → ℕ
 slotCount [] = 0
-slotCount (f ∷ fs) = if takesSlot (f .code) then suc (slotCount fs) else slotCount fs
+slotCount (f ∷ fs) = if takesSlot (f .role) then suc (slotCount fs) else slotCount fs

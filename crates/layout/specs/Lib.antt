@@ -1,7 +1,8 @@
--- The definitions of layout text. Read Refusals, then Layout; Words is the form in which the code hands the fields on. Lent is what every contract
--- says of the runs that are lent.
+-- The text of a layout. Read Refusals, then Layout; Codes is the form in which a plan holds the fields. Lent is how
+-- every contract names what a lent run holds before a call and after it, and Quoted a text as its bytes.
 pub mod Refusals
 pub mod Layout
-pub mod Quoted
-pub mod Words
+pub mod Codes
 pub mod Lent
+pub mod Quoted
+pub mod inside

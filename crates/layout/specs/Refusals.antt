@@ -3,24 +3,24 @@
 use Prim.Native.Nat.{ℕ, suc}
 use mathlib.Core.Bool.{Bool, true, false}
 use Rattle.layout.specs.declared.Refusal.{Refusal}
-use Rattle.layout.specs.declared.Refusal.the-variants.{BadSize, UnknownType, CountTooLarge, CountMisused, WrongSlots, NotSet, BadSlot, WrongKind, WrongAmount, BadDigit, NoRoom, BadSheet, BadVersion, BadMark, BadTemplate, BadReal}
+use Rattle.layout.specs.declared.Refusal.the-variants.{BadSize, BadType, BadCount, BadMove, BadSlots, NotSet, BadSlot, WrongKind, BadList, BadDigit, NoRoom, BadSheet, BadVersion, BadMark, BadTemplate, BadReal}
 
 infixr 10 if_then_else_
 abbrev pub if_then_else_ {ℓ} : {A : Type ℓ} → Bool → A → A → A
 if_then_else_ true a b = a
 if_then_else_ false a b = b
 
--- the line of the table, counted from 0 as bytes and slots are
+-- the line of a refusal in the table, counted from 0 as bytes and slots are
 abbrev pub lineOf : Refusal → ℕ
 lineOf BadSize = 0
-lineOf UnknownType = 1
-lineOf CountTooLarge = 2
-lineOf CountMisused = 3
-lineOf WrongSlots = 4
+lineOf BadType = 1
+lineOf BadCount = 2
+lineOf BadMove = 3
+lineOf BadSlots = 4
 lineOf NotSet = 5
 lineOf BadSlot = 6
 lineOf WrongKind = 7
-lineOf WrongAmount = 8
+lineOf BadList = 8
 lineOf BadDigit = 9
 lineOf NoRoom = 10
 lineOf BadSheet = 11
@@ -29,7 +29,7 @@ lineOf BadMark = 13
 lineOf BadTemplate = 14
 lineOf BadReal = 15
 
--- its number: 0 is that of an accepted call, so the first line has 1
+-- the number of a refusal: 0 is that of an accepted call, so the first line has 1
 abbrev pub numberOf : Refusal → ℕ
 numberOf why = suc (lineOf why)
 
@@ -38,13 +38,14 @@ pub data Result (A : Type 0) : Type 0 where
   ok : A → Result A
   refused : Refusal → ℕ → Result A
 
--- One check after the other, in a `do` block: the first that fails gives the result, and those after it are not looked at.
+-- One check after the other, in a `do` block: the first that fails gives the result, and those after it are not looked
+-- at.
 infixl 20 _>>=_
 abbrev pub _>>=_ : {A B : Type 0} → Result A → (A → Result B) → Result B
 ok a >>= f = f a
 refused why place >>= f = refused why place
 
--- passes where the test does, and else refuses at the place
+-- one check: passes where the test is true, and else refuses at the place
 abbrev pub demand : Bool → Refusal → ℕ → Result (Unit {0})
 demand true why place = ok tt
 demand false why place = refused why place

@@ -1,42 +1,84 @@
-// Layouts: what a field is, the limits of a layout, and a field as one number, a word.
+// Layouts: what a field is, the limits of a layout, and a field as one number, a code.
 ghost use mathlib.Core.Path.{_≡_};
 ghost use Prim.Native.Nat.{_^_, _≤_, _<_};
-ghost use Rattle.layout.specs.Words.{lastDigits, lastData, typeNumbered, widthNumbered, sizeNumbered, countFrom, known, FieldOf, slotsNumbered};
+ghost use Rattle.layout.specs.Codes.{lastDigits, lastData, typeNumbered, widthNumbered, countFrom, known};
+ghost use Rattle.layout.specs.inside.Parsing.{sizeNumbered, FieldOf, slotsNumbered};
 
 // The pieces of a layout's text.
 pub mod scanner;
 // The layout reader, on whose contract alone packer and reader rely.
 pub mod parser;
 
-// The limit of a layout (01, Slot tables, sizes). A field has a byte at least, so that so many words hold the fields of a layout.
+// The limit of a layout (01, Slot tables, sizes). A field has a byte at least, so that as many codes hold the fields of
+// any layout.
 pub const MAX_LAYOUT: usize = 256;
 
-// A layout of so many bytes is read into a small array: to clear the large one costs more than a small record.
+// The most bytes of a layout that is read into a small array: to clear the large one costs more than a small record.
 pub const SHORT_LAYOUT: usize = 32;
 
-// The types by number: texts come first, then digits, then integers, then reals, each up to its last number, and these take a slot.
-// The moves stand behind a gap that has room for further types.
-pub const LAST_TEXT: u32 = 1;
+// The types by number, each with its character: texts come first, then digits, then integers, then reals, and these
+// take a slot. Of integers and reals an even number is little-endian and the next one big-endian. The moves stand
+// after a gap that has room for further types.
+pub const TEXT_ZERO: u32 = 0; // a, padded with zero bytes
 
-pub const LAST_BINARY: u32 = 3;
+pub const TEXT_SPACE: u32 = 1; // A, padded with spaces
 
-pub const LAST_DIGITS: u32 = 5;
+pub const BINARY_LOW: u32 = 2; // b, the first digit in the low bit
 
-pub const LAST_INTEGERS: u32 = 13;
+pub const BINARY_HIGH: u32 = 3; // B
 
-pub const LAST_SINGLE: u32 = 15;
+pub const HEX_LOW: u32 = 4; // h, the first digit in the low half
 
-pub const LAST_DATA: u32 = 17;
+pub const HEX_HIGH: u32 = 5; // H
 
-pub const SKIP: u32 = 24;
+pub const INT_8: u32 = 6; // c
 
-const BACK: u32 = 25;
+// One byte has no order, so no character has this number: a plan that holds it is refused. Every pass would take it for
+// `c`.
+pub const INT_8_BIG: u32 = 7;
 
-pub const GOTO: u32 = 26;
+pub const INT_16: u32 = 8; // s
+
+pub const INT_16_BIG: u32 = 9; // S
+
+pub const INT_32: u32 = 10; // i
+
+pub const INT_32_BIG: u32 = 11; // I
+
+pub const INT_64: u32 = 12; // w
+
+pub const INT_64_BIG: u32 = 13; // W
+
+pub const SINGLE: u32 = 14; // r
+
+pub const SINGLE_BIG: u32 = 15; // R
+
+pub const DOUBLE: u32 = 16; // q
+
+pub const DOUBLE_BIG: u32 = 17; // Q
+
+pub const SKIP: u32 = 24; // x
+
+pub const BACK: u32 = 25; // X
+
+pub const GOTO: u32 = 26; // @
+
+// The last type of each group.
+pub const LAST_TEXT: u32 = TEXT_SPACE;
+
+pub const LAST_BINARY: u32 = BINARY_HIGH;
+
+pub const LAST_DIGITS: u32 = HEX_HIGH;
+
+pub const LAST_INTEGERS: u32 = INT_64_BIG;
+
+pub const LAST_SINGLE: u32 = SINGLE_BIG;
+
+pub const LAST_DATA: u32 = DOUBLE_BIG;
 
 pub const LAST_TYPE: u32 = GOTO;
 
-// A word: the number of the type, one unit for the flag, and a unit for each of the count's number.
+// A code: the number of the type, one unit for the flag, and a unit for each of the count's number.
 pub const FLAG_UNIT: u32 = 256;
 
 pub const COUNT_UNIT: u32 = 2 * FLAG_UNIT;
@@ -61,7 +103,7 @@ pub enum Motion {
 }
 
 // What a field does, by its type character.
-pub enum Code {
+pub enum Role {
     Data(Shape),
     Move(Motion),
 }
@@ -69,14 +111,14 @@ pub enum Code {
 // What a call is refused with, in the order of the numbers (01, Numbers that come back).
 pub enum Refusal {
     BadSize,
-    UnknownType,
-    CountTooLarge,
-    CountMisused,
-    WrongSlots,
+    BadType,
+    BadCount,
+    BadMove,
+    BadSlots,
     NotSet,
     BadSlot,
     WrongKind,
-    WrongAmount,
+    BadList,
     BadDigit,
     NoRoom,
     BadSheet,
@@ -93,14 +135,14 @@ pub enum Count {
 }
 
 pub struct Field {
-    pub code: Code,
+    pub role: Role,
     pub unsigned: bool,
     pub count: Count,
 }
 
 // What a type character stands for.
 pub enum Typed {
-    Known(Code),
+    Known(Role),
     Unknown,
 }
 
@@ -110,7 +152,8 @@ pub enum Parsed {
     Refused(Refusal, usize),
 }
 
-// What `read_field` finds: the field's word, how many bytes follow its type character, and how many slots it takes; or a refusal and its place.
+// What `read_field` finds: the field's code, how many bytes follow its type character, and how many slots it takes; or
+// a refusal and its place.
 pub enum Found {
     Item(u32, usize, usize),
     Bad(Refusal, usize),
@@ -119,14 +162,19 @@ pub enum Found {
 fn width(k: u32) -> usize
     ensures { λ r. ⌜ r ≡ widthNumbered k ⌝ }
 {
-    if k < 8 {
+    if k < INT_16 {
         return 1;
     }
-    if k < 10 {
+    if k < INT_32 {
         return 2;
     }
-    if k < 12 { 4 } else { 8 }
+    if k < INT_64 { 4 } else { 8 }
 }
+
+// A type's number goes up by two for each power of two of its bytes, from `c` (one byte) on and again from `r` (four).
+const INTEGER_POWERS: u32 = INT_8 / 2;
+
+const REAL_POWERS: u32 = SINGLE / 2 - 2;
 
 // The bytes of an item of type d, an integer or a real, as a power of two.
 pub fn width_power(d: u32) -> u32
@@ -134,9 +182,9 @@ pub fn width_power(d: u32) -> u32
     ensures { λ r. ⌜ (2 ^ r ≡ sizeNumbered d) × (r ≤ 3) ⌝ }
 {
     if d <= LAST_INTEGERS {
-        d / 2 - 3
+        d / 2 - INTEGER_POWERS
     } else {
-        d / 2 - 5
+        d / 2 - REAL_POWERS
     }
 }
 
@@ -144,25 +192,25 @@ fn type_numbered(k: u32) -> Typed
     ensures { λ r. ⌜ r ≡ typeNumbered k ⌝ }
 {
     if k <= LAST_TEXT {
-        return Typed::Known(Code::Data(Shape::Text((32 * k) as u8)));
+        return Typed::Known(Role::Data(Shape::Text((32 * k) as u8)));
     }
     if k <= LAST_DIGITS {
-        return Typed::Known(Code::Data(Shape::Digits(LAST_BINARY < k, k % 2 == 1)));
+        return Typed::Known(Role::Data(Shape::Digits(LAST_BINARY < k, k % 2 == 1)));
     }
     if k <= LAST_INTEGERS {
-        return Typed::Known(Code::Data(Shape::Integers(width(k), k % 2 == 1)));
+        return Typed::Known(Role::Data(Shape::Integers(width(k), k % 2 == 1)));
     }
     if k <= LAST_DATA {
-        return Typed::Known(Code::Data(Shape::Reals(k <= LAST_SINGLE, k % 2 == 1)));
+        return Typed::Known(Role::Data(Shape::Reals(k <= LAST_SINGLE, k % 2 == 1)));
     }
     if k == SKIP {
-        return Typed::Known(Code::Move(Motion::Skip));
+        return Typed::Known(Role::Move(Motion::Skip));
     }
     if k == BACK {
-        return Typed::Known(Code::Move(Motion::Back));
+        return Typed::Known(Role::Move(Motion::Back));
     }
     if k == GOTO {
-        return Typed::Known(Code::Move(Motion::Goto));
+        return Typed::Known(Role::Move(Motion::Goto));
     }
     Typed::Unknown
 }
@@ -180,25 +228,25 @@ pub fn count_from(n: u32) -> Count
     Count::Times((n - 2) as usize)
 }
 
-fn code_numbered(k: u32) -> Code
+fn role_numbered(k: u32) -> Role
     ensures { λ r. ⌜ r ≡ known (typeNumbered k) ⌝ }
 {
     let t = type_numbered(k);
-    let Typed::Known(code) = t else {
-        return Code::Move(Motion::Back);
+    let Typed::Known(role) = t else {
+        return Role::Move(Motion::Back);
     };
-    code
+    role
 }
 
-// The field that a word stands for.
-pub fn field_of(word: u32) -> Field
-    ensures { λ r. ⌜ FieldOf word r ⌝ }
+// The field that a code stands for.
+pub fn field_of(code: u32) -> Field
+    ensures { λ r. ⌜ FieldOf code r ⌝ }
 {
-    let n = count_from(word / COUNT_UNIT);
-    let k = code_numbered(word % FLAG_UNIT);
+    let n = count_from(code / COUNT_UNIT);
+    let k = role_numbered(code % FLAG_UNIT);
     Field {
-        code: k,
-        unsigned: word / FLAG_UNIT % 2 == 1,
+        role: k,
+        unsigned: code / FLAG_UNIT % 2 == 1,
         count: n,
     }
 }

@@ -3,9 +3,12 @@ ghost use mathlib.Core.Path.{_≡_};
 ghost use Prim.Native.Nat.{_+_, _-_, _*_, _≤_, _<_, min};
 ghost use lib.ListN.{length};
 ghost use Rattle.layout.specs.Layout.{typeOf};
-ghost use Rattle.layout.specs.Words.{overCount, HasType, typeNumbered, SpacesEnd, NumberAt, CountAt, TailAt};
+ghost use Rattle.layout.specs.Codes.{typeNumbered};
+ghost use Rattle.layout.specs.inside.Parsing.{overCount, HasType, SpacesEnd, NumberAt, CountAt, TailAt};
+ghost use Rattle.layout.specs.Lent.{before};
 
-// The limit of a count (01, Slot tables, sizes), where a larger one is held, and the number that the largest has in a word.
+// The limit of a count (01, Slot tables, sizes), where a larger one is held, and the number that the largest has in a
+// code.
 const MAX_COUNT: u32 = 32768;
 
 const OVER_COUNT: u32 = MAX_COUNT + 1;
@@ -25,38 +28,39 @@ pub struct Tail {
     pub next: usize,
 }
 
-// The number of the type whose character stands n places after `@`; above the last where there is none. The arm of 28 fills gaps, so that the compiler
-// makes a table.
+// The number of the type whose character stands n places after `@`; above the last where there is none. The arm of 28
+// fills gaps, so that the compiler makes a table.
 fn letter(n: u8) -> u8
     ensures { λ r. ⌜ (typeOf (n + 64) ≡ typeNumbered r) × HasType r × (r ≤ 28) ⌝ }
 {
     match n {
-        0 => 26,
-        1 => 1,
-        2 => 3,
-        8 => 5,
-        9 => 11,
-        17 => 17,
-        18 => 15,
-        19 => 9,
-        23 => 13,
-        24 => 25,
-        33 => 0,
-        34 => 2,
-        35 => 6,
-        40 => 4,
-        41 => 10,
-        49 => 16,
-        50 => 14,
-        51 => 8,
-        55 => 12,
-        56 => 24,
+        0 => 26, // @
+        1 => 1, // A
+        2 => 3, // B
+        8 => 5, // H
+        9 => 11, // I
+        17 => 17, // Q
+        18 => 15, // R
+        19 => 9, // S
+        23 => 13, // W
+        24 => 25, // X
+        33 => 0, // a
+        34 => 2, // b
+        35 => 6, // c
+        40 => 4, // h
+        41 => 10, // i
+        49 => 16, // q
+        50 => 14, // r
+        51 => 8, // s
+        55 => 12, // w
+        56 => 24, // x
         3..=7 | 36..=39 | 42 | 63 => 28,
         _ => 27,
     }
 }
 
-// The number of the type that a byte of the text names; above the last where it names none. All type characters are among the 64 from `@` on.
+// The number of the type that a byte of the text names; above the last where it names none. All type characters are
+// among the 64 from `@` on.
 pub fn type_number(c: u8) -> u32
     ensures { λ r. ⌜ (typeOf c ≡ typeNumbered r) × HasType r ⌝ }
 {
@@ -67,7 +71,7 @@ pub fn type_number(c: u8) -> u32
 // The place after the spaces from `at` on.
 pub fn spaces_end(text: &[u8], at: usize) -> usize
     requires { ⌜ at ≤ length (now text) ⌝ }
-    ensures { λ r. ⌜ SpacesEnd (now (text .entry)) at r ⌝ }
+    ensures { λ r. ⌜ SpacesEnd (before text) at r ⌝ }
 {
     let mut i = at;
     while i < text.len() {
@@ -91,7 +95,7 @@ fn more(v: u32, c: u8) -> u32
 
 // The number that the decimal digits from `at` on make, held just above the limit, and the place after them.
 fn number(text: &[u8], at: usize) -> Numeral
-    ensures { λ r. ⌜ NumberAt (now (text .entry)) at (r .value) (r .next) ⌝ }
+    ensures { λ r. ⌜ NumberAt (before text) at (r .value) (r .next) ⌝ }
 {
     let mut v: u32 = 0;
     let mut i = at;
@@ -111,7 +115,7 @@ fn number(text: &[u8], at: usize) -> Numeral
 
 // The number of the count that stands at `at`, held, and the place after it.
 fn count_at(text: &[u8], at: usize) -> Numeral
-    ensures { λ r. ⌜ CountAt (now (text .entry)) at (r .value) (r .next) ⌝ }
+    ensures { λ r. ⌜ CountAt (before text) at (r .value) (r .next) ⌝ }
 {
     if text.len() <= at {
         return Numeral { value: 0, next: at };
@@ -141,7 +145,7 @@ fn count_at(text: &[u8], at: usize) -> Numeral
 
 // The flag and the count that stand at `at`, after a type character.
 pub fn tail_at(text: &[u8], at: usize) -> Tail
-    ensures { λ r. ⌜ TailAt (now (text .entry)) at (r .flag) (r .value) (r .next) ⌝ }
+    ensures { λ r. ⌜ TailAt (before text) at (r .flag) (r .value) (r .next) ⌝ }
 {
     if text.len() <= at {
         return Tail {

@@ -1,4 +1,4 @@
--- Where a field ends: a byte behind it belongs to it just where both together are a field. So a byte breaks the form of
+-- Where a field ends: a byte after it belongs to it just where both together are a field. So a byte breaks the form of
 -- a text just where it is no space, no type character, and does not belong to the field right before it.
 use Prim.Native.Nat.{ℕ, _+_}
 use native.Mathlib.Omega.{arith}
@@ -8,7 +8,7 @@ use mathlib.Core.List.{List, [], _∷_, _++_, append-assoc, append-nil}
 use borrow.Author.Tests.{ne-eqb}
 use lib.Dec.{eqb}
 use lib.ListN.{length, length-append}
-use Rattle.layout.specs.declared.Code.{Code}
+use Rattle.layout.specs.declared.Role.{Role}
 use Rattle.layout.specs.declared.Count.{Count}
 use Rattle.layout.specs.declared.Count.the-variants.{Absent, Star}
 use Rattle.layout.specs.declared.Field.{Field}
@@ -21,7 +21,7 @@ use Rattle.layout_claims.specs.Claim.{Strays}
 use Rattle.layout_claims.proofs.Scan.{never, digit, Loose, not-known, Apart, apart-end, apart-loose}
 use Rattle.layout_claims.proofs.Form.{Starts, starts, unspaced, join, alone, sizeIn, First, first, Split, split}
 
--- ---- what stands behind a field
+-- ---- what stands after a field
 
 -- a field takes all its bytes
 whole : {f : Field} {text : List ℕ} → Writes f text → (c : ℕ) (cs : List ℕ) → text ≡ c ∷ cs → sizeIn cs ≡ length cs
@@ -32,7 +32,7 @@ whole (written {k = k} {u = u} {n = n} {count = count} e q) c cs h =
     let bare : sizeIn bytes ≡ length bytes = rw append-nil at size in
     rw same at bare
 
-module _ {n : Count} {count : List ℕ} (c : ℕ) (k : Code) (u : Bool) (e : typeOf c ≡ Known k) (q : Counts n count) where
+module _ {n : Count} {count : List ℕ} (c : ℕ) (k : Role) (u : Bool) (e : typeOf c ≡ Known k) (q : Counts n count) where
   abbrev bytes : List ℕ
   bytes = c ∷ (flag u ++ count)
 
@@ -53,7 +53,7 @@ module _ {n : Count} {count : List ℕ} (c : ℕ) (k : Code) (u : Bool) (e : typ
 
   no-count : {m : Count} (b : ℕ) → ((f : Field) → Writes f (bytes ++ (b ∷ [])) → ⊥) → Counts m (count ++ (b ∷ [])) → ⊥
   no-count {m} b ends r =
-      ends (record { code = k; unsigned = u; count = m }) (rw (append-assoc (flag u) count (b ∷ [])) (written e r))
+      ends (record { role = k; unsigned = u; count = m }) (rw (append-assoc (flag u) count (b ∷ [])) (written e r))
 
 digits-more : (ds : List ℕ) (b : ℕ) → Digits ds → Digit b → Digits (ds ++ (b ∷ []))
 digits-more [] b h d = (d, tt)
@@ -67,7 +67,7 @@ not-digit b h = go (isDecimal b) refl
     go false e = refl
 
 -- what is no field together with a field does not belong to it
-pub ends-apart : {n : Count} {count : List ℕ} (c : ℕ) (k : Code) (u : Bool) → typeOf c ≡ Known k → Counts n count
+pub ends-apart : {n : Count} {count : List ℕ} (c : ℕ) (k : Role) (u : Bool) → typeOf c ≡ Known k → Counts n count
     → (b : ℕ) (more : List ℕ) → ((f : Field) → Writes f ((c ∷ (flag u ++ count)) ++ (b ∷ [])) → ⊥)
     → Apart u n (b ∷ more)
 unfolding flagged
@@ -90,7 +90,7 @@ ends-apart c k u e absent b more h =
         → eqb b 117 ≡ false
     by-flag true z g = never (cc)
     by-flag false z g =
-        ne-eqb b 117 (λ y. g (record { code = k; unsigned = true; count = Absent }) (rw y (written e absent)))
+        ne-eqb b 117 (λ y. g (record { role = k; unsigned = true; count = Absent }) (rw y (written e absent)))
 
 -- ---- a byte that goes on with the field before it
 
@@ -125,7 +125,7 @@ loose-ends text c l g = go (g .short .1) (g .long .0) (g .long .1)
     go (written {c = b} {k = k} {u = u} {n = n} e q) h w = no-longer b k u e q c (apart-loose u n c [] l) h w
 
 -- and what does not, does not belong to the field that ends there
-module _ {n : Count} {count : List ℕ} (b : ℕ) (k : Code) (u : Bool) (e : typeOf b ≡ Known k) (q : Counts n count) where
+module _ {n : Count} {count : List ℕ} (b : ℕ) (k : Role) (u : Bool) (e : typeOf b ≡ Known k) (q : Counts n count) where
   alone-on : (c : ℕ) (f : Field) → Writes f ((b ∷ (flag u ++ count)) ++ (c ∷ []))
       → GoesOn ((b ∷ (flag u ++ count)) ++ []) c
   alone-on c f w =

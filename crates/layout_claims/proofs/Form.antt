@@ -1,5 +1,5 @@
 -- The grammar by itself. A text goes on with a space or a type character, which belong to no field before; so the bytes
--- that the reader would take for the first field are those of that field in every spelling, and so on behind it.
+-- that the reader would take for the first field are those of that field in every spelling, and so on after it.
 use Prim.Native.Nat.{ℕ, zero, suc, _+_}
 use mathlib.Core.Path.{_≡_, refl, sym, ap, _∙_, subst}
 use mathlib.Core.Bool.{Bool}
@@ -7,7 +7,7 @@ use mathlib.Core.List.{List, [], _∷_, _++_, append-assoc, append-nil}
 use borrow.Author.Tests.{eqb-false}
 use lib.ListN.{length, drop, replicate}
 use lib.Seq.{drop-at}
-use Rattle.layout.specs.declared.Code.{Code}
+use Rattle.layout.specs.declared.Role.{Role}
 use Rattle.layout.specs.declared.Count.{Count}
 use Rattle.layout.specs.declared.Field.{Field}
 use Rattle.layout.specs.declared.Typed.the-variants.{Known}
@@ -43,7 +43,7 @@ begins fs c text p =
 
 -- ---- spaces
 
-pub no-space {ℓ} : {X : Type ℓ} (c : ℕ) (k : Code) → typeOf c ≡ Known k → c ≡ 32 → X
+pub no-space {ℓ} : {X : Type ℓ} (c : ℕ) (k : Role) → typeOf c ≡ Known k → c ≡ 32 → X
 unfolding typeOf
 no-space c k e h = not-known c k e (rw h)
 
@@ -84,19 +84,19 @@ alone {f} {bytes} w = subst (Spells (f ∷ [])) (append-nil bytes) (next w nothi
 
 -- ---- the first field
 
--- what the reader finds behind a type character of k, and in how many bytes
-abbrev fieldIn : Code → List ℕ → Field
-fieldIn k cs = record { code = k; unsigned = flagged cs; count = countOf (drop (toNat (flagged cs)) cs) }
+-- what the reader finds after a type character of k, and in how many bytes
+abbrev fieldIn : Role → List ℕ → Field
+fieldIn k cs = record { role = k; unsigned = flagged cs; count = countOf (drop (toNat (flagged cs)) cs) }
 
 abbrev pub sizeIn : List ℕ → ℕ
 sizeIn cs = toNat (flagged cs) + countLength (drop (toNat (flagged cs)) cs)
 
-pub record First (k : Code) (u : Bool) (n : Count) (bytes rest : List ℕ) : Type 0 where
-  pub field : fieldIn k (bytes ++ rest) ≡ record { code = k; unsigned = u; count = n }
+pub record First (k : Role) (u : Bool) (n : Count) (bytes rest : List ℕ) : Type 0 where
+  pub field : fieldIn k (bytes ++ rest) ≡ record { role = k; unsigned = u; count = n }
   pub size : sizeIn (bytes ++ rest) ≡ length bytes
   pub others : drop (sizeIn (bytes ++ rest)) (bytes ++ rest) ≡ rest
 
-pub first : {n : Count} {count : List ℕ} (k : Code) (u : Bool) (rest : List ℕ) → Counts n count → Apart u n rest
+pub first : {n : Count} {count : List ℕ} (k : Role) (u : Bool) (rest : List ℕ) → Counts n count → Apart u n rest
     → First k u n (flag u ++ count) rest
 first {n} {count} k u rest q h =
     let bytes : List ℕ = flag u ++ count in
@@ -109,12 +109,12 @@ first {n} {count} k u rest q h =
     }
 
 -- every spelling of a text that begins with a type character begins with that field
-pub record Split (k : Code) (cs : List ℕ) (fs : List Field) : Type 0 where
+pub record Split (k : Role) (cs : List ℕ) (fs : List Field) : Type 0 where
   pub others : List Field
   pub first : fs ≡ fieldIn k cs ∷ others
   pub rest : Spells others (drop (sizeIn cs) cs)
 
-pub split : {fs : List Field} {text : List ℕ} → Spells fs text → (c : ℕ) (cs : List ℕ) (k : Code)
+pub split : {fs : List Field} {text : List ℕ} → Spells fs text → (c : ℕ) (cs : List ℕ) (k : Role)
     → text ≡ c ∷ cs → typeOf c ≡ Known k → Split k cs fs
 split nothing c cs k e h = never (cc)
 split (spaced p) c cs k e h = no-space c k h (let l : c ≡ 32 = cc in l)
@@ -122,9 +122,9 @@ split (next {fs = fs} {rest = rest} (written {k = j} {u = u} {n = n} {count = co
     let bytes : List ℕ = flag u ++ count in
     let s : First j u n bytes rest = first j u rest q (apart-starts u n rest (starts p)) in
     let same : bytes ++ rest ≡ cs = cc in
-    let code : j ≡ k = cc in
+    let role : j ≡ k = cc in
     let f : fieldIn j (bytes ++ rest) ≡ fieldIn k cs =
-    ap (λ (x : Code). fieldIn x (bytes ++ rest)) code ∙ ap (fieldIn k) same in
+    ap (λ (x : Role). fieldIn x (bytes ++ rest)) role ∙ ap (fieldIn k) same in
     record {
       others = fs;
       first = ap (λ (x : Field). x ∷ fs) (sym (s .field) ∙ f);

@@ -1,5 +1,5 @@
 -- What the layout reader accepts is spelled, and what it refuses is at fault: each of its steps is a space, a whole
--- field or the fault, and what is said of the text behind a step holds of the text from it on.
+-- field or the fault, and what is said of the text after a step holds of the text from it on.
 use Prim.Native.Nat.{ℕ, zero, suc, _+_, _<_}
 use native.Mathlib.Nat.{add-zero, lt-of-not-le}
 use native.Mathlib.Decide.{decLe}
@@ -12,7 +12,7 @@ use borrow.Author.Tests.{eqb-true, eqb-false, lt-leb}
 use lib.Dec.{eqb}
 use lib.ListN.{length, drop, length-append}
 use lib.Seq.{drop-at, drop-nil}
-use Rattle.layout.specs.declared.Code.{Code}
+use Rattle.layout.specs.declared.Role.{Role}
 use Rattle.layout.specs.declared.Count.{Count}
 use Rattle.layout.specs.declared.Count.the-variants.{Absent, Star, Times}
 use Rattle.layout.specs.declared.Field.{Field}
@@ -20,7 +20,7 @@ use Rattle.layout.specs.declared.Typed.{Typed}
 use Rattle.layout.specs.declared.Typed.the-variants.{Known, Unknown}
 use Rattle.layout.specs.declared.Refusal.{Refusal}
 use Rattle.layout.specs.Refusals.{Result, ok, refused}
-use Rattle.layout.specs.Layout.{maxCount, typeOf, flagged, countOf, inLimit, hasMeaning, toNat, Step, space, field, bad, stepOf, extra, before, fieldsFrom, fieldsOf}
+use Rattle.layout.specs.Layout.{maxCount, typeOf, flagged, countOf, inLimit, hasMeaning, toNat, Step, space, field, bad, stepOf, stepExtra, stepThen, fieldsFrom, fieldsOf}
 use Rattle.layout.proofs.Laws.{no-refusal}
 use Rattle.layout_claims.specs.Spelling.{Digits, value, flag, Counts, absent, star, number, written, nothing, spaced, next, Formed, Small, Misused, Spelled, Accepted}
 use Rattle.layout_claims.specs.Faults.{Ends, Faulty, unknown, large, misused}
@@ -37,7 +37,7 @@ small-or-large Absent = inl tt
 small-or-large Star = inl tt
 small-or-large (Times m) = elim (decLe m maxCount) [ yes h ↦ inl h | no h ↦ inr (m, refl, lt-of-not-le h) ]
 
-meant : (packing : Bool) (k : Code) (n : Count) → hasMeaning packing k n ≡ true → Misused packing k n → ⊥
+meant : (packing : Bool) (k : Role) (n : Count) → hasMeaning packing k n ≡ true → Misused packing k n → ⊥
 meant packing k n e m = never (cc (misuse m .1))
 
 -- the digits of a count
@@ -46,7 +46,7 @@ digits-of absent m e = never (cc)
 digits-of star m e = never (cc)
 digits-of (number h) m e = (h, cc)
 
--- what stands behind a field, by its first byte alone
+-- what stands after a field, by its first byte alone
 apart-one : (u : Bool) (n : Count) (b : ℕ) (more others : List ℕ) → Apart u n (b ∷ more) → Apart u n (b ∷ others)
 unfolding flagged
 apart-one u Absent b more others h = record { count = h .count; flag = h .flag }
@@ -59,7 +59,7 @@ apart-front u n [] b more h = apart-one u n b more [] h
 apart-front u n (x ∷ xs) b more h = apart-one u n x (xs ++ (b ∷ more)) (xs ++ (b ∷ [])) h
 
 module _ (packing : Bool) where
-  -- ---- a fault behind
+  -- ---- a fault after a step
 
   -- the place is counted from `at`
   abbrev FaultFrom : ℕ → List ℕ → Refusal → ℕ → Type 0
@@ -103,11 +103,11 @@ module _ (packing : Bool) where
   -- ---- a whole field in front
 
   record Lead (c : ℕ) (cs : List ℕ) (f : Field) (m : ℕ) : Type 0 where
-    type : typeOf c ≡ Known (f .code)
+    type : typeOf c ≡ Known (f .role)
     found : Found cs (f .unsigned) (f .count)
     size : length (flag (f .unsigned) ++ found .count) ≡ m
     small : Small (f .count)
-    good : Misused packing (f .code) (f .count) → ⊥
+    good : Misused packing (f .role) (f .count) → ⊥
 
   module _ (c : ℕ) (cs : List ℕ) (f : Field) (m : ℕ) (l : Lead c cs f m) where
     abbrev own : List ℕ
@@ -139,7 +139,7 @@ module _ (packing : Bool) where
         let u : Bool = f .unsigned in
         let n : Count = f .count in
         let apart : Apart u n (front ++ (b ∷ more)) = subst (Apart u n) e (l .found .apart) in
-        behind c (f .code) u (l .type) (l .found .counts) (front ++ (b ∷ [])) (apart-front u n front b more apart) q
+        behind c (f .role) u (l .type) (l .found .counts) (front ++ (b ∷ [])) (apart-front u n front b more apart) q
 
     lead-fault : (why : Refusal) (p : ℕ) → Faulty packing rest why p → Faulty packing (c ∷ cs) why (suc m + p)
     lead-fault why p g =
@@ -165,7 +165,7 @@ module _ (packing : Bool) where
         rw (step-unknown packing at c cs h e)
         (0, sym (add-zero at), unknown c cs nothing-before (λ q. no-form c h e (q .1) refl))
 
-    module _ (k : Code) (e : typeOf c ≡ Known k) where
+    module _ (k : Role) (e : typeOf c ≡ Known k) where
       abbrev u : Bool
       u = flagged cs
 
@@ -238,7 +238,7 @@ module _ (packing : Bool) where
   Told at text (refused why place) = FaultFrom at text why place
 
   told-before : (at c : ℕ) (cs : List ℕ) (s : Step) (r : Result (List Field)) → StepTold at c cs s
-      → Told (suc at + extra s) (drop (extra s) cs) r → Told at (c ∷ cs) (before s r)
+      → Told (suc at + stepExtra s) (drop (stepExtra s) cs) r → Told at (c ∷ cs) (stepThen s r)
   told-before at c cs space (ok fs) e s =
       rw e (record { form = spaced (s .form); allowed = s .allowed })
   told-before at c cs space (refused why place) e (p, h, g) = rw e (1 + p, omega arith, fault-spaced cs why p g)
@@ -256,8 +256,8 @@ module _ (packing : Bool) where
       subst (λ (i : ℕ). Told i (drop n cs) (fieldsFrom packing (suc at) n cs)) (moved at n) (told cs (suc at) n)
   told (c ∷ cs) at zero =
       let s : Step = stepOf packing at c cs in
-      let r : Result (List Field) = fieldsFrom packing (suc at) (extra s) cs in
-      rw add-zero (told-before at c cs s r (told-step at c cs) (told cs (suc at) (extra s)))
+      let r : Result (List Field) = fieldsFrom packing (suc at) (stepExtra s) cs in
+      rw add-zero (told-before at c cs s r (told-step at c cs) (told cs (suc at) (stepExtra s)))
 
   of-text : (text : List ℕ) → Told 0 text (fieldsOf packing text)
   unfolding fieldsOf

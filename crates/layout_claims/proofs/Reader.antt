@@ -10,15 +10,15 @@ use mathlib.Core.List.{List, [], _∷_, _++_, append-assoc, append-nil}
 use borrow.Author.Tests.{le-leb, lt-leb, ne-eqb}
 use lib.ListN.{length, drop, length-append}
 use lib.Seq.{drop-at, drop-nil}
-use Rattle.layout.specs.declared.Code.{Code}
-use Rattle.layout.specs.declared.Code.the-variants.{Data, Move}
+use Rattle.layout.specs.declared.Role.{Role}
+use Rattle.layout.specs.declared.Role.the-variants.{Data, Move}
 use Rattle.layout.specs.declared.Motion.the-variants.{Skip, Back, Goto}
 use Rattle.layout.specs.declared.Count.{Count}
 use Rattle.layout.specs.declared.Count.the-variants.{Absent, Star, Times}
 use Rattle.layout.specs.declared.Field.{Field}
 use Rattle.layout.specs.declared.Typed.the-variants.{Known, Unknown}
 use Rattle.layout.specs.declared.Refusal.{Refusal}
-use Rattle.layout.specs.declared.Refusal.the-variants.{UnknownType, CountTooLarge, CountMisused}
+use Rattle.layout.specs.declared.Refusal.the-variants.{BadType, BadCount, BadMove}
 use Rattle.layout.specs.Refusals.{Result, ok, refused, _>>=_}
 use Rattle.layout.specs.Layout.{maxCount, typeOf, inLimit, hasMeaning, toNat, space, field, bad, stepFrom, fieldAfter, fieldAt, stepOf, fieldsFrom, fieldsOf}
 use Rattle.layout_claims.specs.Spelling.{flag, Counts, written, Spells, nothing, spaced, next, Small, Misused, no-place, no-end, Allowed, Spelled, Accepted}
@@ -36,12 +36,12 @@ small-limit Star h = refl
 small-limit (Times n) h = le-leb n maxCount h
 
 -- number 4 applies just where a count has no meaning
-pub misuse : {packing : Bool} {k : Code} {n : Count} → Misused packing k n
+pub misuse : {packing : Bool} {k : Role} {n : Count} → Misused packing k n
     → (inLimit n ≡ true) × (hasMeaning packing k n ≡ false)
 misuse no-place = (refl, refl)
 misuse no-end = (refl, refl)
 
-pub misused-or-not : (packing : Bool) (k : Code) (n : Count) → Misused packing k n ⊎ (hasMeaning packing k n ≡ true)
+pub misused-or-not : (packing : Bool) (k : Role) (n : Count) → Misused packing k n ⊎ (hasMeaning packing k n ≡ true)
 misused-or-not packing (Data s) n = inr refl
 misused-or-not packing (Move Skip) Absent = inr refl
 misused-or-not true (Move Skip) Star = inl no-end
@@ -52,7 +52,7 @@ misused-or-not packing (Move Goto) Absent = inl no-place
 misused-or-not packing (Move Goto) Star = inr refl
 misused-or-not packing (Move Goto) (Times n) = inr refl
 
-has-meaning : (packing : Bool) (k : Code) (n : Count) → (Misused packing k n → ⊥) → hasMeaning packing k n ≡ true
+has-meaning : (packing : Bool) (k : Role) (n : Count) → (Misused packing k n → ⊥) → hasMeaning packing k n ≡ true
 has-meaning packing k n h = ⊎-elim (λ m. absurd (h m)) (λ e. e) (misused-or-not packing k n)
 
 module _ (packing : Bool) (at c : ℕ) (cs : List ℕ) where
@@ -60,27 +60,27 @@ module _ (packing : Bool) (at c : ℕ) (cs : List ℕ) where
   unfolding stepOf
   step-space e = rw e
 
-  pub step-unknown : (c ≡ 32 → ⊥) → typeOf c ≡ Unknown → stepOf packing at c cs ≡ bad UnknownType at
+  pub step-unknown : (c ≡ 32 → ⊥) → typeOf c ≡ Unknown → stepOf packing at c cs ≡ bad BadType at
   unfolding stepOf fieldAt
   step-unknown h e = rw (ne-eqb c 32 h, e, fieldAt)
 
-  module _ (k : Code) (e : typeOf c ≡ Known k) where
+  module _ (k : Role) (e : typeOf c ≡ Known k) where
     step-known : stepOf packing at c cs ≡ stepFrom (fieldAfter packing at k cs)
     unfolding stepOf fieldAt
     step-known = rw (ne-eqb c 32 (no-space c k e), e, fieldAt)
 
     module _ (u : Bool) (n : Count) (m : ℕ) (s : Scanned u n m cs) where
       pub step-field : Small n → (Misused packing k n → ⊥)
-          → stepOf packing at c cs ≡ field (record { code = k; unsigned = u; count = n }) m
+          → stepOf packing at c cs ≡ field (record { role = k; unsigned = u; count = n }) m
       unfolding fieldAfter
       step-field small good =
           step-known ∙ (rw (s .flag, s .count, small-limit n small, has-meaning packing k n good, s .size))
 
-      pub step-large : inLimit n ≡ false → stepOf packing at c cs ≡ bad CountTooLarge (suc at + toNat u)
+      pub step-large : inLimit n ≡ false → stepOf packing at c cs ≡ bad BadCount (suc at + toNat u)
       unfolding fieldAfter
       step-large h = step-known ∙ (rw (s .flag, s .count, h))
 
-      pub step-misused : Misused packing k n → stepOf packing at c cs ≡ bad CountMisused at
+      pub step-misused : Misused packing k n → stepOf packing at c cs ≡ bad BadMove at
       unfolding fieldAfter
       step-misused h = let g = misuse h in step-known ∙ (rw (s .flag, s .count, g .0, g .1))
 
@@ -103,7 +103,7 @@ onto-refused : (fs : List Field) (why : Refusal) (place : ℕ) → onto fs (refu
 onto-refused [] why place = refl
 onto-refused (f ∷ fs) why place = rw (onto-refused fs why place)
 
--- the byte behind a text does not go on with a field of it
+-- the byte after a text does not go on with a field of it
 abbrev Stops : List ℕ → List ℕ → Type 0
 Stops front [] = Unit {0}
 Stops front (c ∷ more) = GoesOn front c → ⊥
@@ -129,11 +129,11 @@ module _ (packing : Bool) where
   unfolding fieldsFrom
   over-space at cs = refl
 
-  module _ {n : Count} {count : List ℕ} (c : ℕ) (k : Code) (u : Bool) (e : typeOf c ≡ Known k) (q : Counts n count)
+  module _ {n : Count} {count : List ℕ} (c : ℕ) (k : Role) (u : Bool) (e : typeOf c ≡ Known k) (q : Counts n count)
     where
       over-field : (at : ℕ) (rest : List ℕ) → Apart u n rest → Small n → (Misused packing k n → ⊥)
           → fieldsFrom packing at 0 ((c ∷ (flag u ++ count)) ++ rest)
-          ≡ onto (record { code = k; unsigned = u; count = n } ∷ [])
+          ≡ onto (record { role = k; unsigned = u; count = n } ∷ [])
           (fieldsFrom packing (at + suc (length (flag u ++ count))) 0 rest)
       unfolding fieldsFrom
       over-field at rest apart small good =
@@ -153,7 +153,7 @@ module _ (packing : Bool) where
       ∙ ap (λ (i : ℕ). onto fs (fieldsFrom packing i 0 rest)) (moved at (length text))
   reads (next {fs = fs} {rest = text} (written {c = c} {k = k} {u = u} {n = n} {count = count} e q) p) a at rest h =
       let bytes : List ℕ = c ∷ (flag u ++ count) in
-      let f : Field = record { code = k; unsigned = u; count = n } in
+      let f : Field = record { role = k; unsigned = u; count = n } in
       let later : Stops text rest = stops-later (bytes ++ text) text rest (on-next (written {u = u} e q) text) h in
       let sum : at + length bytes + length text ≡ at + length (bytes ++ text) =
       omega (arith, length-append bytes text) in
@@ -173,7 +173,7 @@ module _ (packing : Bool) where
   spelled-read text fs s =
       ap (fieldsFrom packing 0 0) (sym (append-nil text)) ∙ reads (s .form) (s .allowed) 0 [] tt ∙ onto-none fs
 
-  -- ---- a fault behind a layout
+  -- ---- a fault after a layout
 
   bad-behind : (front : List ℕ) (c : ℕ) (cs : List ℕ) (why : Refusal) (place : ℕ) → Accepted packing front
       → Stops front (c ∷ cs) → stepOf packing (length front) c cs ≡ bad why place
@@ -188,19 +188,19 @@ module _ (packing : Bool) where
   faulty-refused (unknown {front = front} c more a h) =
       let at : ℕ = length front in
       let n = strays front c (a .0, a .1 .form) .0 h in
-      bad-behind front c more UnknownType at a (n .2) (step-unknown packing at c more (n .0) (n .1))
+      bad-behind front c more BadType at a (n .2) (step-unknown packing at c more (n .0) (n .1))
   faulty-refused (large {front = front} c {k = k} u ds more a e d l) =
       let at : ℕ = length front in
       let cs : List ℕ = flag u ++ (ds ++ more) in
       let r : AtLeast u ds more = at-least u ds more d (omega arith) in
       let over : inLimit (Times (r .times)) ≡ false = lt-leb (r .times) maxCount (omega (arith, r .least)) in
       let place : suc at + toNat u ≡ at + suc (length (flag u)) = omega (arith, flag-length u) in
-      bad-behind front c cs CountTooLarge (at + suc (length (flag u))) a (loose-ends front c (known-loose c k e))
-      (step-large packing at c cs k e u (Times (r .times)) (r .size) (r .scan) over ∙ ap (bad CountTooLarge) place)
+      bad-behind front c cs BadCount (at + suc (length (flag u))) a (loose-ends front c (known-loose c k e))
+      (step-large packing at c cs k e u (Times (r .times)) (r .size) (r .scan) over ∙ ap (bad BadCount) place)
   faulty-refused (misused {front = front} more a (written {c = c} {k = k} {u = u} {n = n} {count = count} e q) h m) =
       let at : ℕ = length front in
       let bytes : List ℕ = flag u ++ count in
-      bad-behind front c (bytes ++ more) CountMisused at a (loose-ends front c (known-loose c k e))
+      bad-behind front c (bytes ++ more) BadMove at a (loose-ends front c (known-loose c k e))
       (step-misused packing at c (bytes ++ more) k e u n (length bytes) (scanned q u more (ends-on more h)) m)
     where
       ends-on : (more : List ℕ) → Ends (c ∷ (flag u ++ count)) more → Apart u n more

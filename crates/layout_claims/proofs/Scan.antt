@@ -9,7 +9,7 @@ use mathlib.Core.List.{List, [], _∷_, _++_, append-assoc}
 use borrow.Author.Tests.{leb-true, eqb-true, ne-eqb}
 use lib.Dec.{eqb, leb}
 use lib.ListN.{length, take, drop, take-append-drop}
-use Rattle.layout.specs.declared.Code.{Code}
+use Rattle.layout.specs.declared.Role.{Role}
 use Rattle.layout.specs.declared.Count.{Count}
 use Rattle.layout.specs.declared.Count.the-variants.{Absent, Star, Times}
 use Rattle.layout.specs.declared.Typed.the-variants.{Known, Unknown}
@@ -38,10 +38,10 @@ pub record Loose (c : ℕ) : Type 0 where
   pub no-star : eqb c 42 ≡ false
   pub no-digit : isDecimal c ≡ false
 
-pub not-known {ℓ} : {X : Type ℓ} (c : ℕ) (k : Code) → typeOf c ≡ Known k → typeOf c ≡ Unknown → X
+pub not-known {ℓ} : {X : Type ℓ} (c : ℕ) (k : Role) → typeOf c ≡ Known k → typeOf c ≡ Unknown → X
 not-known c k e h = never (cc)
 
-pub known-loose : (c : ℕ) (k : Code) → typeOf c ≡ Known k → Loose c
+pub known-loose : (c : ℕ) (k : Role) → typeOf c ≡ Known k → Loose c
 unfolding typeOf
 known-loose c k e =
     record {
@@ -64,7 +64,7 @@ NoDigit (c ∷ cs) = isDecimal c ≡ false
 shifted : (v e p w : ℕ) → (10 * v + e) * p + w ≡ v * (p * 10) + (e * p + w)
 shifted v e p w = omega arith
 
--- the number so far, and digits behind it
+-- the number so far, and digits after it
 abbrev followed : ℕ → List ℕ → ℕ
 followed v ds = v * 10 ^ length ds + value ds
 
@@ -117,7 +117,7 @@ abbrev NoStar : List ℕ → Type 0
 NoStar [] = Unit {0}
 NoStar (c ∷ cs) = eqb c 42 ≡ false
 
--- what stands behind does not belong to a count, or to a field with this flag and count
+-- what stands after does not belong to a count, or to a field with this flag and count
 abbrev AfterCount : Count → List ℕ → Type 0
 AfterCount Absent rest = NoStar rest × NoDigit rest
 AfterCount Star rest = Unit {0}
@@ -157,7 +157,7 @@ count-read (number {d = d} {ds = ds} k) rest h =
     let m = rw dec at l in
     rw (ne-eqb d 42 (λ e. omega arith), dec) (ap Times w, m)
 
--- the reader finds this flag and this count in front of cs, in so many bytes
+-- the reader finds this flag and this count in front of cs, in m bytes
 pub record Scanned (u : Bool) (n : Count) (m : ℕ) (cs : List ℕ) : Type 0 where
   pub flag : flagged cs ≡ u
   pub count : countOf (drop (toNat u) cs) ≡ n

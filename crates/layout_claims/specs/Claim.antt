@@ -26,11 +26,11 @@ Blank = (text : List ℕ) → Spells [] text ↔ (text ≡ replicate (length tex
 unfoldable pub Begins : Type 0
 Begins = (fs : List Field) (c : ℕ) (text : List ℕ) → Spells fs (c ∷ text) → (Digit c → ⊥) × (c ≡ 42 → ⊥) × (c ≡ 117 → ⊥)
 
--- so a text spells one list of fields at most ..
+-- a text spells one list of fields at most
 unfoldable pub OneList : Type 0
 OneList = (text : List ℕ) (fs gs : List Field) → Spells fs text → Spells gs text → fs ≡ gs
 
--- .. and two texts joined spell the fields of the first and then those of the second
+-- two texts joined spell the fields of the first and then those of the second
 unfoldable pub Joined : Type 0
 Joined = (a b : List ℕ) (fs gs : List Field) → Spells fs a → Spells gs b → Spells (fs ++ gs) (a ++ b)
 
@@ -46,7 +46,7 @@ unfoldable pub Spellings : Type 0
 Spellings = (packing : Bool) (text : List ℕ) (fs : List Field)
     → (fieldsOf packing text ≡ ok fs) ↔ Spelled packing fs text
 
--- and refused with this number and place exactly where this is its fault
+-- a text is refused with this number and place exactly where this is its fault
 unfoldable pub Places : Type 0
 Places = (packing : Bool) (text : List ℕ) (why : Refusal) (place : ℕ)
     → (fieldsOf packing text ≡ refused why place) ↔ Faulty packing text why place

@@ -5,11 +5,11 @@ use mathlib.Core.Path.{_≡_}
 use mathlib.Core.Bool.{Bool}
 use mathlib.Core.List.{List, [], _∷_, _++_}
 use lib.ListN.{length}
-use Rattle.layout.specs.declared.Code.{Code}
+use Rattle.layout.specs.declared.Role.{Role}
 use Rattle.layout.specs.declared.Field.{Field}
 use Rattle.layout.specs.declared.Typed.the-variants.{Known}
 use Rattle.layout.specs.declared.Refusal.{Refusal}
-use Rattle.layout.specs.declared.Refusal.the-variants.{UnknownType, CountTooLarge, CountMisused}
+use Rattle.layout.specs.declared.Refusal.the-variants.{BadType, BadCount, BadMove}
 use Rattle.layout.specs.Layout.{maxCount, typeOf}
 use Rattle.layout_claims.specs.Spelling.{Digits, value, flag, Writes, Formed, Misused, Accepted}
 
@@ -20,17 +20,18 @@ Ends bytes (c ∷ more) = (f : Field) → Writes f (bytes ++ (c ∷ [])) → ⊥
 
 -- A FAULT, for packing (true) or reading (false): front, the text before it, is a layout; more may be anything
 pub data Faulty (packing : Bool) : List ℕ → Refusal → ℕ → Type 0 where
-  -- 2, at the byte c: with c the text before it has no longer the form of a layout
+  -- number 2, at the byte c: with c the text before it has no longer the form of a layout
   unknown : {front : List ℕ} (c : ℕ) (more : List ℕ) → Accepted packing front → (Formed (front ++ (c ∷ [])) → ⊥)
-      → Faulty packing (front ++ (c ∷ more)) UnknownType (length front)
-  -- 3, at the first digit: a type character c, perhaps the flag, and digits, perhaps with more behind, above 32,768
-  large : {front : List ℕ} (c : ℕ) {k : Code} (u : Bool) (ds more : List ℕ) → Accepted packing front
+      → Faulty packing (front ++ (c ∷ more)) BadType (length front)
+  -- number 3, at the first digit: a type character c, perhaps the flag, and digits, perhaps with more after them, that
+  -- make a number above 32,768
+  large : {front : List ℕ} (c : ℕ) {k : Role} (u : Bool) (ds more : List ℕ) → Accepted packing front
       → typeOf c ≡ Known k → Digits ds → maxCount < value ds
-      → Faulty packing (front ++ (c ∷ (flag u ++ (ds ++ more)))) CountTooLarge (length front + suc (length (flag u)))
-  -- 4, at the type character: a field that is misused, and that does not go on
+      → Faulty packing (front ++ (c ∷ (flag u ++ (ds ++ more)))) BadCount (length front + suc (length (flag u)))
+  -- number 4, at the type character: a field that is misused, and that does not go on
   misused : {front : List ℕ} {f : Field} {bytes : List ℕ} (more : List ℕ) → Accepted packing front
-      → Writes f bytes → Ends bytes more → Misused packing (f .code) (f .count)
-      → Faulty packing (front ++ (bytes ++ more)) CountMisused (length front)
+      → Writes f bytes → Ends bytes more → Misused packing (f .role) (f .count)
+      → Faulty packing (front ++ (bytes ++ more)) BadMove (length front)
 
 -- the byte c goes on with a field that ends the text: it is a flag, a star or a digit that belongs to it
 pub record GoesOn (text : List ℕ) (c : ℕ) : Type 0 where

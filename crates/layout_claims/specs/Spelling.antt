@@ -1,12 +1,12 @@
 -- What a layout text is (01, Layout text, with 02, M-101), said without any reader: the ways to write a list of fields.
--- No line asks what stands behind a field: a text goes on with no digit, no star and no flag (`Begins` in Claim).
+-- No line asks what stands after a field: a text goes on with no digit, no star and no flag (`Begins` in Claim).
 use Prim.Native.Nat.{ℕ, _+_, _-_, _*_, _^_, _≤_}
 use mathlib.Core.Path.{_≡_}
 use mathlib.Core.Bool.{Bool, true, false}
 use mathlib.Core.List.{List, [], _∷_, _++_}
 use lib.ListN.{length}
-use Rattle.layout.specs.declared.Code.{Code}
-use Rattle.layout.specs.declared.Code.the-variants.{Move}
+use Rattle.layout.specs.declared.Role.{Role}
+use Rattle.layout.specs.declared.Role.the-variants.{Move}
 use Rattle.layout.specs.declared.Motion.the-variants.{Skip, Goto}
 use Rattle.layout.specs.declared.Count.{Count}
 use Rattle.layout.specs.declared.Count.the-variants.{Absent, Star, Times}
@@ -44,8 +44,8 @@ pub data Counts : Count → List ℕ → Type 0 where
 
 -- A FIELD: a type character c, then perhaps the flag, then perhaps a count
 pub data Writes : Field → List ℕ → Type 0 where
-  written : {c : ℕ} {k : Code} {u : Bool} {n : Count} {count : List ℕ} → typeOf c ≡ Known k → Counts n count
-      → Writes (record { code = k; unsigned = u; count = n }) (c ∷ (flag u ++ count))
+  written : {c : ℕ} {k : Role} {u : Bool} {n : Count} {count : List ℕ} → typeOf c ≡ Known k → Counts n count
+      → Writes (record { role = k; unsigned = u; count = n }) (c ∷ (flag u ++ count))
 
 -- ---- THE FORM OF A LAYOUT: the fields fs may be written as this text
 
@@ -64,22 +64,22 @@ Formed text = (fs : List Field) × Spells fs text
 
 -- ---- what a field must keep to besides
 
--- its count is at most 32,768 (02, M-111), or number 3 applies
+-- a field's count is at most 32,768 (02, M-111), or number 3 applies
 abbrev pub Small : Count → Type 0
 Small Absent = Unit {0}
 Small Star = Unit {0}
 Small (Times n) = n ≤ maxCount
 
--- number 4 applies: `@` without a count, and in packing `x` with a star
-pub data Misused : Bool → Code → Count → Type 0 where
+-- a field is misused, and number 4 applies: `@` without a count, and in packing `x` with a star
+pub data Misused : Bool → Role → Count → Type 0 where
   no-place : {packing : Bool} → Misused packing (Move Goto) Absent
   no-end : Misused true (Move Skip) Star
 
 abbrev pub Allowed : Bool → List Field → Type 0
 Allowed packing [] = Unit {0}
-Allowed packing (f ∷ fs) = Small (f .count) × (Misused packing (f .code) (f .count) → ⊥) × Allowed packing fs
+Allowed packing (f ∷ fs) = Small (f .count) × (Misused packing (f .role) (f .count) → ⊥) × Allowed packing fs
 
--- ---- A LAYOUT, for packing (true) or reading (false): a text of that form whose fields keep to this
+-- ---- A LAYOUT, for packing (true) or reading (false): a text of the form whose fields are allowed
 
 pub record Spelled (packing : Bool) (fs : List Field) (text : List ℕ) : Type 0 where
   pub form : Spells fs text

@@ -9,18 +9,19 @@ use lib.ListN.{length, take, drop, replicate, length-map, length-drop}
 use lib.Seq.{take-all, take-at, length-take-le}
 use borrow.Author.Tests.{lt-leb, le-leb, lt-ltb, le-ltb, eq-eqb}
 use lib.Dec.{T, leb, eqb, eqb→eq}
-use Rattle.layout.specs.declared.Code.the-variants.{Data}
+use Rattle.layout.specs.declared.Role.the-variants.{Data}
 use Rattle.layout.specs.declared.Shape.{Shape}
 use Rattle.layout.specs.declared.Shape.the-variants.{Text, Digits, Integers, Reals}
 use Rattle.layout.specs.declared.Count.{Count}
 use Rattle.layout.specs.declared.Count.the-variants.{Absent, Star, Times}
 use Rattle.layout.specs.Refusals.{if_then_else_, ok}
-use Rattle.layout.specs.Words.{FitCode}
+use Rattle.layout.specs.inside.Parsing.{FitRole}
 use Rattle.record.specs.Bytes.{fit, ceilDiv, pieces, join, digits, number, ordered}
 use Rattle.record.specs.declared.slots.Slot.{Slot}
 use Rattle.record.specs.Table.{maxKind, integerSize, Value, integerBytes, areaBytes, shown}
 use Rattle.record.specs.Geometry.{amount, base, perByte, bytesFor}
-use Rattle.record.specs.Packing.{stored, lowBytes, digitBytes, digitValue, allDigits, kindFits, enough, amountFits, digitsFit, realsFit, insideArea, argumentFits}
+use Rattle.record.specs.Packing.{stored, lowBytes, digitBytes, digitValue, allDigits, kindFits, enough, amountFits, digitsFit, realsFit, argumentFits}
+use Rattle.record.specs.inside.Slots.{insideArea}
 use Rattle.record.specs.Reading.{loaded, widened, digitChar}
 use Rattle.record.proofs.Fields.{split, item}
 use Rattle.record.proofs.Bytes.{All, all-take, all-drop, all-append, all-ordered, length-digits, length-ordered, ordered-ordered, number-digits, length-join, pieces-join, length-pieces, join-pieces}
@@ -184,7 +185,7 @@ module _ (hex high : Bool) (n : ℕ) (bs : List ℕ) (whole : T (showsAll (Digit
 
 -- ---- every form
 
-pub again : (s : Shape) (u : Bool) (n : ℕ) (bs : List ℕ) → T (showsAll s n) → FitCode (Data s) → length bs ≡ bytesFor s n → All Byte bs
+pub again : (s : Shape) (u : Bool) (n : ℕ) (bs : List ℕ) → T (showsAll s n) → FitRole (Data s) → length bs ≡ bytesFor s n → All Byte bs
     → stored s n (loaded s u n bs .items) ≡ bs
 unfolding stored loaded widened chars
 again (Text pad) u n bs h k len all = rw (eqb→eq pad 0 h) (fit-all n 0 bs len)
@@ -213,7 +214,7 @@ integers-proper w big u (suc n) bs len small all =
     let low : number 256 p < 256 ^ w = rw long at (number-below 256 p (all-ordered Byte big (take w bs) (all-take Byte w bs all))) in
     (rw (mod-eq-of-lt low) at (widened-fits w u (number 256 p) small), integers-proper w big u n (drop w bs) (length-drop w bs ∙ (omega arith)) small (all-drop Byte w bs all))
 
-pub loaded-proper : (s : Shape) (u : Bool) (n : ℕ) (bs : List ℕ) → T (showsAll s n) → FitCode (Data s) → length bs ≡ bytesFor s n → All Byte bs → Proper (loaded s u n bs)
+pub loaded-proper : (s : Shape) (u : Bool) (n : ℕ) (bs : List ℕ) → T (showsAll s n) → FitRole (Data s) → length bs ≡ bytesFor s n → All Byte bs → Proper (loaded s u n bs)
 unfolding loaded widened
 loaded-proper (Text pad) u n bs h k len all e = true-false e
 loaded-proper (Digits hex high) u n bs h k len all e = true-false e

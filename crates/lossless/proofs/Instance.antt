@@ -1,11 +1,12 @@
--- The premises of M-107 can be met: a record of `a2 SuB8hu2c`, read from the mark 1 on, and one of `Q2qc`; what their readings show is computed.
+-- The premises of M-107 can be met: a record of `a2 SuB8hu2c`, read from the mark 1 on, and one of `Q2qc`; what their
+-- readings show is computed.
 use native.Mathlib.Omega.{arith}
 use mathlib.Core.Path.{_≡_, refl}
 use mathlib.Core.Bool.{true, false}
 use mathlib.Core.List.{[], _∷_, _++_}
 use Prim.Native.Nat.{_-_, _*_, _^_}
 use lib.ListN.{replicate}
-use Rattle.layout.specs.declared.Code.the-variants.{Data}
+use Rattle.layout.specs.declared.Role.the-variants.{Data}
 use Rattle.layout.specs.declared.Shape.the-variants.{Text, Digits, Integers, Reals}
 use Rattle.layout.specs.declared.Count.the-variants.{Absent, Times}
 use Rattle.layout.specs.Layout.{fieldsOf, slotCount}
@@ -22,11 +23,11 @@ unfolding fieldsOf lossless
 form = record {
   text = bytes "a2 SuB8hu2c";
   fields =
-      record { code = Data (Text 0); unsigned = false; count = Times 2 }
-      ∷ record { code = Data (Integers 2 true); unsigned = true; count = Absent }
-      ∷ record { code = Data (Digits false true); unsigned = false; count = Times 8 }
-      ∷ record { code = Data (Digits true false); unsigned = true; count = Times 2 }
-      ∷ record { code = Data (Integers 1 false); unsigned = false; count = Absent } ∷ [];
+      record { role = Data (Text 0); unsigned = false; count = Times 2 }
+      ∷ record { role = Data (Integers 2 true); unsigned = true; count = Absent }
+      ∷ record { role = Data (Digits false true); unsigned = false; count = Times 8 }
+      ∷ record { role = Data (Digits true false); unsigned = true; count = Times 2 }
+      ∷ record { role = Data (Integers 1 false); unsigned = false; count = Absent } ∷ [];
   has-fields = refl;
   is-lossless = tt;
 }
@@ -68,9 +69,9 @@ unfolding fieldsOf lossless
 doubles = record {
   text = bytes "Q2qc";
   fields =
-      record { code = Data (Reals false true); unsigned = false; count = Times 2 }
-      ∷ record { code = Data (Reals false false); unsigned = false; count = Absent }
-      ∷ record { code = Data (Integers 1 false); unsigned = false; count = Absent } ∷ [];
+      record { role = Data (Reals false true); unsigned = false; count = Times 2 }
+      ∷ record { role = Data (Reals false false); unsigned = false; count = Absent }
+      ∷ record { role = Data (Integers 1 false); unsigned = false; count = Absent } ∷ [];
   has-fields = refl;
   is-lossless = tt;
 }

@@ -1,5 +1,5 @@
--- The proof of M-107: the reading puts the values of all fields into the table, their slots are arguments that the packer takes, and what it
--- stores of them are the bytes that were read. So the values determine the record.
+-- The proof of M-107: the reading puts the values of all fields into the table, their slots are arguments that the
+-- packer takes, and what it stores of them are the bytes that were read. So the values determine the record.
 use Prim.Native.Nat.{ℕ, _+_, _*_, _/_}
 use native.Mathlib.Omega.{arith}
 use mathlib.Core.Path.{_≡_, refl, sym, ap, _∙_}

@@ -1,4 +1,5 @@
--- Reading a record that its fields fill sets every slot; the slots serve the fields, and the values make the record again.
+-- Reading a record that its fields fill sets every slot; the slots serve the fields, and the values make the record
+-- again.
 use Prim.Native.Nat.{ℕ, suc, _+_, _-_, _≤_}
 use native.Mathlib.Omega.{arith}
 use mathlib.Core.Path.{_≡_, refl, sym, ap, ap₂, _∙_}
@@ -8,15 +9,15 @@ use lib.ListN.{length, getD, drop, length-append, drop-of-length-le, take-append
 use lib.Seq.{drop-at, drop-drop}
 use lib.Dec.{T}
 use borrow.Author.Tests.{le-leb}
-use Rattle.layout.specs.declared.Code.{Code}
-use Rattle.layout.specs.declared.Code.the-variants.{Data, Move}
+use Rattle.layout.specs.declared.Role.{Role}
+use Rattle.layout.specs.declared.Role.the-variants.{Data, Move}
 use Rattle.layout.specs.declared.Shape.{Shape}
 use Rattle.layout.specs.declared.Count.{Count}
 use Rattle.layout.specs.declared.Count.the-variants.{Absent, Star, Times}
 use Rattle.layout.specs.declared.Field.{Field}
 use Rattle.layout.specs.Refusals.{ok}
 use Rattle.layout.specs.Layout.{slotCount}
-use Rattle.layout.specs.Words.{FitCode}
+use Rattle.layout.specs.inside.Parsing.{FitRole}
 use Rattle.layout.proofs.Laws.{AllSound}
 use Rattle.record.specs.Bytes.{part, join}
 use Rattle.record.specs.Table.{slotsOf, noPosition, Value, shown, areaBytes, slotNumbers, valueBytes}
@@ -25,31 +26,31 @@ use Rattle.record.specs.Packing.{filled, argumentsFit}
 use Rattle.record.specs.Reading.{loaded, valuesFrom}
 use Rattle.record.proofs.Bytes.{All, all-take, all-drop, both}
 use Rattle.record.proofs.Stores.{length-part}
-use Rattle.runs.specs.Ends.{plainCount, plainCode, fills, endOf}
+use Rattle.runs.specs.Ends.{plainCount, plainRole, fills, endOf}
 use Rattle.runs.proofs.Joined.{ForwardFields, bytesOf, joined}
 use Rattle.runs.proofs.Shown.{Proper, AllProper, shows-one}
-use Rattle.lossless.specs.Claim.{showsAll, losslessCode, lossless}
+use Rattle.lossless.specs.Claim.{showsAll, losslessRole, lossless}
 use Rattle.lossless.proofs.Fields.{Byte, again, loaded-proper, serves}
 
-abbrev made : Code → Bool → Count → Field
-made k u n = record { code = k; unsigned = u; count = n }
+abbrev made : Role → Bool → Count → Field
+made k u n = record { role = k; unsigned = u; count = n }
 
 -- ---- what a lossless field is
 
-abbrev Lossless : Code → Count → Type 0
-Lossless (Data s) n = T (showsAll s (amount n 0)) × FitCode (Data s) × T (plainCount n) × ((all : ℕ) → amount n all ≡ amount n 0)
+abbrev Lossless : Role → Count → Type 0
+Lossless (Data s) n = T (showsAll s (amount n 0)) × FitRole (Data s) × T (plainCount n) × ((all : ℕ) → amount n all ≡ amount n 0)
 Lossless (Move m) n = ⊥
 
 abbrev pub AllLossless : List Field → Type 0
 AllLossless [] = Unit {0}
-AllLossless (f ∷ fs) = Lossless (f .code) (f .count) × AllLossless fs
+AllLossless (f ∷ fs) = Lossless (f .role) (f .count) × AllLossless fs
 
 same-amount : (n : Count) → T (plainCount n) → (all : ℕ) → amount n all ≡ amount n 0
 same-amount Absent h all = refl
 same-amount Star h all = absurd h
 same-amount (Times n) h all = refl
 
-is-lossless : (k : Code) (n : Count) → T (losslessCode k n) → T (plainCount n) → FitCode k → Lossless k n
+is-lossless : (k : Role) (n : Count) → T (losslessRole k n) → T (plainCount n) → FitRole k → Lossless k n
 is-lossless (Data s) n h p k = (h, k, p, same-amount n p)
 is-lossless (Move m) n h p k = absurd h
 
@@ -57,16 +58,16 @@ pub all-lossless : (fs : List Field) → T (lossless fs) → AllSound fs → All
 unfolding lossless
 all-lossless [] h k = tt
 all-lossless (f ∷ fs) h k =
-    let (x, rest) = both (losslessCode (f .code) (f .count) && plainCount (f .count)) (lossless fs) h in
-    let (c, n) = both (losslessCode (f .code) (f .count)) (plainCount (f .count)) x in
-    (is-lossless (f .code) (f .count) c n (k .0), all-lossless fs rest (k .1))
+    let (x, rest) = both (losslessRole (f .role) (f .count) && plainCount (f .count)) (lossless fs) h in
+    let (c, n) = both (losslessRole (f .role) (f .count)) (plainCount (f .count)) x in
+    (is-lossless (f .role) (f .count) c n (k .0), all-lossless fs rest (k .1))
 
 -- such fields are all forward
 pub are-forward : (fs : List Field) → AllLossless fs → ForwardFields fs
 are-forward [] h = tt
-are-forward (f ∷ fs) h = (one (f .code) (f .count) (h .0), are-forward fs (h .1))
+are-forward (f ∷ fs) h = (one (f .role) (f .count) (h .0), are-forward fs (h .1))
   where
-    one : (k : Code) (n : Count) → Lossless k n → T (plainCode k)
+    one : (k : Role) (n : Count) → Lossless k n → T (plainRole k)
     one (Data s) n h = tt
     one (Move m) n h = absurd h
 
@@ -76,7 +77,7 @@ unfoldable pub restored : List Field → List Value → List ℕ
 unfolding bytesOf
 restored [] vs = []
 restored (f ∷ fs) [] = []
-restored (f ∷ fs) (v ∷ vs) = bytesOf (f .code) (f .count) (v .items) ++ restored fs vs
+restored (f ∷ fs) (v ∷ vs) = bytesOf (f .role) (f .count) (v .items) ++ restored fs vs
 
 -- ---- all that a reading from the place `at` on is good for
 
@@ -139,7 +140,7 @@ module _ (bs : List ℕ) (are-bytes : All Byte bs) where
       more-again = record { proper = (is-proper, ih .proper); count = ap suc (ih .count); restores = restores-more; fits = fits-more }
 
   again-step : (fs : List Field) → ((at : ℕ) → at + endOf fs ≡ length bs → Again bs at fs (valuesFrom bs at fs))
-      → (at : ℕ) (k : Code) (u : Bool) (n : Count) → Lossless k n → at + (fills k n + endOf fs) ≡ length bs → Again bs at (made k u n ∷ fs) (valuesFrom bs at (made k u n ∷ fs))
+      → (at : ℕ) (k : Role) (u : Bool) (n : Count) → Lossless k n → at + (fills k n + endOf fs) ≡ length bs → Again bs at (made k u n ∷ fs) (valuesFrom bs at (made k u n ∷ fs))
   unfolding fills
   again-step fs ih at (Data s) u n h e =
       let inside : at + bytesFor s (amount n 0) ≤ length bs = omega arith in
@@ -149,4 +150,4 @@ module _ (bs : List ℕ) (are-bytes : All Byte bs) where
   pub again-from : (fs : List Field) → AllLossless fs → (at : ℕ) → at + endOf fs ≡ length bs → Again bs at fs (valuesFrom bs at fs)
   unfolding valuesFrom endOf slotCount restored argumentsFit filled joined
   again-from [] h at e = record { proper = tt; count = refl; restores = sym (drop-of-length-le bs {i = at} (omega arith)); fits = λ at area rest more start i d r. (refl, refl) }
-  again-from (f ∷ fs) h at e = again-step fs (λ at e. again-from fs (h .1) at e) at (f .code) (f .unsigned) (f .count) (h .0) e
+  again-from (f ∷ fs) h at e = again-step fs (λ at e. again-from fs (h .1) at e) at (f .role) (f .unsigned) (f .count) (h .0) e

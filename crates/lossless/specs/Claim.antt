@@ -6,8 +6,8 @@ use mathlib.Core.Bool.{Bool, true, false, _&&_, not}
 use mathlib.Core.List.{List, [], _∷_, _++_, map}
 use lib.ListN.{length, drop}
 use lib.Dec.{T, leb, ltb, eqb}
-use Rattle.layout.specs.declared.Code.{Code}
-use Rattle.layout.specs.declared.Code.the-variants.{Data, Move}
+use Rattle.layout.specs.declared.Role.{Role}
+use Rattle.layout.specs.declared.Role.the-variants.{Data, Move}
 use Rattle.layout.specs.declared.Shape.{Shape}
 use Rattle.layout.specs.declared.Shape.the-variants.{Text, Digits, Integers, Reals}
 use Rattle.layout.specs.declared.Count.{Count}
@@ -30,16 +30,16 @@ showsAll (Digits true high) n = eqb (n % 2) 0  -- `h H`
 showsAll (Integers w big) n = true  -- `c s S i I w W`
 showsAll (Reals single big) n = not single  -- `q Q` (02, M-108); of `r R` an infinity is shown but not stored
 
--- `x X @` show nothing
-abbrev pub losslessCode : Code → Count → Bool
-losslessCode (Data s) n = showsAll s (amount n 0)
-losslessCode (Move m) n = false
+-- a field shows every bit of the bytes that it fills; `x X @` show nothing
+abbrev pub losslessRole : Role → Count → Bool
+losslessRole (Data s) n = showsAll s (amount n 0)
+losslessRole (Move m) n = false
 
--- Each count is absent or a number from 1 on. Digits without a count are one digit, which is neither eight nor even.
--- The flag `u` (02, M-101) may stand in any field: nothing here looks at it.
+-- Each field shows all, and its count is absent or a number from 1 on. Digits without a count are one digit, which is
+-- neither eight nor even. The flag `u` (02, M-101) may stand in any field: nothing here looks at it.
 unfoldable pub lossless : List Field → Bool
 lossless [] = true
-lossless (f ∷ fs) = losslessCode (f .code) (f .count) && plainCount (f .count) && lossless fs
+lossless (f ∷ fs) = losslessRole (f .role) (f .count) && plainCount (f .count) && lossless fs
 
 -- a lossless layout: its text and its fields
 pub record Layout : Type 0 where
@@ -50,14 +50,14 @@ pub record Layout : Type 0 where
 
 -- ---- which records (02, M-107, the length and the premise)
 
--- Every element is a byte. A call is lent nothing else, but here a record is a list of whole numbers, and 256 in a field `c` would come back as 0,
--- the lowest byte of the value that was read.
+-- Every element is a byte. A call is lent nothing else, but here a record is a list of whole numbers, and 256 in a
+-- field `c` would come back as 0, the lowest byte of the value that was read.
 unfoldable pub areBytes : List ℕ → Bool
 areBytes [] = true
 areBytes (b ∷ bs) = ltb b 256 && areBytes bs
 
--- A record of the layout; the table, area and mark that its reading is lent, and the buffer that the packing after it is lent,
--- whatever they hold.
+-- A record of the layout; the table, area and mark that its reading is lent, and the buffer that the packing after it
+-- is lent, whatever they hold.
 pub record Archived (l : Layout) : Type 0 where
   pub bytes : List ℕ
   pub slots : List ℕ
@@ -67,12 +67,13 @@ pub record Archived (l : Layout) : Type 0 where
   pub are-bytes : T (areBytes bytes)
   -- the fields fill just these bytes
   pub is-full : length bytes ≡ endOf (l .fields)
-  -- as many slots as fields
+  -- as many slots are lent as the layout has fields
   pub slot-for-each : length (slotsOf slots) ≡ slotCount (l .fields)
   -- room for the values in the area after the mark, and for the record in the buffer
   pub area-room : mark + length (valueBytes (valuesFrom bytes 0 (l .fields))) ≤ length area
   pub output-room : length bytes ≤ length output
-  -- number 1 applies to neither call; the packing is lent what the reading leaves, which has the sizes of what that was lent
+  -- number 1 applies to neither call; the packing is lent what the reading leaves, which has the sizes of what that was
+  -- lent
   pub read-sizes : T (sizesFit (l .text) slots bytes area && leb mark (length area))
   pub pack-sizes : T (sizesFit (l .text) slots output area)
 
@@ -92,12 +93,18 @@ shownBy l r = map (shown (readingOf l r .area)) (slotsOf (readingOf l r .slots))
 -- ---- the claim
 
 pub record LosesNothing (l : Layout) : Type 0 where
-  -- the reading puts the values of all fields into the table and the area ..
-  pub reads : (r : Archived l) → readingOf l r ≡ putInto (r .slots) (r .area) (r .mark) (positionsFrom (length (r .bytes)) 0 (l .fields)) (valuesFrom (r .bytes) 0 (l .fields))
-  -- .. and sets every slot
+  -- the reading puts the values of all fields into the table and the area
+  pub reads : (r : Archived l)
+      → readingOf l r
+      ≡ putInto (r .slots) (r .area) (r .mark) (positionsFrom (length (r .bytes)) 0 (l .fields))
+      (valuesFrom (r .bytes) 0 (l .fields))
+  -- the reading sets every slot
   pub sets-all :
-      (r : Archived l) → readingOf l r .answer ≡ accepted (slotCount (l .fields)) (r .mark + length (valueBytes (valuesFrom (r .bytes) 0 (l .fields))))
-  -- packing them again answers the record's length and stores the record, byte for byte; bytes of the buffer past it stay
+      (r : Archived l)
+      → readingOf l r .answer
+      ≡ accepted (slotCount (l .fields)) (r .mark + length (valueBytes (valuesFrom (r .bytes) 0 (l .fields))))
+  -- packing the values again answers the record's length and stores the record, byte for byte; bytes of the buffer past
+  -- it stay
   pub gives-back :
       (r : Archived l) → packingOf l r
       ≡ record { answer = accepted (length (r .bytes)) 0; output = r .bytes ++ drop (length (r .bytes)) (r .output) }

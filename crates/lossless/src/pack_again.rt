@@ -1,6 +1,7 @@
 // A record read by a layout and packed again by it: the calls of which M-107 speaks.
-// The claim and its proof are in the crate `lossless`; `read_and_pack` keeps it.
-ghost use Rattle.lossless.specs.pack_again.{ReadsAndPacksAs};
+// The claim is in specs/Claim.antt, its proof in proofs/; `read_and_pack` keeps it.
+ghost use Rattle.layout.specs.Lent.{before, after};
+ghost use Rattle.lossless.specs.Calls.{ReadsAndPacksAs};
 use record::Answer;
 
 // Reads a record by a layout into a table and an area, and packs by the same layout what the table then shows.
@@ -15,14 +16,14 @@ pub fn read_and_pack(
 ) -> Answer
     ensures { λ r. ⌜ ReadsAndPacksAs
         (record {
-          layout = now (layout .entry);
-          bytes = now (bytes .entry);
-          slots = now (slots .entry);
-          area = now (area .entry);
+          layout = before layout;
+          bytes = before bytes;
+          slots = before slots;
+          area = before area;
           mark = mark;
-          output = now (out .entry);
+          output = before out;
         })
-        (record { answer = r; slots = now (slots .exit); area = now (area .exit); output = now (out .exit) }) ⌝ }
+        (record { answer = r; slots = after slots; area = after area; output = after out }) ⌝ }
 {
     let r = reader::read(layout, bytes, slots, area, mark);
     let a = r.answer;

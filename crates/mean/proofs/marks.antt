@@ -1,4 +1,5 @@
--- Laws of the mean: of one slot, of the walk, of the division, that it gives the nearest double; and what holds of the whole.
+-- Laws of the mean: of one slot, of the walk, of the division, that it gives the nearest double; and what holds of the
+-- whole.
 mod Examples
 pub mod LegLaws
 pub mod WalkLaws

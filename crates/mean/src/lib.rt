@@ -1,12 +1,14 @@
-// The mean of the marked legs: each slot of a table is one leg, which has a mark or is not set. The module `marks` has the definitions and what holds of them.
+// The mean of the marked legs: each slot of a table is one leg, which has a mark or is not set. The definitions are in
+// specs/Mean.antt.
 ghost use mathlib.Core.Path.{_≡_};
 ghost use Prim.Native.Nat.{_+_, _*_, _≤_};
 ghost use lib.ListN.{length};
+ghost use Rattle.layout.specs.Lent.{before};
 ghost use Rattle.record.specs.Table.{slotWidth};
 ghost use Rattle.record.specs.Packing.{refusal};
 ghost use Rattle.record.specs.Slots.{slotAt};
-ghost use Rattle.mean.specs.marks.Mean.{legOf, mean};
-ghost use Rattle.mean.specs.marks.Walk.{turnOf, meanOfTally, Near};
+ghost use Rattle.mean.specs.Mean.{legOf, mean};
+ghost use Rattle.mean.specs.inside.Walk.{turnOf, meanOfTally, Near};
 use byte_runs::big_endian;
 use layout::Refusal;
 use marks::LegMean;
@@ -16,7 +18,7 @@ use marks::Turn;
 use record::Answer;
 use slot_table::sizes;
 
-// Its definitions, worked examples and theorems: no code.
+// What a call answers, and what its walk counts.
 pub mod marks;
 
 const MAX_MARK: u64 = 1000000;
@@ -30,13 +32,13 @@ fn refused(why: Refusal, place: u32) -> Marks
     }
 }
 
-// Slot number k.
+// The tally with the leg in slot number k, or the refusal of that slot.
 fn step(slots: &[u32], area: &[u8], k: usize, t: Tally) -> Turn
     requires { ⌜ (slotWidth * k + slotWidth ≤ length (now slots)) × Near k t ⌝ }
-    ensures { λ r. ⌜ r ≡ turnOf t (legOf (now (area .entry)) k (slotAt (now (slots .entry)) k)) ⌝ }
+    ensures { λ r. ⌜ r ≡ turnOf t (legOf (before area) k (slotAt (before slots) k)) ⌝ }
 {
     let s = slot_table::slot_at(slots, k);
-    if s.kind == 0 {
+    if s.kind == record::slots::UNSET {
         return Turn::Next(Tally {
             sum: t.sum,
             marked: t.marked,
@@ -50,7 +52,7 @@ fn step(slots: &[u32], area: &[u8], k: usize, t: Tally) -> Turn
         return Turn::Stop(Refusal::WrongKind);
     }
     if s.len != 1 {
-        return Turn::Stop(Refusal::WrongAmount);
+        return Turn::Stop(Refusal::BadList);
     }
     let mark = big_endian::number_at(area, s.start, record::INTEGER_SIZE);
     if MAX_MARK < mark {
@@ -63,7 +65,7 @@ fn step(slots: &[u32], area: &[u8], k: usize, t: Tally) -> Turn
     })
 }
 
-// The one division.
+// The mean of a tally: the one division.
 fn mean_of_tally(t: Tally) -> LegMean
     ensures { λ r. ⌜ r ≡ meanOfTally t ⌝ }
 {
@@ -77,7 +79,7 @@ fn mean_of_tally(t: Tally) -> LegMean
 
 // The mean of the marks in a table, and how many of its slots are not set. A refusal says that no leg is marked.
 pub fn mean(slots: &[u32], area: &[u8]) -> Marks
-    ensures { λ r. ⌜ r ≡ mean (now (slots .entry)) (now (area .entry)) ⌝ }
+    ensures { λ r. ⌜ r ≡ mean (before slots) (before area) ⌝ }
 {
     if !sizes::table_fits(slots.len(), area.len()) {
         return refused(Refusal::BadSize, 0);

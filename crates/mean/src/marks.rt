@@ -1,4 +1,5 @@
-// The mean of the marked legs (document 02, M-104): what a call answers and its walk counts, the definitions, examples and theorems, and no code.
+// The mean of the marked legs (document 02, M-104): what a call answers, and what its walk over the slots counts.
+// Types, and no code.
 use layout::Refusal;
 use record::Answer;
 

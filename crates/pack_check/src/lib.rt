@@ -2,7 +2,7 @@
 
 // The exact check of one argument.
 pub mod arguments;
-// The quick test before it.
+// A quick test, which most arguments pass.
 mod quick_check;
-// The pass.
+// The pass over the fields.
 pub mod measuring;

@@ -1,19 +1,22 @@
-// The measuring pass of a packing: each argument is checked, and the length of the result is measured. Nothing is written.
+// The measuring pass of a packing: each argument is checked, and the length of the result is measured. Nothing is
+// written.
 ghost use mathlib.Core.Path.{_≡_};
 ghost use Prim.Native.Nat.{_+_, _<_};
-ghost use Rattle.layout.specs.Words.{decoded, fieldOf, FitCount};
+ghost use Rattle.layout.specs.Codes.{fieldOf};
+ghost use Rattle.layout.specs.inside.Parsing.{decoded, FitCount};
+ghost use Rattle.layout.specs.Lent.{before};
 ghost use Rattle.record.specs.Table.{slotsOf};
 ghost use Rattle.record.specs.Slots.{slotAt};
-ghost use Rattle.record.specs.Cursor.{origin, moved};
-ghost use Rattle.pack_check.specs.measuring.{Ready, Prepared, stepped, checked, steppedOf, Measures};
+ghost use Rattle.record.specs.inside.Cursor.{origin, moved};
+ghost use Rattle.pack_check.specs.inside.measuring.{StepReady, Prepared, fieldChecked, argumentsChecked, steppedOf, Measures};
 use super::arguments;
 use super::arguments::Verdict;
 use super::quick_check;
 use super::quick_check::Quick;
-use layout::Code;
 use layout::Count;
 use layout::Motion;
 use layout::Refusal;
+use layout::Role;
 use layout::Shape;
 use record::Cursor;
 use slot_table::sizes;
@@ -43,12 +46,12 @@ pub fn moved(m: Motion, n: Count, c: Cursor) -> Cursor
 }
 
 // One field of the pass, by the exact check of its argument.
-fn step_exactly(code: Code, n: Count, slots: &[u32], area: &[u8], k: usize, c: Cursor) -> Stepped
-    requires { ⌜ Ready (now slots) k c code n ⌝ }
-    ensures { λ r. ⌜ r ≡ steppedOf (stepped (now (area .entry)) k (slotAt (now (slots .entry)) k) c code n) ⌝ }
+fn step_exactly(role: Role, n: Count, slots: &[u32], area: &[u8], k: usize, c: Cursor) -> Stepped
+    requires { ⌜ StepReady (now slots) k c role n ⌝ }
+    ensures { λ r. ⌜ r ≡ steppedOf (fieldChecked (before area) k (slotAt (before slots) k) c role n) ⌝ }
 {
-    match code {
-        Code::Data(s) => {
+    match role {
+        Role::Data(s) => {
             let a = slot_table::slot_at(slots, k);
             let v = arguments::check(s, n, a, k, area);
             match v {
@@ -59,19 +62,22 @@ fn step_exactly(code: Code, n: Count, slots: &[u32], area: &[u8], k: usize, c: C
                 }
             }
         }
-        Code::Move(m) => Stepped::Next(moved(m, n, c)),
+        Role::Move(m) => Stepped::Next(moved(m, n, c)),
     }
 }
 
-// One field of the pass. Where the quick test tells a value's bytes, its argument serves; the exact check does the rest.
-fn step(word: u32, slots: &[u32], area: &[u8], k: usize, c: Cursor) -> Stepped
-    requires { ⌜ Ready (now slots) k c (fieldOf word .code) (fieldOf word .count) ⌝ }
-    ensures { λ r. ⌜ r ≡ steppedOf (stepped (now (area .entry)) k (slotAt (now (slots .entry)) k) c (fieldOf word .code) (fieldOf word .count)) ⌝ }
+// One field of the pass. Where the quick test tells a value's bytes, its argument serves; the exact check does the
+// rest.
+fn step(code: u32, slots: &[u32], area: &[u8], k: usize, c: Cursor) -> Stepped
+    requires { ⌜ StepReady (now slots) k c (fieldOf code .role) (fieldOf code .count) ⌝ }
+    ensures { λ r. ⌜ r
+        ≡ steppedOf
+        (fieldChecked (before area) k (slotAt (before slots) k) c (fieldOf code .role) (fieldOf code .count)) ⌝ }
 {
-    let d = word % layout::FLAG_UNIT;
+    let d = code % layout::FLAG_UNIT;
     if d <= layout::LAST_DATA {
         let a = slot_table::slot_at(slots, k);
-        let n = layout::count_from(word / layout::COUNT_UNIT);
+        let n = layout::count_from(code / layout::COUNT_UNIT);
         let q = quick_check::try_argument(d, n, record::amount(n, a.len), a, area);
         match q {
             Quick::Bytes(bytes) => {
@@ -80,24 +86,25 @@ fn step(word: u32, slots: &[u32], area: &[u8], k: usize, c: Cursor) -> Stepped
             Quick::Unsure => {}
         }
     }
-    let f = layout::field_of(word);
-    let code = f.code;
+    let f = layout::field_of(code);
+    let role = f.role;
     let count = f.count;
-    step_exactly(code, count, slots, area, k, c)
+    step_exactly(role, count, slots, area, k, c)
 }
 
-// The pass over the fields in the first n words.
-pub fn measure(words: &[u32], n: usize, slots: &[u32], area: &[u8]) -> Measured
-    requires { ⌜ Prepared n (now words) (now slots) ⌝ }
-    ensures { λ r. ⌜ Measures (checked (now (area .entry)) 0 (slotsOf (now (slots .entry))) (decoded n (now (words .entry))) origin) r ⌝ }
+// The pass over the fields in the first n codes.
+pub fn measure(codes: &[u32], n: usize, slots: &[u32], area: &[u8]) -> Measured
+    requires { ⌜ Prepared n (now codes) (now slots) ⌝ }
+    ensures { λ r. ⌜ Measures
+        (argumentsChecked (before area) 0 (slotsOf (before slots)) (decoded n (before codes)) origin) r ⌝ }
 {
     let mut c = Cursor::new(0);
     let mut k: usize = 0;
     let mut i: usize = 0;
     while i < n {
-        let word = words[i];
-        let taken = layout::slots_in(word % layout::FLAG_UNIT);
-        let t = step(word, slots, area, k, c);
+        let code = codes[i];
+        let taken = layout::slots_in(code % layout::FLAG_UNIT);
+        let t = step(code, slots, area, k, c);
         match t {
             Stepped::Stop(why, place) => {
                 return Measured::Refused(why, place);

@@ -2,23 +2,26 @@
 ghost use mathlib.Core.Path.{_≡_};
 ghost use Prim.Native.Nat.{_≤_, _<_};
 ghost use Rattle.layout.specs.declared.Count.{Count};
-ghost use Rattle.layout.specs.Words.{lastDigits, lastIntegers, lastData, shapeNumbered};
+ghost use Rattle.layout.specs.Codes.{lastDigits, lastIntegers, lastData};
+ghost use Rattle.layout.specs.inside.Parsing.{shapeNumbered};
+ghost use Rattle.layout.specs.Lent.{before};
 ghost use Rattle.record.specs.Table.{numberLimit};
-ghost use Rattle.record.specs.Geometry.{amount, itemsLimit};
+ghost use Rattle.record.specs.Geometry.{amount};
+ghost use Rattle.record.specs.inside.Bounds.{itemsLimit};
 ghost use Rattle.record.specs.Packing.{enough};
-ghost use Rattle.pack_check.specs.quick_check.{Sound};
+ghost use Rattle.pack_check.specs.inside.quick_check.{Sound};
 use super::arguments;
 use layout::Count;
 use record::slots::Slot;
 use slot_table::sizes;
 
-// What the quick test answers: the argument serves and the field takes so many bytes, or the exact check must tell.
+// What the quick test answers: the argument serves, with the bytes that the field takes; or the exact check must tell.
 pub enum Quick {
     Bytes(usize),
     Unsure,
 }
 
-// An argument of so many integers or reals has the items that its field takes.
+// An argument of `have` integers or reals has the items that its field takes.
 fn is_plenty(n: Count, items: usize, have: usize) -> bool
     requires { ⌜ items ≡ amount n have ⌝ }
     ensures { λ r. ⌜ r ≡ enough n have ⌝ }
@@ -30,10 +33,11 @@ fn is_plenty(n: Count, items: usize, have: usize) -> bool
     }
 }
 
-// The argument of integers.
+// The quick test of an argument for a field of integers.
 fn try_integers(d: u32, n: Count, items: usize, a: Slot, area: &[u8]) -> Quick
-    requires { ⌜ (lastDigits < d) × (d ≤ lastIntegers) × (items ≡ amount n (a .len)) × (items < itemsLimit) × (a .start < numberLimit) × (a .len < numberLimit) ⌝ }
-    ensures { λ r. ⌜ Sound r (now (area .entry)) (shapeNumbered d) n a ⌝ }
+    requires { ⌜ (lastDigits < d) × (d ≤ lastIntegers) × (items ≡ amount n (a .len)) × (items < itemsLimit)
+        × (a .start < numberLimit) × (a .len < numberLimit) ⌝ }
+    ensures { λ r. ⌜ Sound r (before area) (shapeNumbered d) n a ⌝ }
 {
     let kind = a.kind;
     if kind < record::slots::SIGNED {
@@ -51,10 +55,11 @@ fn try_integers(d: u32, n: Count, items: usize, a: Slot, area: &[u8]) -> Quick
     Quick::Bytes(sizes::bytes_numbered(d, items))
 }
 
-// The argument of reals.
+// The quick test of an argument for a field of reals.
 fn try_reals(d: u32, n: Count, items: usize, a: Slot, area: &[u8]) -> Quick
-    requires { ⌜ (lastIntegers < d) × (d ≤ lastData) × (items ≡ amount n (a .len)) × (items < itemsLimit) × (a .start < numberLimit) × (a .len < numberLimit) ⌝ }
-    ensures { λ r. ⌜ Sound r (now (area .entry)) (shapeNumbered d) n a ⌝ }
+    requires { ⌜ (lastIntegers < d) × (d ≤ lastData) × (items ≡ amount n (a .len)) × (items < itemsLimit)
+        × (a .start < numberLimit) × (a .len < numberLimit) ⌝ }
+    ensures { λ r. ⌜ Sound r (before area) (shapeNumbered d) n a ⌝ }
 {
     if a.kind != record::slots::REAL {
         return Quick::Unsure;
@@ -71,12 +76,13 @@ fn try_reals(d: u32, n: Count, items: usize, a: Slot, area: &[u8]) -> Quick
     Quick::Bytes(sizes::bytes_numbered(d, items))
 }
 
-// The argument of text or digits. A string may be shorter or longer than its field, so the count is not looked at.
+// The quick test of an argument for a field of text or digits. A string may be shorter or longer than its field, so the
+// count is not looked at.
 fn try_string(d: u32, items: usize, a: Slot, area: &[u8]) -> Quick
     requires { ⌜ (d ≤ lastDigits) × (items < itemsLimit) × (a .start < numberLimit) × (a .len < numberLimit) ⌝ }
-    ensures { λ r. ⌜ ((n : Count) → items ≡ amount n (a .len) → Sound r (now (area .entry)) (shapeNumbered d) n a) ⌝ }
+    ensures { λ r. ⌜ ((n : Count) → items ≡ amount n (a .len) → Sound r (before area) (shapeNumbered d) n a) ⌝ }
 {
-    if a.kind != 1 {
+    if a.kind != record::slots::STRING {
         return Quick::Unsure;
     }
     if area.len() < a.start + a.len {
@@ -96,10 +102,12 @@ fn try_string(d: u32, items: usize, a: Slot, area: &[u8]) -> Quick
     Quick::Bytes(sizes::bytes_numbered(d, items))
 }
 
-// The argument of a field that takes so many items, by the number of the field's type. Where this is unsure, `arguments::check` finds what is wrong.
+// The quick test of an argument for a field that takes `items` items, by the number of the field's type. Where this is
+// unsure, `arguments::check` finds what is wrong.
 pub fn try_argument(d: u32, n: Count, items: usize, a: Slot, area: &[u8]) -> Quick
-    requires { ⌜ (d ≤ lastData) × (items ≡ amount n (a .len)) × (items < itemsLimit) × (a .start < numberLimit) × (a .len < numberLimit) ⌝ }
-    ensures { λ r. ⌜ Sound r (now (area .entry)) (shapeNumbered d) n a ⌝ }
+    requires { ⌜ (d ≤ lastData) × (items ≡ amount n (a .len)) × (items < itemsLimit) × (a .start < numberLimit)
+        × (a .len < numberLimit) ⌝ }
+    ensures { λ r. ⌜ Sound r (before area) (shapeNumbered d) n a ⌝ }
 {
     if d <= layout::LAST_DIGITS {
         return try_string(d, items, a, area);

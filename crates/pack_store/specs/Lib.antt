@@ -1,4 +1,2 @@
--- What contracts of this crate cite.
-pub mod stores
--- What the writing pass computes. The definition of packing itself stands in the crate `record`.
-pub mod writing
+-- What the second pass of a packing computes. The definition of packing itself stands in the crate `record`.
+pub mod inside

@@ -1,6 +1,6 @@
 // The second pass of a packing: every field stored.
 
-// One value.
+// One value stored.
 pub mod stores;
-// The pass.
+// The pass over the fields.
 pub mod writing;

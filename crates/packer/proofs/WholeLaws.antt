@@ -8,18 +8,18 @@ use lib.Dec.{eqb}
 use lib.ListN.{length}
 use Rattle.layout.specs.declared.Field.{Field}
 use Rattle.layout.specs.declared.Refusal.{Refusal}
-use Rattle.layout.specs.declared.Refusal.the-variants.{BadSize, WrongSlots}
+use Rattle.layout.specs.declared.Refusal.the-variants.{BadSize, BadSlots}
 use Rattle.layout.specs.declared.Parsed.{Parsed}
 use Rattle.layout.specs.Refusals.{Result, ok, refused}
 use Rattle.layout.specs.Layout.{fieldsOf, slotCount}
-use Rattle.layout.specs.Words.{Parses}
+use Rattle.layout.specs.inside.Parsing.{Parses}
 use Rattle.layout.proofs.Places.{refused-inside}
 use Rattle.record.specs.declared.Answer.{Answer}
 use Rattle.record.specs.Table.{slotsOf, slotWidth}
 use Rattle.record.specs.Geometry.{lengthsFit}
 use Rattle.record.specs.Packing.{finished, refusal, packEffect, packFields, pack}
 use Rattle.record.proofs.ByFields.{pack-fields}
-use Rattle.packer.specs.Whole.{Read, PacksAsRead}
+use Rattle.packer.specs.inside.Whole.{FieldsRead, PacksAsRead}
 use Rattle.record.proofs.Sizes.{Sized, sized}
 use Rattle.record.proofs.Tables.{length-slots}
 
@@ -37,7 +37,7 @@ module _ (size : ℕ) (o : Result (List Field)) (slots area output : List ℕ) w
     pack-refused why place e = simp (fine, e)
 
     module _ (fs : List Field) (e : o ≡ ok fs) where
-      pub pack-slots : eqb (length (slotsOf slots)) (slotCount fs) ≡ false → record { answer = refusal WrongSlots 0; output = output } ≡ packFields size o slots area output
+      pub pack-slots : eqb (length (slotsOf slots)) (slotCount fs) ≡ false → record { answer = refusal BadSlots 0; output = output } ≡ packFields size o slots area output
       unfolding packFields
       pack-slots h = simp (fine, e, h)
 
@@ -46,7 +46,7 @@ module _ (size : ℕ) (o : Result (List Field)) (slots area output : List ℕ) w
       pack-finish h = simp (fine, e, h)
 
 -- the limits that are checked before the fields are read
-pub read-sized : {p : Parsed} {ws slots area output : List ℕ} {size : ℕ} {o : Result (List Field)} → Read p ws slots area output size o → Sized size (length slots) (length output) (length area)
+pub read-sized : {p : Parsed} {ws slots area output : List ℕ} {size : ℕ} {o : Result (List Field)} → FieldsRead p ws slots area output size o → Sized size (length slots) (length output) (length area)
 read-sized j = sized (j .fine)
 
 -- ---- by a layout
@@ -57,7 +57,7 @@ module _ (layout slots area output : List ℕ) where
   layout-sizes h = pack-sizes (length layout) (fieldsOf true layout) slots area output h ∙ sym (pack-fields layout slots area output)
 
   module _ {p : Parsed} {ws : List ℕ} (fine : lengthsFit (length layout) (length slots) (length output) (length area) ≡ true) (parsed : Parses (fieldsOf true layout) p ws) where
-    pub layout-read : Read p ws slots area output (length layout) (fieldsOf true layout)
+    pub layout-read : FieldsRead p ws slots area output (length layout) (fieldsOf true layout)
     layout-read = record { fine = fine; parsed = parsed; inside = refused-inside true layout }
 
     pub layout-packed : {r : Answer} {out : List ℕ} → PacksAsRead p ws slots area output r out → record { answer = r; output = out } ≡ pack layout slots area output

@@ -16,8 +16,8 @@ use Rattle.record.specs.Packing.{accepted, refusal}
 use Rattle.record.proofs.Fields.{split}
 use Rattle.perl.specs.declared.items.Span.{Span}
 use Rattle.perl.specs.declared.items.Span.the-variants.{Read, Stray}
-use Rattle.perl.specs.items.Template.{Template, Reading, read, stray, templateOf}
-use Rattle.perl.specs.items.Readers.{itemsFrom, templateText, Stored, Written}
+use Rattle.perl.specs.Template.{Template, ReadTo, read, stray, templateOf}
+use Rattle.perl.specs.inside.Readers.{itemsFrom, templateText, Stored, Written}
 use Rattle.perl.proofs.items.Letters.{was-read, was-stray}
 use Rattle.perl.proofs.readers.Readings.{Ends, items-end}
 use Rattle.perl.specs.Conversion.{layoutFrom, fromPerl}
@@ -31,7 +31,7 @@ module _ (template buffer : List ℕ) where
   call-size h = rw (lt-leb (length template) maxLayout h)
 
   module _ (fits : length template ≤ maxLayout) (block : List ℕ) (r : Span) (block′ : List ℕ) (w : Written templateText (itemsFrom 0 false template 0) 0 block r block′) where
-    abbrev o : Reading Template
+    abbrev o : ReadTo Template
     o = itemsFrom 0 false template 0
 
     module _ (p : ℕ) (e : r ≡ Stray p) where

@@ -9,8 +9,8 @@ use Rattle.layout.specs.Refusals.{Result, ok, refused, _>>=_, demand}
 use Rattle.layout.specs.Layout.{maxLayout}
 use Rattle.record.specs.declared.Answer.{Answer}
 use Rattle.record.specs.Packing.{accepted, refusal}
-use Rattle.perl.specs.items.Template.{templateOf}
-use Rattle.perl.specs.items.Writing.{writtenOut, textOf}
+use Rattle.perl.specs.Template.{templateOf}
+use Rattle.perl.specs.Writing.{writtenOut, textOf}
 
 -- the layout, or the first refusal: 1, 15, 11 (02, M-105: refusals)
 unfoldable pub layoutFrom : List ℕ → List ℕ → Result (List ℕ)
@@ -27,9 +27,10 @@ pub record Converted : Type 0 where
   pub answer : Answer
   pub layout : List ℕ
 
--- the buffer keeps what stands after the layout; refused, it keeps all
+-- the buffer keeps what stands after the layout, and after a refusal all that it held
 abbrev pub convertEffect : List ℕ → Result (List ℕ) → Converted
-convertEffect buffer (ok text) = record { answer = accepted (length text) 0; layout = text ++ drop (length text) buffer }
+convertEffect buffer (ok text) =
+    record { answer = accepted (length text) 0; layout = text ++ drop (length text) buffer }
 convertEffect buffer (refused why place) = record { answer = refusal why place; layout = buffer }
 
 unfoldable pub fromPerl : List ℕ → List ℕ → Converted

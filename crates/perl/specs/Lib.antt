@@ -1,6 +1,7 @@
--- The definitions of M-105: a Perl pack template becomes our layout text. Read Template and Writing of the module `items`, then Conversion, whose
--- `fromPerl` is the effect of a call; what is proved of it besides, and worked examples, are in the crate `perl_claims`.
+-- Perl pack templates as layouts (02, M-105). Read Tokens, Template and Writing, then Conversion, whose `fromPerl` is
+-- the effect of a call; what is proved of it besides, and worked examples, are in the crate `perl_claims`.
+pub mod Tokens
+pub mod Template
+pub mod Writing
 pub mod Conversion
--- What contracts of this crate cite.
-pub mod tokens
-pub mod items
+pub mod inside

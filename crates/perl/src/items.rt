@@ -1,4 +1,5 @@
-// A template's items put into a block as layout text: a letter with its count, and what is there already, again and again.
+// A template's items put into a block as layout text: a letter with its count, and what is there already, again and
+// again.
 ghost use mathlib.Core.Path.{_≡_};
 ghost use mathlib.Core.List.{_∷_, _++_};
 ghost use Prim.Native.Nat.{suc, _+_, _≤_, _<_};
@@ -6,25 +7,25 @@ ghost use lib.ListN.{length, drop, getD};
 ghost use Rattle.layout.specs.Lent.{before, after};
 ghost use Rattle.layout.specs.Layout.{maxLayout};
 ghost use Rattle.record.specs.Bytes.{part, storeAt};
-ghost use Rattle.perl.specs.tokens.{maxRepeat, letterOf};
-ghost use Rattle.perl.specs.items.Template.{letterAt};
-ghost use Rattle.perl.specs.items.Writing.{flagText};
-ghost use Rattle.perl.specs.items.Readers.{itemText, Stored, Again, Written};
+ghost use Rattle.perl.specs.Tokens.{maxRepeat, letterOf};
+ghost use Rattle.perl.specs.Template.{letterAt};
+ghost use Rattle.perl.specs.Writing.{flagText};
+ghost use Rattle.perl.specs.inside.Readers.{itemText, Stored, Again, Written};
 use super::tokens::Letter;
-use super::tokens::MAX_COUNT;
+use super::tokens::MAX_TEMPLATE_COUNT;
 use layout::MAX_LAYOUT;
 
-// What a reader of a template finds: the place after what it read, and the place after the layout text that it put into the block, held at one
-// byte more than the block has; or the place of the stray byte.
+// What a reader of a template finds: the place after what it read, and the place after the layout text that it put into
+// the block, held at one byte more than the block has; or the place of the stray byte.
 pub enum Span {
     Read(usize, usize),
     Stray(usize),
 }
 
-// A letter and the flag after it.
+// Puts a letter, and the flag after it.
 fn put_letter(out: &mut [u8], to: usize, letter: u8, flagged: bool)
     requires { ⌜ to + suc (length (flagText flagged)) ≤ length (now out) ⌝ }
-    ensures { λ _. ⌜ now (out .exit) ≡ storeAt (now (out .entry)) to (letter ∷ flagText flagged) ⌝ }
+    ensures { λ _. ⌜ after out ≡ storeAt (before out) to (letter ∷ flagText flagged) ⌝ }
 {
     out[to] = letter;
     if flagged {
@@ -49,8 +50,9 @@ fn put(
     start: usize,
     n: usize,
 ) -> usize
-    requires { ⌜ (start + n ≤ length (now text)) × (length (now text) ≤ maxLayout) × (length (now out) ≡ maxLayout) × (to ≤ suc maxLayout) ⌝ }
-    ensures { λ r. ⌜ Stored ((letter ∷ flagText flagged) ++ part (now (text .entry)) start n) to (now (out .entry)) r (now (out .exit)) ⌝ }
+    requires { ⌜ (start + n ≤ length (now text)) × (length (now text) ≤ maxLayout) × (length (now out) ≡ maxLayout)
+        × (to ≤ suc maxLayout) ⌝ }
+    ensures { λ r. ⌜ Stored ((letter ∷ flagText flagged) ++ part (before text) start n) to (before out) r (after out) ⌝ }
 {
     let count = to + letter_size(flagged);
     let end = count + n;
@@ -62,10 +64,11 @@ fn put(
     end
 }
 
-// Has what stands from `to` to `end` stand there so many times.
+// Has what stands from `to` to `end` stand there `times` times.
 pub fn again(out: &mut [u8], to: usize, end: usize, times: usize) -> usize
-    requires { ⌜ (to ≤ end) × (end ≤ suc maxLayout) × (0 < times) × (times ≤ maxRepeat) × (length (now out) ≡ maxLayout) ⌝ }
-    ensures { λ r. ⌜ Again to end (now (out .entry)) times r (now (out .exit)) ⌝ }
+    requires { ⌜ (to ≤ end) × (end ≤ suc maxLayout) × (0 < times) × (times ≤ maxRepeat)
+        × (length (now out) ≡ maxLayout) ⌝ }
+    ensures { λ r. ⌜ Again to end (before out) times r (after out) ⌝ }
 {
     let size = end - to;
     let all = times * size;
@@ -80,17 +83,19 @@ pub fn again(out: &mut [u8], to: usize, end: usize, times: usize) -> usize
     to + all
 }
 
-// the letter at p with its count
+// Reads the letter at p with its count, and puts its layout text.
 pub fn single(text: &[u8], p: usize, out: &mut [u8], to: usize) -> Span
-    requires { ⌜ (p < length (now text)) × (length (now text) ≤ maxLayout) × (length (now out) ≡ maxLayout) × (to ≤ suc maxLayout) ⌝ }
-    ensures { λ r. ⌜ Written itemText (letterAt p (letterOf (getD (before text) p 0)) (drop (suc p) (before text))) to (before out) r (after out) ⌝ }
+    requires { ⌜ (p < length (now text)) × (length (now text) ≤ maxLayout) × (length (now out) ≡ maxLayout)
+        × (to ≤ suc maxLayout) ⌝ }
+    ensures { λ r. ⌜ Written itemText (letterAt p (letterOf (getD (before text) p 0)) (drop (suc p) (before text))) to
+        (before out) r (after out) ⌝ }
 {
     let c = text[p];
     let l = super::tokens::letter_of(c);
     let Letter::Taken(letter, flagged) = l else {
         return Span::Stray(p);
     };
-    let n = super::tokens::number(text, p + 1, MAX_COUNT);
+    let n = super::tokens::number(text, p + 1, MAX_TEMPLATE_COUNT);
     let digits = n.next - (p + 1);
     let end = put(out, to, letter, flagged, text, p + 1, digits);
     Span::Read(n.next, end)

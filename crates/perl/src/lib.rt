@@ -1,6 +1,7 @@
 // Perl pack templates become our layout text (document 02, M-105).
 // The text is put into a block of its own by `readers`, so that nothing is written before all is decided.
 ghost use mathlib.Core.Path.{_≡_};
+ghost use Rattle.layout.specs.Lent.{before, after};
 ghost use Rattle.perl.specs.Conversion.{fromPerl};
 use items::Span;
 use layout::MAX_LAYOUT;
@@ -17,7 +18,7 @@ pub mod readers;
 
 // Writes the layout that a Perl template stands for. A refusal changes nothing.
 pub fn from_perl(template: &[u8], layout: &mut [u8]) -> Answer
-    ensures { λ r. ⌜ record { answer = r; layout = now (layout .exit) } ≡ fromPerl (now (template .entry)) (now (layout .entry)) ⌝ }
+    ensures { λ r. ⌜ record { answer = r; layout = after layout } ≡ fromPerl (before template) (before layout) ⌝ }
 {
     if MAX_LAYOUT < template.len() {
         return Answer::refused(Refusal::BadSize, 0);

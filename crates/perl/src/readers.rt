@@ -4,15 +4,17 @@ ghost use mathlib.Core.Bool.{false};
 ghost use Prim.Native.Nat.{suc, _≤_, _<_};
 ghost use lib.ListN.{length};
 ghost use Rattle.layout.specs.Layout.{maxLayout};
-ghost use Rattle.perl.specs.items.Readers.{itemsFrom, itemFrom, templateText, itemText, Written};
+ghost use Rattle.layout.specs.Lent.{before, after};
+ghost use Rattle.perl.specs.inside.Readers.{itemsFrom, itemFrom, templateText, itemText, Written};
 use super::items::Span;
 use super::tokens::MAX_DEPTH;
 use super::tokens::MAX_REPEAT;
 
-// the item at p, inside so many groups
+// Reads the item at p, inside `depth` groups, and puts its layout text.
 fn item(text: &[u8], p: usize, depth: usize, out: &mut [u8], to: usize) -> Span
-    requires { ⌜ (p < length (now text)) × (length (now text) ≤ maxLayout) × (length (now out) ≡ maxLayout) × (to ≤ suc maxLayout) ⌝ }
-    ensures { λ r. ⌜ Written itemText (itemFrom depth (now (text .entry)) p) to (now (out .entry)) r (now (out .exit)) ⌝ }
+    requires { ⌜ (p < length (now text)) × (length (now text) ≤ maxLayout) × (length (now out) ≡ maxLayout)
+        × (to ≤ suc maxLayout) ⌝ }
+    ensures { λ r. ⌜ Written itemText (itemFrom depth (before text) p) to (before out) r (after out) ⌝ }
 {
     let c = text[p];
     if c != b'(' {
@@ -33,10 +35,12 @@ fn item(text: &[u8], p: usize, depth: usize, out: &mut [u8], to: usize) -> Span
     }
 }
 
-// the items from `at` on, inside so many groups, up to the `)` of the present group or the end of the template
+// Reads the items from `at` on, inside `depth` groups, up to the `)` of the present group or the end of the template,
+// and puts their layout text.
 pub fn sequence(text: &[u8], at: usize, depth: usize, out: &mut [u8], to: usize) -> Span
-    requires { ⌜ (at ≤ length (now text)) × (length (now text) ≤ maxLayout) × (length (now out) ≡ maxLayout) × (to ≤ suc maxLayout) ⌝ }
-    ensures { λ r. ⌜ Written templateText (itemsFrom depth false (now (text .entry)) at) to (now (out .entry)) r (now (out .exit)) ⌝ }
+    requires { ⌜ (at ≤ length (now text)) × (length (now text) ≤ maxLayout) × (length (now out) ≡ maxLayout)
+        × (to ≤ suc maxLayout) ⌝ }
+    ensures { λ r. ⌜ Written templateText (itemsFrom depth false (before text) at) to (before out) r (after out) ⌝ }
 {
     let mut i = at;
     let mut end = to;

@@ -2,7 +2,8 @@
 ghost use mathlib.Core.Path.{_≡_};
 ghost use Prim.Native.Nat.{_+_, _≤_};
 ghost use lib.ListN.{drop};
-ghost use Rattle.perl.specs.tokens.{maxTemplateCount, letterOf, numberIn, digitsIn, repeatOf};
+ghost use Rattle.layout.specs.Lent.{before};
+ghost use Rattle.perl.specs.Tokens.{maxTemplateCount, letterOf, numberIn, digitsIn, repeatOf};
 
 // What a Perl letter stands for in a layout: our letter, and whether the flag `u` follows it.
 pub enum Letter {
@@ -15,10 +16,10 @@ pub const MAX_DEPTH: usize = 8;
 
 pub const MAX_REPEAT: u32 = 64;
 
-pub const MAX_COUNT: u32 = 4096;
+pub const MAX_TEMPLATE_COUNT: u32 = 4096;
 
 // A number that was read, 0 where none stands, and the place after it.
-pub struct Numeral {
+pub struct TemplateNumber {
     pub value: u32,
     pub next: usize,
 }
@@ -42,32 +43,33 @@ pub fn letter_of(c: u8) -> Letter
     }
 }
 
-// the number from 1 to the limit at `at`, as far as its digits go
-pub fn number(text: &[u8], at: usize, limit: u32) -> Numeral
+// The number from 1 to the limit that stands at `at`, as far as its digits go.
+pub fn number(text: &[u8], at: usize, limit: u32) -> TemplateNumber
     requires { ⌜ limit ≤ maxTemplateCount ⌝ }
-    ensures { λ r. ⌜ (r .value ≡ numberIn limit 0 (drop at (now (text .entry)))) × (r .next ≡ at + digitsIn limit 0 (drop at (now (text .entry)))) ⌝ }
+    ensures { λ r. ⌜ (r .value ≡ numberIn limit 0 (drop at (before text)))
+        × (r .next ≡ at + digitsIn limit 0 (drop at (before text))) ⌝ }
 {
     let mut v: u32 = 0;
     let mut i = at;
     while i < text.len() {
         let c = text[i];
         if c < b'0' {
-            return Numeral { value: v, next: i };
+            return TemplateNumber { value: v, next: i };
         }
         if b'9' < c {
-            return Numeral { value: v, next: i };
+            return TemplateNumber { value: v, next: i };
         }
         let more = 10 * v + (c - b'0') as u32;
         if more == 0 {
-            return Numeral { value: v, next: i };
+            return TemplateNumber { value: v, next: i };
         }
         if limit < more {
-            return Numeral { value: v, next: i };
+            return TemplateNumber { value: v, next: i };
         }
         v = more;
         i += 1;
     }
-    Numeral { value: v, next: i }
+    TemplateNumber { value: v, next: i }
 }
 
 // How often a group is written: once where no number stands.

@@ -1,9 +1,10 @@
--- The premises of the claims can be met: M-105's own template is a spelling of its tree, and two texts have a first bad place, one of them their length.
+-- The premises of the claims can be met: M-105's own template is a spelling of its tree, and two texts have a first bad
+-- place, one of them their length.
 use mathlib.Core.Path.{refl}
 use mathlib.Core.Bool.{true, false}
 use mathlib.Core.List.{[]}
 use Rattle.layout.specs.Quoted.{bytes}
-use Rattle.perl.specs.items.Template.{Template, done, next, single, group, templateOf}
+use Rattle.perl.specs.Template.{Template, done, next, single, group, templateOf}
 use Rattle.perl_claims.specs.Spelling.{Spells}
 use Rattle.perl_claims.specs.Claim.{FirstBad, Places}
 use Rattle.perl_claims.proofs.Spelling.{read-spelled}

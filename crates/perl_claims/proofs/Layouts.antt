@@ -1,5 +1,5 @@
--- The layout reader takes the text of sound items apart into their fields: after each letter stand its flag and its count, and then a byte that belongs
--- to neither.
+-- The layout reader takes the text of sound items apart into their fields: after each letter stand its flag and its
+-- count, and then a byte that belongs to neither.
 use Prim.Native.Nat.{ℕ, suc, _+_, _-_, _*_, _≤_}
 use native.Mathlib.Nat.{add-zero}
 use native.Mathlib.Omega.{arith}
@@ -9,8 +9,8 @@ use mathlib.Core.List.{List, [], _∷_, _++_, map, append-assoc}
 use borrow.Author.Tests.{le-leb, ne-eqb}
 use lib.Dec.{eqb, ltb, leb}
 use lib.ListN.{length, take, drop, length-append}
-use Rattle.layout.specs.declared.Code.{Code}
-use Rattle.layout.specs.declared.Code.the-variants.{Data, Move}
+use Rattle.layout.specs.declared.Role.{Role}
+use Rattle.layout.specs.declared.Role.the-variants.{Data, Move}
 use Rattle.layout.specs.declared.Motion.the-variants.{Skip}
 use Rattle.layout.specs.declared.Shape.{Shape}
 use Rattle.layout.specs.declared.Shape.the-variants.{Text, Digits, Integers}
@@ -18,12 +18,12 @@ use Rattle.layout.specs.declared.Count.the-variants.{Times}
 use Rattle.layout.specs.declared.Field.{Field}
 use Rattle.layout.specs.declared.Typed.the-variants.{Known}
 use Rattle.layout.specs.Refusals.{if_then_else_, Result, ok, _>>=_}
-use Rattle.layout.specs.Layout.{maxCount, isDecimal, typeOf, takesSlot, toNat, flagged, digitRun, decimal, countOf, countLength, inLimit, hasMeaning, field, stepFrom, fieldAfter, fieldAt, stepOf, extra, before, fieldsFrom, slotCount}
+use Rattle.layout.specs.Layout.{maxCount, isDecimal, typeOf, takesSlot, toNat, flagged, digitRun, decimal, countOf, countLength, inLimit, hasMeaning, field, stepFrom, fieldAfter, fieldAt, stepOf, stepExtra, stepThen, fieldsFrom, slotCount}
 use Rattle.perl.specs.declared.tokens.Letter.{Letter}
 use Rattle.perl.specs.declared.tokens.Letter.the-variants.{Taken, Unknown}
-use Rattle.perl.specs.tokens.{maxTemplateCount, continues, withDigit, numberIn, digitsIn, letterOf}
-use Rattle.perl.specs.items.Template.{Single}
-use Rattle.perl.specs.items.Writing.{flagText, textOf}
+use Rattle.perl.specs.Tokens.{maxTemplateCount, continues, withDigit, numberIn, digitsIn, letterOf}
+use Rattle.perl.specs.Template.{Single}
+use Rattle.perl.specs.Writing.{flagText, textOf}
 use Rattle.perl_claims.specs.Spelling.{Digits as Numerals}
 use Rattle.perl_claims.specs.Claim.{countFor, fieldFor, valued}
 use Rattle.perl.proofs.tokens.Numbers.{number-limit}
@@ -32,14 +32,14 @@ use Rattle.perl.proofs.tokens.Numbers.{number-limit}
 
 -- what the layout reader makes of the letter b, whether the flag follows or not
 pub record Ours (b : ℕ) : Type 0 where
-  pub code : Code
-  pub type : typeOf b ≡ Known code
-  pub meaning : (packing : Bool) (ds : List ℕ) → hasMeaning packing code (countFor ds) ≡ true
+  pub role : Role
+  pub type : typeOf b ≡ Known role
+  pub meaning : (packing : Bool) (ds : List ℕ) → hasMeaning packing role (countFor ds) ≡ true
   pub no-space : eqb b 32 ≡ false
   pub no-digit : isDecimal b ≡ false
   pub no-star : eqb b 42 ≡ false
   pub no-flag : eqb b 117 ≡ false
-  pub slot : takesSlot code ≡ not (eqb b 120)
+  pub slot : takesSlot role ≡ not (eqb b 120)
 
 abbrev pub OurLetter : Letter → Type 0
 OurLetter (Taken b u) = Ours b
@@ -51,7 +51,7 @@ skip-meaning packing [] = refl
 skip-meaning packing (d ∷ ds) = refl
 
 value : (b : ℕ) (s : Shape) → typeOf b ≡ Known (Data s) → eqb b 32 ≡ false → isDecimal b ≡ false → eqb b 42 ≡ false → eqb b 117 ≡ false → eqb b 120 ≡ false → Ours b
-value b s t a d r g x = record { code = Data s; type = t; meaning = λ packing ds. refl; no-space = a; no-digit = d; no-star = r; no-flag = g; slot = rw x }
+value b s t a d r g x = record { role = Data s; type = t; meaning = λ packing ds. refl; no-space = a; no-digit = d; no-star = r; no-flag = g; slot = rw x }
 
 chosen : (t : Bool) (a b : Letter) → OurLetter a → OurLetter b → OurLetter (if t then a else b)
 chosen true a b h k = h
@@ -65,7 +65,7 @@ our-letter c =
     (chosen (eqb c 66) _ _ (value 66 (Digits false true) refl refl refl refl refl refl)
     (chosen (eqb c 104) _ _ (value 104 (Digits true false) refl refl refl refl refl refl)
     (chosen (eqb c 72) _ _ (value 72 (Digits true true) refl refl refl refl refl refl)
-    (chosen (eqb c 120) _ _ (record { code = Move Skip; type = refl; meaning = skip-meaning; no-space = refl; no-digit = refl; no-star = refl; no-flag = refl; slot = refl })
+    (chosen (eqb c 120) _ _ (record { role = Move Skip; type = refl; meaning = skip-meaning; no-space = refl; no-digit = refl; no-star = refl; no-flag = refl; slot = refl })
     (chosen (eqb c 67) _ _ (value 99 (Integers 1 false) refl refl refl refl refl refl)
     (chosen (eqb c 110) _ _ (value 83 (Integers 2 true) refl refl refl refl refl refl)
     (chosen (eqb c 78) _ _ (value 73 (Integers 4 true) refl refl refl refl refl refl)
@@ -145,7 +145,7 @@ module _ (packing : Bool) (at : ℕ) (s : Single) (h : SoundSingle s) (rest : Li
   abbrev tail : List ℕ
   tail = flagText (s .unsigned) ++ (s .count ++ rest)
 
-  after-letter : fieldAfter packing at (h .ours .code) tail ≡ ok (fieldFor s, toNat (s .unsigned) + length (s .count))
+  after-letter : fieldAfter packing at (h .ours .role) tail ≡ ok (fieldFor s, toNat (s .unsigned) + length (s .count))
   unfolding fieldAfter fieldFor
   after-letter =
       let f = flag-stops (s .unsigned) (s .count) rest (h .count .digits) stops in
@@ -182,7 +182,7 @@ text-fields packing (s ∷ ss) at h =
     let tail : cs ≡ flagText (s .unsigned) ++ (s .count ++ textOf ss) = append-assoc (flagText (s .unsigned)) (s .count) (textOf ss) in
     let long : toNat (s .unsigned) + length (s .count) ≡ length m = rw length-append (flag-length (s .unsigned)) in
     let step : stepOf packing at (s .letter) cs ≡ field (fieldFor s) (length m) = rw (tail, ← long) (at-letter packing at s (h .0) (textOf ss) (stops-at ss (h .1))) in
-    ap (λ st. before st (fieldsFrom packing (suc at) (extra st) cs)) step
+    ap (λ st. stepThen st (fieldsFrom packing (suc at) (stepExtra st) cs)) step
     ∙ ap (λ (r : Result (List Field)). r >>= (λ fs. ok (fieldFor s ∷ fs))) (skip packing (suc at) m (textOf ss) ∙ text-fields packing ss (suc at + length m) (h .1))
   where
     flag-length : (u : Bool) → toNat u + length (s .count) ≡ length (flagText u) + length (s .count)

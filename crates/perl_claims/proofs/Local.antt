@@ -9,23 +9,23 @@ use lib.ListN.{length, take, drop}
 use Rattle.layout.specs.Refusals.{if_then_else_}
 use Rattle.perl.specs.declared.tokens.Letter.{Letter}
 use Rattle.perl.specs.declared.tokens.Letter.the-variants.{Taken, Unknown}
-use Rattle.perl.specs.tokens.{maxTemplateCount, maxDepth, maxRepeat, letterOf, continues, withDigit, numberIn, digitsIn}
-use Rattle.perl.specs.items.Template.{Template, Item, done, Reading, read, stray, letterAt, groupAt, itemAt, Step, space, close, item, bad, stepFrom, stepAt, extra, fills, andThen, before, sequence}
+use Rattle.perl.specs.Tokens.{maxTemplateCount, maxDepth, maxRepeat, letterOf, continues, withDigit, numberIn, digitsIn}
+use Rattle.perl.specs.Template.{Template, Item, done, ReadTo, read, stray, letterAt, groupAt, itemAt, Piece, space, close, item, bad, pieceFrom, pieceAt, pieceExtra, isItem, andThen, pieceThen, sequence}
 use Rattle.perl.proofs.readers.Readings.{Ends, StepEnds, ends, step-from, extra-within}
 
 -- the place after what was read, or of the stray byte
-unfoldable pub readEnd : {A : Type 0} → Reading A → ℕ
+unfoldable pub readEnd : {A : Type 0} → ReadTo A → ℕ
 readEnd (read a e) = e
 readEnd (stray p) = p
 
 -- ---- a reading's place is not before its start
 
-place-then : (i : Item) (r : Reading Template) → readEnd (andThen i r) ≡ readEnd r
+place-then : (i : Item) (r : ReadTo Template) → readEnd (andThen i r) ≡ readEnd r
 unfolding readEnd
 place-then i (read t e) = refl
 place-then i (stray p) = refl
 
-not-before : (depth at end : ℕ) (r : Reading Template) → Ends depth at end r → at ≤ readEnd r
+not-before : (depth at end : ℕ) (r : ReadTo Template) → Ends depth at end r → at ≤ readEnd r
 unfolding readEnd
 not-before depth at end (read t e) h = h .0
 not-before depth at end (stray p) h = h .0
@@ -97,10 +97,10 @@ letter-local at (Taken b u) cs ds j e a =
 letter-local at Unknown cs ds j e a = refl
 
 -- the inner readings agree where the texts do
-abbrev Inner : ℕ → List ℕ → List ℕ → Reading Template → Reading Template → Type 0
+abbrev Inner : ℕ → List ℕ → List ℕ → ReadTo Template → ReadTo Template → Type 0
 Inner at cs ds r₁ r₂ = (k : ℕ) → suc at + k ≡ suc (readEnd r₁) → Agree k cs ds → r₂ ≡ r₁
 
-group-local : (at : ℕ) (cs ds : List ℕ) (r₁ r₂ : Reading Template) → suc at ≤ readEnd r₁ → Inner at cs ds r₁ r₂ → (j : ℕ) → suc at + j ≡ suc (readEnd (groupAt at cs r₁)) → Agree j cs ds
+group-local : (at : ℕ) (cs ds : List ℕ) (r₁ r₂ : ReadTo Template) → suc at ≤ readEnd r₁ → Inner at cs ds r₁ r₂ → (j : ℕ) → suc at + j ≡ suc (readEnd (groupAt at cs r₁)) → Agree j cs ds
     → groupAt at ds r₂ ≡ groupAt at cs r₁
 unfolding groupAt readEnd
 group-local at cs ds (read t e) r₂ h ih j q a =
@@ -111,43 +111,43 @@ group-local at cs ds (read t e) r₂ h ih j q a =
     ap (groupAt at ds) same ∙ (rw (s .0, s .1))
 group-local at cs ds (stray p) r₂ h ih j q a = ap (groupAt at ds) (ih j q a)
 
-item-local : (depth at c : ℕ) (cs ds : List ℕ) (in₁ in₂ : Unit {0} → Reading Template) → suc at ≤ readEnd (in₁ tt) → Inner at cs ds (in₁ tt) (in₂ tt)
+item-local : (depth at c : ℕ) (cs ds : List ℕ) (in₁ in₂ : Unit {0} → ReadTo Template) → suc at ≤ readEnd (in₁ tt) → Inner at cs ds (in₁ tt) (in₂ tt)
     → (j : ℕ) → suc at + j ≡ suc (readEnd (itemAt depth at c cs in₁)) → Agree j cs ds → itemAt depth at c ds in₂ ≡ itemAt depth at c cs in₁
 unfolding itemAt
 item-local depth at c cs ds in₁ in₂ h ih j q a = go (eqb c 40 && ltb depth maxDepth) q
   where
     go : (t : Bool) → suc at + j ≡ suc (readEnd {A = Item} (elim t [ true ↦ groupAt at cs (in₁ tt) | false ↦ letterAt at (letterOf c) cs ]))
-        → _≡_ {A = Reading Item} (elim t [ true ↦ groupAt at ds (in₂ tt) | false ↦ letterAt at (letterOf c) ds ]) (elim t [ true ↦ groupAt at cs (in₁ tt) | false ↦ letterAt at (letterOf c) cs ])
+        → _≡_ {A = ReadTo Item} (elim t [ true ↦ groupAt at ds (in₂ tt) | false ↦ letterAt at (letterOf c) ds ]) (elim t [ true ↦ groupAt at cs (in₁ tt) | false ↦ letterAt at (letterOf c) cs ])
     go true q = group-local at cs ds (in₁ tt) (in₂ tt) h ih j q a
     go false q = letter-local at (letterOf c) cs ds j q a
 
 -- ---- steps and sequences
 
 -- the place that a step reaches
-abbrev reached : ℕ → Step → ℕ
+abbrev reached : ℕ → Piece → ℕ
 reached at space = at
 reached at close = at
 reached at (item i e) = e
 reached at (bad p) = p
 
-reached-item : (at : ℕ) (r : Reading Item) → reached at (stepFrom r) ≡ readEnd r
+reached-item : (at : ℕ) (r : ReadTo Item) → reached at (pieceFrom r) ≡ readEnd r
 unfolding readEnd
 reached-item at (read i e) = refl
 reached-item at (stray p) = refl
 
-step-local : (depth : ℕ) (filled : Bool) (at c : ℕ) (cs ds : List ℕ) (in₁ in₂ : Unit {0} → Reading Template) → suc at ≤ readEnd (in₁ tt) → Inner at cs ds (in₁ tt) (in₂ tt)
-    → (j : ℕ) → suc at + j ≡ suc (reached at (stepAt depth filled at c cs in₁)) → Agree j cs ds → stepAt depth filled at c ds in₂ ≡ stepAt depth filled at c cs in₁
-unfolding stepAt
+step-local : (depth : ℕ) (filled : Bool) (at c : ℕ) (cs ds : List ℕ) (in₁ in₂ : Unit {0} → ReadTo Template) → suc at ≤ readEnd (in₁ tt) → Inner at cs ds (in₁ tt) (in₂ tt)
+    → (j : ℕ) → suc at + j ≡ suc (reached at (pieceAt depth filled at c cs in₁)) → Agree j cs ds → pieceAt depth filled at c ds in₂ ≡ pieceAt depth filled at c cs in₁
+unfolding pieceAt
 step-local depth filled at c cs ds in₁ in₂ h ih j q a = go (eqb c 32) (eqb c 41) q
   where
-    go : (s t : Bool) → suc at + j ≡ suc (reached at (if s then space else if t then (if ltb 0 depth && filled then close else bad at) else stepFrom (itemAt depth at c cs in₁)))
-        → (if s then space else if t then (if ltb 0 depth && filled then close else bad at) else stepFrom (itemAt depth at c ds in₂)) ≡ (if s then space else if t then (if ltb 0 depth && filled then close else bad at) else stepFrom (itemAt depth at c cs in₁))
+    go : (s t : Bool) → suc at + j ≡ suc (reached at (if s then space else if t then (if ltb 0 depth && filled then close else bad at) else pieceFrom (itemAt depth at c cs in₁)))
+        → (if s then space else if t then (if ltb 0 depth && filled then close else bad at) else pieceFrom (itemAt depth at c ds in₂)) ≡ (if s then space else if t then (if ltb 0 depth && filled then close else bad at) else pieceFrom (itemAt depth at c cs in₁))
     go true t q = refl
     go false true q = refl
-    go false false q = ap stepFrom (item-local depth at c cs ds in₁ in₂ h ih j (q ∙ ap suc (reached-item at (itemAt depth at c cs in₁))) a)
+    go false false q = ap pieceFrom (item-local depth at c cs ds in₁ in₂ h ih j (q ∙ ap suc (reached-item at (itemAt depth at c cs in₁))) a)
 
 -- what follows an item ends at the item's place or later
-reached-before : (at end : ℕ) (s : Step) (r : Reading Template) → StepEnds at end s → suc at + extra at s ≤ readEnd r → reached at s ≤ readEnd (before at s r)
+reached-before : (at end : ℕ) (s : Piece) (r : ReadTo Template) → StepEnds at end s → suc at + pieceExtra at s ≤ readEnd r → reached at s ≤ readEnd (pieceThen at s r)
 unfolding readEnd
 reached-before at end space r h k = omega arith
 reached-before at end close r h k = omega arith
@@ -155,7 +155,7 @@ reached-before at end (item i e) r h k = let p : readEnd (andThen i r) ≡ readE
 reached-before at end (bad p) r h k = omega arith
 
 -- where the rest is looked at, it decides the place
-rest-same : (at : ℕ) (s : Step) (r₁ r₂ : Reading Template) (k : ℕ) → at + suc k ≡ suc (readEnd (before at s r₁)) → (suc at + k ≡ suc (readEnd r₁) → r₂ ≡ r₁) → before at s r₂ ≡ before at s r₁
+rest-same : (at : ℕ) (s : Piece) (r₁ r₂ : ReadTo Template) (k : ℕ) → at + suc k ≡ suc (readEnd (pieceThen at s r₁)) → (suc at + k ≡ suc (readEnd r₁) → r₂ ≡ r₁) → pieceThen at s r₂ ≡ pieceThen at s r₁
 rest-same at space r₁ r₂ k q ih = ih (omega arith)
 rest-same at close r₁ r₂ k q ih = refl
 rest-same at (item i e) r₁ r₂ k q ih = let p : readEnd (andThen i r₁) ≡ readEnd r₁ = place-then i r₁ in ap (andThen i) (ih (omega arith))
@@ -166,7 +166,7 @@ abbrev Local : List ℕ → Type 0
 Local cs = (depth : ℕ) (filled : Bool) (at n : ℕ) (ds : List ℕ) (k : ℕ) → n ≤ length cs → at + k ≡ suc (readEnd (sequence depth filled at n cs)) → Agree k cs ds
     → sequence depth filled at n ds ≡ sequence depth filled at n cs
 
-lowest : (at end : ℕ) (s : Step) → StepEnds at end s → at ≤ reached at s
+lowest : (at end : ℕ) (s : Piece) → StepEnds at end s → at ≤ reached at s
 lowest at end space h = omega arith
 lowest at end close h = omega arith
 lowest at end (item i e) h = omega arith
@@ -186,19 +186,19 @@ module _ (c : ℕ) (cs : List ℕ) (ih : Local cs) (depth : ℕ) (filled : Bool)
   local-step ds zero q a = absurd (omega (arith, starts (c ∷ cs) depth filled at 0 (omega arith)))
   local-step [] (suc k) q a = absurd a
   local-step (d ∷ ds) (suc k) q a =
-      let in₁ : Unit {0} → Reading Template = λ _. sequence (suc depth) false (suc at) 0 cs in
-      let in₂ : Unit {0} → Reading Template = λ _. sequence (suc depth) false (suc at) 0 ds in
-      let s : Step = stepAt depth filled at c cs in₁ in
-      let r : Reading Template = sequence depth (filled || fills s) (suc at) (extra at s) cs in
+      let in₁ : Unit {0} → ReadTo Template = λ _. sequence (suc depth) false (suc at) 0 cs in
+      let in₂ : Unit {0} → ReadTo Template = λ _. sequence (suc depth) false (suc at) 0 ds in
+      let s : Piece = pieceAt depth filled at c cs in₁ in
+      let r : ReadTo Template = sequence depth (filled || isItem s) (suc at) (pieceExtra at s) cs in
       let w : StepEnds at (suc at + length cs) s = step-from c cs depth filled at in
-      let m : extra at s ≤ length cs = extra-within at (length cs) s w in
+      let m : pieceExtra at s ≤ length cs = extra-within at (length cs) s w in
       let begin : suc at + 0 ≤ readEnd (in₁ tt) = starts cs (suc depth) false (suc at) 0 (omega arith) in
-      let far : reached at s ≤ readEnd (before at s r) = reached-before at (suc at + length cs) s r w (starts cs depth (filled || fills s) (suc at) (extra at s) m) in
+      let far : reached at s ≤ readEnd (pieceThen at s r) = reached-before at (suc at + length cs) s r w (starts cs depth (filled || isItem s) (suc at) (pieceExtra at s) m) in
       let low : at ≤ reached at s = lowest at (suc at + length cs) s w in
-      let step : stepAt depth filled at c ds in₂ ≡ s = step-local depth filled at c cs ds in₁ in₂ (omega arith) (λ i p g. ih (suc depth) false (suc at) 0 ds i (omega arith) p g) (reached at s - at) (omega arith) (agree-less (reached at s - at) k cs ds (omega arith) (a .1)) in
-      ap (λ (x : ℕ). before at (stepAt depth filled at x ds in₂) (sequence depth (filled || fills (stepAt depth filled at x ds in₂)) (suc at) (extra at (stepAt depth filled at x ds in₂)) ds)) (sym (a .0))
-      ∙ ap (λ (x : Step). before at x (sequence depth (filled || fills x) (suc at) (extra at x) ds)) step
-      ∙ rest-same at s r (sequence depth (filled || fills s) (suc at) (extra at s) ds) k q (λ p. ih depth (filled || fills s) (suc at) (extra at s) ds k m p (a .1))
+      let step : pieceAt depth filled at c ds in₂ ≡ s = step-local depth filled at c cs ds in₁ in₂ (omega arith) (λ i p g. ih (suc depth) false (suc at) 0 ds i (omega arith) p g) (reached at s - at) (omega arith) (agree-less (reached at s - at) k cs ds (omega arith) (a .1)) in
+      ap (λ (x : ℕ). pieceThen at (pieceAt depth filled at x ds in₂) (sequence depth (filled || isItem (pieceAt depth filled at x ds in₂)) (suc at) (pieceExtra at (pieceAt depth filled at x ds in₂)) ds)) (sym (a .0))
+      ∙ ap (λ (x : Piece). pieceThen at x (sequence depth (filled || isItem x) (suc at) (pieceExtra at x) ds)) step
+      ∙ rest-same at s r (sequence depth (filled || isItem s) (suc at) (pieceExtra at s) ds) k q (λ p. ih depth (filled || isItem s) (suc at) (pieceExtra at s) ds k m p (a .1))
 
 pub local : (cs : List ℕ) → Local cs
 local [] depth filled at n ds zero h q a = absurd (omega (arith, starts [] depth filled at n h))

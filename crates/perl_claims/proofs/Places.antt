@@ -1,5 +1,6 @@
--- The place of number 15: no template goes on with the byte that stands there, and some template goes on otherwise.
--- The bytes before it are continued by a space and an `a` for every sequence that is open there, with a `)` after each but the outermost.
+-- The place of number 15: no template goes on with the byte that stands there, and some template goes on otherwise. The
+-- bytes before it are continued by a space and an `a` for every sequence that is open there, with a `)` after each but
+-- the outermost.
 use Prim.Native.Nat.{ℕ, zero, suc, _+_, _-_, _≤_, _<_}
 use native.Mathlib.Nat.{eq-or-lt-of-le, lt-of-not-le}
 use native.Mathlib.Decide.{decLe, ℕ-discrete}
@@ -18,9 +19,9 @@ use Rattle.layout.specs.Layout.{maxLayout}
 use Rattle.layout.proofs.Laws.{no-refusal}
 use Rattle.perl.specs.declared.tokens.Letter.{Letter}
 use Rattle.perl.specs.declared.tokens.Letter.the-variants.{Taken, Unknown}
-use Rattle.perl.specs.tokens.{maxTemplateCount, maxDepth, maxRepeat, letterOf, continues, withDigit, numberIn, digitsIn, repeatOf}
-use Rattle.perl.specs.items.Template.{Template, Item, done, next, single, group, Reading, read, stray, letterAt, groupAt, andThen, sequence, orRefused, templateOf}
-use Rattle.perl.specs.items.Readers.{itemsFrom, itemFrom}
+use Rattle.perl.specs.Tokens.{maxTemplateCount, maxDepth, maxRepeat, letterOf, continues, withDigit, numberIn, digitsIn, repeatOf}
+use Rattle.perl.specs.Template.{Template, Item, done, next, single, group, ReadTo, read, stray, letterAt, groupAt, andThen, sequence, orRefused, templateOf}
+use Rattle.perl.specs.inside.Readers.{itemsFrom, itemFrom}
 use Rattle.perl.specs.Conversion.{layoutFrom, convertEffect, fromPerl}
 use Rattle.perl_claims.specs.Spelling.{Spells}
 use Rattle.perl_claims.specs.Claim.{Begins, FirstBad, Places, dueFor, BySpellings}
@@ -30,14 +31,14 @@ use Rattle.perl_claims.proofs.Local.{readEnd, starts, Agree, agree-take
 
 -- ---- readings that differ
 
-abbrev IsStray : {A : Type 0} → Reading A → Type 0
+abbrev IsStray : {A : Type 0} → ReadTo A → Type 0
 IsStray (read a e) = ⊥
 IsStray (stray p) = Unit {0}
 
-not-both {ℓ} : {A : Type 0} {X : Type ℓ} (r : Reading A) (a : A) (e p : ℕ) → r ≡ read a e → r ≡ stray p → X
+not-both {ℓ} : {A : Type 0} {X : Type ℓ} (r : ReadTo A) (a : A) (e p : ℕ) → r ≡ read a e → r ≡ stray p → X
 not-both r a e p h k = absurd (subst IsStray (sym k ∙ h) tt)
 
-same-place : {A : Type 0} (r : Reading A) (p q : ℕ) → r ≡ stray p → r ≡ stray q → p ≡ q
+same-place : {A : Type 0} (r : ReadTo A) (p q : ℕ) → r ≡ stray p → r ≡ stray q → p ≡ q
 same-place r p q h k = cc
 
 -- ---- the byte at a place, from what stands from there on
@@ -136,11 +137,11 @@ unfolding letterAt
 letter-stray at (Taken b u) cs p q = not-both (letterAt at (Taken b u) cs) _ _ p refl q
 letter-stray at Unknown cs p q = cc
 
-then-stray : (i : Item) (r : Reading Template) (p : ℕ) → andThen i r ≡ stray p → r ≡ stray p
+then-stray : (i : Item) (r : ReadTo Template) (p : ℕ) → andThen i r ≡ stray p → r ≡ stray p
 then-stray i (read t e) p q = not-both (read (next i t) e) (next i t) e p refl q
 then-stray i (stray s) p q = q
 
-group-stray : (at : ℕ) (cs : List ℕ) (r : Reading Template) (p : ℕ) → groupAt at cs r ≡ stray p → r ≡ stray p
+group-stray : (at : ℕ) (cs : List ℕ) (r : ReadTo Template) (p : ℕ) → groupAt at cs r ≡ stray p → r ≡ stray p
 unfolding groupAt
 group-stray at cs (read t e) p q = not-both (groupAt at cs (read t e)) _ _ p refl q
 group-stray at cs (stray s) p q = let e : s ≡ p = cc in ap stray e
@@ -187,7 +188,7 @@ module _ (text : List ℕ) (p : ℕ) (small : p ≤ length text) where
         item-letter depth (cut ys) at (λ z. n (sym b ∙ z))
         ∙ (rw b (letter-cut at (letterOf (getD text at 0)) (drop (suc at) text) (drop (suc at) (cut ys)) i e (sym (item-letter depth text at n) ∙ q) (λ s. cut-number ys (suc at) maxTemplateCount (omega arith))))
 
-    cut-group : getD text at 0 ≡ 40 → depth < maxDepth → (r : Reading Template) → itemsFrom (suc depth) false text (suc at) ≡ r → itemFrom depth (cut ys) at ≡ read i e
+    cut-group : getD text at 0 ≡ 40 → depth < maxDepth → (r : ReadTo Template) → itemsFrom (suc depth) false text (suc at) ≡ r → itemFrom depth (cut ys) at ≡ read i e
     unfolding groupAt
     cut-group y shallow (stray s) k = not-both (itemFrom depth text at) i e s q (item-group depth text at y shallow ∙ ap (groupAt at (drop (suc at) text)) k)
     cut-group y shallow (read t close) k =
@@ -298,7 +299,7 @@ module _ (text : List ℕ) (p : ℕ) (small : p ≤ length text) where
         (m, t, from-space depth (cut (m ++ tail)) filled at (cut-within (m ++ tail)) (cut-byte (m ++ tail) at h ∙ b) ∙ e)
 
     module _ (no-space : getD text at 0 ≡ 32 → ⊥) (no-close : getD text at 0 ≡ 41 → ⊥) where
-      at-item : (r : Reading Item) → itemFrom depth text at ≡ r → Continued depth filled at tail
+      at-item : (r : ReadTo Item) → itemFrom depth text at ≡ r → Continued depth filled at tail
       at-item (read i e) g =
           let rest : itemsFrom depth true text e ≡ stray p = then-stray i (itemsFrom depth true text e) p (sym (from-item depth text filled at within no-space no-close i e g) ∙ q) in
           let w : ItemEnds at (length text) (read i e) = subst (ItemEnds at (length text)) g (item-end depth text at within) in
@@ -353,7 +354,7 @@ judged : (text : List ℕ) → ((t : Template) × (templateOf text ≡ ok t) × 
 unfolding templateOf itemsFrom
 judged text = go (itemsFrom 0 false text 0) refl
   where
-    go : (r : Reading Template) → itemsFrom 0 false text 0 ≡ r → ((t : Template) × (templateOf text ≡ ok t) × Spells 0 t text) ⊎ ((p : ℕ) × (templateOf text ≡ refused BadTemplate p) × FirstBad text p)
+    go : (r : ReadTo Template) → itemsFrom 0 false text 0 ≡ r → ((t : Template) × (templateOf text ≡ ok t) × Spells 0 t text) ⊎ ((p : ℕ) × (templateOf text ≡ refused BadTemplate p) × FirstBad text p)
     go (read t end) e = inl (t, ap orRefused e, read-spelled text t (ap orRefused e))
     go (stray p) e = inr (p, ap orRefused e, first-bad text p e)
 

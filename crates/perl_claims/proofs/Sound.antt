@@ -15,12 +15,12 @@ use Rattle.layout.specs.Layout.{maxLayout, fieldsOf}
 use Rattle.layout.proofs.Laws.{bound, demanded, ok-inj, no-refusal, no-number-zero}
 use Rattle.perl.specs.declared.tokens.Letter.{Letter}
 use Rattle.perl.specs.declared.tokens.Letter.the-variants.{Taken, Unknown}
-use Rattle.perl.specs.tokens.{maxDepth, letterOf}
-use Rattle.perl.specs.items.Template.{Single, Template, Item, done, next, single, group, Reading, read, stray, letterAt, groupAt, itemAt, Step, space, close, item, bad, stepFrom, stepAt, extra, fills, before, sequence, orRefused, templateOf}
-use Rattle.perl.specs.items.Writing.{repeated, writtenOut, writtenOutItem, textOf}
+use Rattle.perl.specs.Tokens.{maxDepth, letterOf}
+use Rattle.perl.specs.Template.{Single, Template, Item, done, next, single, group, ReadTo, read, stray, letterAt, groupAt, itemAt, Piece, space, close, item, bad, pieceFrom, pieceAt, pieceExtra, isItem, pieceThen, sequence, orRefused, templateOf}
+use Rattle.perl.specs.Writing.{repeated, writtenOut, writtenOutItem, textOf}
 use Rattle.perl.specs.Conversion.{Converted, layoutFrom, convertEffect, fromPerl}
 use Rattle.perl_claims.specs.Claim.{result, TakenOver, Claim, Blank, Groups}
-use Rattle.perl.specs.items.Readers.{templateText, itemText}
+use Rattle.perl.specs.inside.Readers.{templateText, itemText}
 use Rattle.perl.proofs.items.Texts.{text-group}
 use Rattle.perl_claims.proofs.Spelling.{read-spelled}
 use Rattle.perl_claims.proofs.Layouts.{OurLetter, our-letter, counts, SoundSingle, Every, text-fields, slots-valued}
@@ -58,15 +58,15 @@ mutual
 
 -- ---- what is read is sound
 
-abbrev Reads : Reading Template → Type 0
+abbrev Reads : ReadTo Template → Type 0
 Reads (read t e) = Sound t
 Reads (stray p) = Unit {0}
 
-abbrev ReadsItem : Reading Item → Type 0
+abbrev ReadsItem : ReadTo Item → Type 0
 ReadsItem (read i e) = SoundItem i
 ReadsItem (stray p) = Unit {0}
 
-abbrev StepSound : Step → Type 0
+abbrev StepSound : Piece → Type 0
 StepSound space = Unit {0}
 StepSound close = Unit {0}
 StepSound (item i e) = SoundItem i
@@ -77,12 +77,12 @@ unfolding letterAt Sound
 letter-sound at (Taken b u) cs h = record { ours = h; count = counts cs }
 letter-sound at Unknown cs h = tt
 
-group-sound : (at : ℕ) (cs : List ℕ) (r : Reading Template) → Reads r → ReadsItem (groupAt at cs r)
+group-sound : (at : ℕ) (cs : List ℕ) (r : ReadTo Template) → Reads r → ReadsItem (groupAt at cs r)
 unfolding groupAt Sound
 group-sound at cs (read t e) h = h
 group-sound at cs (stray p) h = tt
 
-item-sound : (depth at c : ℕ) (cs : List ℕ) (inside : Unit {0} → Reading Template) → Reads (inside tt) → ReadsItem (itemAt depth at c cs inside)
+item-sound : (depth at c : ℕ) (cs : List ℕ) (inside : Unit {0} → ReadTo Template) → Reads (inside tt) → ReadsItem (itemAt depth at c cs inside)
 unfolding itemAt
 item-sound depth at c cs inside h = go (eqb c 40 && ltb depth maxDepth)
   where
@@ -90,21 +90,21 @@ item-sound depth at c cs inside h = go (eqb c 40 && ltb depth maxDepth)
     go true = group-sound at cs (inside tt) h
     go false = letter-sound at (letterOf c) cs (our-letter c)
 
-from-sound : (r : Reading Item) → ReadsItem r → StepSound (stepFrom r)
+from-sound : (r : ReadTo Item) → ReadsItem r → StepSound (pieceFrom r)
 from-sound (read i e) h = h
 from-sound (stray p) h = tt
 
-step-sound : (depth : ℕ) (filled : Bool) (at c : ℕ) (cs : List ℕ) (inside : Unit {0} → Reading Template) → Reads (inside tt) → StepSound (stepAt depth filled at c cs inside)
-unfolding stepAt
+step-sound : (depth : ℕ) (filled : Bool) (at c : ℕ) (cs : List ℕ) (inside : Unit {0} → ReadTo Template) → Reads (inside tt) → StepSound (pieceAt depth filled at c cs inside)
+unfolding pieceAt
 step-sound depth filled at c cs inside h = go (eqb c 32) (eqb c 41) (ltb 0 depth && filled)
   where
-    go : (s t u : Bool) → StepSound (if s then space else if t then (if u then close else bad at) else stepFrom (itemAt depth at c cs inside))
+    go : (s t u : Bool) → StepSound (if s then space else if t then (if u then close else bad at) else pieceFrom (itemAt depth at c cs inside))
     go true t u = tt
     go false true true = tt
     go false true false = tt
     go false false u = from-sound (itemAt depth at c cs inside) (item-sound depth at c cs inside h)
 
-before-sound : (at : ℕ) (s : Step) (r : Reading Template) → StepSound s → Reads r → Reads (before at s r)
+before-sound : (at : ℕ) (s : Piece) (r : ReadTo Template) → StepSound s → Reads r → Reads (pieceThen at s r)
 unfolding Sound
 before-sound at space r h k = k
 before-sound at close r h k = tt
@@ -125,15 +125,15 @@ sequence-sound [] depth filled at n = go (eqb depth 0)
     go false = tt
 sequence-sound (c ∷ cs) depth filled at (suc n) = sequence-sound cs depth filled (suc at) n
 sequence-sound (c ∷ cs) depth filled at zero =
-    let inside : Unit {0} → Reading Template = λ _. sequence (suc depth) false (suc at) 0 cs in
-    let s : Step = stepAt depth filled at c cs inside in
-    before-sound at s (sequence depth (filled || fills s) (suc at) (extra at s) cs) (step-sound depth filled at c cs inside (sequence-sound cs (suc depth) false (suc at) 0)) (sequence-sound cs depth (filled || fills s) (suc at) (extra at s))
+    let inside : Unit {0} → ReadTo Template = λ _. sequence (suc depth) false (suc at) 0 cs in
+    let s : Piece = pieceAt depth filled at c cs inside in
+    before-sound at s (sequence depth (filled || isItem s) (suc at) (pieceExtra at s) cs) (step-sound depth filled at c cs inside (sequence-sound cs (suc depth) false (suc at) 0)) (sequence-sound cs depth (filled || isItem s) (suc at) (pieceExtra at s))
 
 parsed-sound : (template : List ℕ) (t : Template) → templateOf template ≡ ok t → Sound t
 unfolding templateOf
 parsed-sound template t e = go (sequence 0 false 0 0 template) e (sequence-sound template 0 false 0 0)
   where
-    go : (r : Reading Template) → orRefused r ≡ ok t → Reads r → Sound t
+    go : (r : ReadTo Template) → orRefused r ≡ ok t → Reads r → Sound t
     go (read u end) q h = subst Sound (ok-inj q) h
     go (stray p) q h = no-refusal q
 
@@ -180,7 +180,7 @@ claim template buffer z = taken-over template buffer (layoutFrom template buffer
 -- ---- blank templates
 
 spaces : (n at : ℕ) (filled : Bool) → sequence 0 filled at 0 (replicate n 32) ≡ read done (at + n)
-unfolding sequence stepAt
+unfolding sequence pieceAt
 spaces zero at filled = rw add-zero
 spaces (suc n) at filled = rw (or-false filled) (spaces n (suc at) filled ∙ ap (read done) (let e : suc at + n ≡ at + suc n = omega arith in e))
   where

@@ -1,5 +1,5 @@
--- The reader takes every spelling to its tree: it reads the longest number, no item begins with a digit, and a group's items end at their own `)`.
--- And what it takes is a spelling: each of its steps is one way to write a template.
+-- The reader takes every spelling to its tree: it reads the longest number, no item begins with a digit, and a group's
+-- items end at their own `)`. And what it takes is a spelling: each of its steps is one way to write a template.
 use Prim.Native.Nat.{ℕ, zero, suc, _+_, _-_, _*_, _≤_, _<_}
 use native.Mathlib.Nat.{add-zero}
 use native.Mathlib.Omega.{arith}
@@ -15,8 +15,8 @@ use Rattle.layout.specs.Layout.{isDecimal, decimal}
 use Rattle.layout.proofs.Laws.{ok-inj, no-refusal}
 use Rattle.perl.specs.declared.tokens.Letter.{Letter}
 use Rattle.perl.specs.declared.tokens.Letter.the-variants.{Taken, Unknown}
-use Rattle.perl.specs.tokens.{maxTemplateCount, maxDepth, maxRepeat, letterOf, continues, withDigit, numberIn, digitsIn, repeatOf}
-use Rattle.perl.specs.items.Template.{Template, Item, done, next, single, group, Reading, read, stray, letterAt, groupAt, itemAt, Step, space, close, item, bad, stepFrom, stepAt, extra, fills, andThen, before, sequence, orRefused, templateOf}
+use Rattle.perl.specs.Tokens.{maxTemplateCount, maxDepth, maxRepeat, letterOf, continues, withDigit, numberIn, digitsIn, repeatOf}
+use Rattle.perl.specs.Template.{Template, Item, done, next, single, group, ReadTo, read, stray, letterAt, groupAt, itemAt, Piece, space, close, item, bad, pieceFrom, pieceAt, pieceExtra, isItem, andThen, pieceThen, sequence, orRefused, templateOf}
 use Rattle.perl.proofs.tokens.Numbers.{digits-within, number-limit}
 use Rattle.perl.proofs.readers.Readings.{step-from, extra-within}
 use Rattle.perl_claims.proofs.Layouts.{count-digits}
@@ -151,7 +151,7 @@ skip depth filled at (c ∷ m) rest =
 
 -- an item of which m is all but the first byte, and then others, up to the place e
 item-first : (depth : ℕ) (filled : Bool) (at c : ℕ) (m rest : List ℕ) (i : Item) (t : Template) (e : ℕ)
-    → stepAt depth filled at c (m ++ rest) (λ _. sequence (suc depth) false (suc at) 0 (m ++ rest)) ≡ item i (suc at + length m)
+    → pieceAt depth filled at c (m ++ rest) (λ _. sequence (suc depth) false (suc at) 0 (m ++ rest)) ≡ item i (suc at + length m)
     → sequence depth true (suc at + length m) 0 rest ≡ read t e
     → sequence depth filled at 0 (c ∷ (m ++ rest)) ≡ read (next i t) e
 unfolding sequence
@@ -159,14 +159,14 @@ item-first depth filled at c m rest i t e step r =
     let cs : List ℕ = m ++ rest in
     let long : suc at + length m - suc at ≡ length m = omega arith in
     let others : sequence depth (filled || true) (suc at) (suc at + length m - suc at) cs ≡ read t e = rw (or-true filled, long) (skip depth true (suc at) m rest ∙ r) in
-    ap (λ (s : Step). before at s (sequence depth (filled || fills s) (suc at) (extra at s) cs)) step ∙ ap (andThen i) others
+    ap (λ (s : Piece). pieceThen at s (sequence depth (filled || isItem s) (suc at) (pieceExtra at s) cs)) step ∙ ap (andThen i) others
   where
     or-true : (b : Bool) → (b || true) ≡ true
     or-true true = refl
     or-true false = refl
 
 at-end : (depth : ℕ) (filled : Bool) (at : ℕ) (tail : List ℕ) → Tail depth tail → Closable depth filled done → sequence depth filled at 0 tail ≡ read done (at + 0)
-unfolding sequence stepAt
+unfolding sequence pieceAt
 at-end zero filled at [] h k = rw add-zero
 at-end zero filled at (c ∷ cs) h k = absurd h
 at-end (suc d) filled at [] h k = absurd h
@@ -175,9 +175,9 @@ at-end (suc d) false at (c ∷ cs) h k = absurd k
 
 module _ (depth : ℕ) (filled : Bool) (at : ℕ) where
   -- a letter, its count, and what does not go on with a digit
-  step-letter : (c b : ℕ) (u : Bool) (count rest : List ℕ) (inside : Unit {0} → Reading Template) → letterOf c ≡ Taken b u → Number maxTemplateCount count → NoDigit rest
-      → stepAt depth filled at c (count ++ rest) inside ≡ item (single (record { letter = b; unsigned = u; count = count })) (suc at + length count)
-  unfolding stepAt itemAt letterAt
+  step-letter : (c b : ℕ) (u : Bool) (count rest : List ℕ) (inside : Unit {0} → ReadTo Template) → letterOf c ≡ Taken b u → Number maxTemplateCount count → NoDigit rest
+      → pieceAt depth filled at c (count ++ rest) inside ≡ item (single (record { letter = b; unsigned = u; count = count })) (suc at + length count)
+  unfolding pieceAt itemAt letterAt
   step-letter c b u count rest inside e n stop =
       let a = apart c b u e in
       let r = number-read maxTemplateCount count rest n stop in
@@ -186,9 +186,9 @@ module _ (depth : ℕ) (filled : Bool) (at : ℕ) where
   -- a group whose items were read up to its `)`, and its repeat
   step-group : (items times rest : List ℕ) (t : Template) → depth < maxDepth → Number maxRepeat times → NoDigit rest
       → sequence (suc depth) false (suc at) 0 (items ++ (41 ∷ (times ++ rest))) ≡ read t (suc at + length items)
-      → stepAt depth filled at 40 (items ++ (41 ∷ (times ++ rest))) (λ _. sequence (suc depth) false (suc at) 0 (items ++ (41 ∷ (times ++ rest))))
+      → pieceAt depth filled at 40 (items ++ (41 ∷ (times ++ rest))) (λ _. sequence (suc depth) false (suc at) 0 (items ++ (41 ∷ (times ++ rest))))
       ≡ item (group t (repeatOf (decimal 0 times))) (suc at + length (items ++ (41 ∷ times)))
-  unfolding stepAt itemAt groupAt
+  unfolding pieceAt itemAt groupAt
   step-group items times rest t shallow n stop e =
       let r = number-read maxRepeat times rest n stop in
       let place : suc at + length items - at ≡ suc (length items) = omega arith in
@@ -229,7 +229,7 @@ reads-group {depth} {t} {inside} {times} {u} {rest} l p full inner n q ih filled
     let text : (inside ++ (41 ∷ (times ++ rest))) ++ tail ≡ inside ++ (41 ∷ (times ++ (rest ++ tail))) = append-assoc inside (41 ∷ (times ++ rest)) tail ∙ ap (λ (x : List ℕ). inside ++ (41 ∷ x)) (append-assoc times rest tail) in
     let joined : inside ++ (41 ∷ (times ++ (rest ++ tail))) ≡ m ++ (rest ++ tail) = sym (append-assoc inside (41 ∷ times) (rest ++ tail)) in
     let step = step-group depth filled at inside times (rest ++ tail) t l n (spelling-stops q tail h) (inner false (suc at) (41 ∷ (times ++ (rest ++ tail))) refl full) in
-    let step₁ : stepAt depth filled at 40 (m ++ (rest ++ tail)) (λ _. sequence (suc depth) false (suc at) 0 (m ++ (rest ++ tail))) ≡ item i (suc at + length m) = subst (λ (x : List ℕ). stepAt depth filled at 40 x (λ _. sequence (suc depth) false (suc at) 0 x) ≡ item i (suc at + length m)) joined step in
+    let step₁ : pieceAt depth filled at 40 (m ++ (rest ++ tail)) (λ _. sequence (suc depth) false (suc at) 0 (m ++ (rest ++ tail))) ≡ item i (suc at + length m) = subst (λ (x : List ℕ). pieceAt depth filled at 40 x (λ _. sequence (suc depth) false (suc at) 0 x) ≡ item i (suc at + length m)) joined step in
     ap (λ (x : List ℕ). sequence depth filled at 0 (40 ∷ x)) (text ∙ joined)
     ∙ item-first depth filled at 40 m (rest ++ tail) i u (suc at + length m + length rest) step₁ (ih true (suc at + length m) tail h (closable depth u))
     ∙ ap (read (next i u)) last
@@ -239,7 +239,7 @@ or-false true = refl
 or-false false = refl
 
 reads-space : {depth : ℕ} {t : Template} {s : List ℕ} → Spells depth t s → Taken-to depth t s → Taken-to depth t (32 ∷ s)
-unfolding sequence stepAt
+unfolding sequence pieceAt
 reads-space {depth} {t} {s} p ih filled at tail h k =
     (rw (or-false filled) (ih filled (suc at) tail h k)) ∙ ap (read t) (let e : suc at + length s ≡ at + suc (length s) = omega arith in e)
 
@@ -291,7 +291,7 @@ record ItemSpelt (depth at c : ℕ) (cs : List ℕ) (i : Item) (e : ℕ) : Type 
   place : e ≡ suc at + length bytes
   spells : (t : Template) (s : List ℕ) → Spells depth t s → Spells depth (next i t) (c ∷ (bytes ++ s))
 
-abbrev IsItem : ℕ → ℕ → ℕ → List ℕ → Reading Item → Type 0
+abbrev IsItem : ℕ → ℕ → ℕ → List ℕ → ReadTo Item → Type 0
 IsItem depth at c cs (read i e) = ItemSpelt depth at c cs i e
 IsItem depth at c cs (stray p) = Unit {0}
 
@@ -305,7 +305,7 @@ record Spelt (depth : ℕ) (filled : Bool) (at : ℕ) (cs : List ℕ) (t : Templ
   closed : Tail depth tail
   full : Closable depth filled t
 
-abbrev IsSpelt : ℕ → Bool → ℕ → List ℕ → Reading Template → Type 0
+abbrev IsSpelt : ℕ → Bool → ℕ → List ℕ → ReadTo Template → Type 0
 IsSpelt depth filled at cs (read t e) = Spelt depth filled at cs t e
 IsSpelt depth filled at cs (stray p) = Unit {0}
 
@@ -342,7 +342,7 @@ group-made depth at i u front more cs e parts place l p =
     })
 
 -- the items of a group: one at least, and then a `)`
-group-spelt : (depth at : ℕ) (cs : List ℕ) (r : Reading Template) → depth < maxDepth → IsSpelt (suc depth) false (suc at) cs r → IsItem depth at 40 cs (groupAt at cs r)
+group-spelt : (depth at : ℕ) (cs : List ℕ) (r : ReadTo Template) → depth < maxDepth → IsSpelt (suc depth) false (suc at) cs r → IsItem depth at 40 cs (groupAt at cs r)
 unfolding groupAt
 group-spelt depth at cs (stray p) l s = tt
 group-spelt depth at cs (read t e) l s = go t (s .tail) (s .parts) (s .spells) (s .closed) (s .full)
@@ -353,7 +353,7 @@ group-spelt depth at cs (read t e) l s = go t (s .tail) (s .parts) (s .spells) (
     go (next i u) [] parts p c f = absurd c
     go (next i u) (b ∷ more) parts p c f = group-made depth at i u (s .front) more cs e (parts ∙ ap (λ (x : ℕ). s .front ++ (x ∷ more)) c) (s .place) l p
 
-item-spelt : (depth at c : ℕ) (cs : List ℕ) (inside : Unit {0} → Reading Template) → IsSpelt (suc depth) false (suc at) cs (inside tt) → IsItem depth at c cs (itemAt depth at c cs inside)
+item-spelt : (depth at c : ℕ) (cs : List ℕ) (inside : Unit {0} → ReadTo Template) → IsSpelt (suc depth) false (suc at) cs (inside tt) → IsItem depth at c cs (itemAt depth at c cs inside)
 unfolding itemAt
 item-spelt depth at c cs inside h = go (eqb c 40 && ltb depth maxDepth) (λ e. both (eqb c 40) (ltb depth maxDepth) e)
   where
@@ -361,23 +361,23 @@ item-spelt depth at c cs inside h = go (eqb c 40 && ltb depth maxDepth) (λ e. b
     go true e = let k = e refl in subst (λ (x : ℕ). IsItem depth at x cs (groupAt at cs (inside tt))) (sym (eqb-true c 40 (k .0))) (group-spelt depth at cs (inside tt) (ltb-true depth maxDepth (k .1)) h)
     go false e = letter-spelt depth at c (letterOf c) cs refl
 
-abbrev StepSpelt : ℕ → Bool → ℕ → ℕ → List ℕ → Step → Type 0
+abbrev StepSpelt : ℕ → Bool → ℕ → ℕ → List ℕ → Piece → Type 0
 StepSpelt depth filled at c cs space = c ≡ 32
 StepSpelt depth filled at c cs close = (c ≡ 41) × (0 < depth) × (filled ≡ true)
 StepSpelt depth filled at c cs (item i e) = ItemSpelt depth at c cs i e
 StepSpelt depth filled at c cs (bad p) = Unit {0}
 
-from-spelt : (depth : ℕ) (filled : Bool) (at c : ℕ) (cs : List ℕ) (r : Reading Item) → IsItem depth at c cs r → StepSpelt depth filled at c cs (stepFrom r)
+from-spelt : (depth : ℕ) (filled : Bool) (at c : ℕ) (cs : List ℕ) (r : ReadTo Item) → IsItem depth at c cs r → StepSpelt depth filled at c cs (pieceFrom r)
 from-spelt depth filled at c cs (read i e) h = h
 from-spelt depth filled at c cs (stray p) h = tt
 
-step-spelt : (depth : ℕ) (filled : Bool) (at c : ℕ) (cs : List ℕ) (inside : Unit {0} → Reading Template) → IsSpelt (suc depth) false (suc at) cs (inside tt) → StepSpelt depth filled at c cs (stepAt depth filled at c cs inside)
-unfolding stepAt
+step-spelt : (depth : ℕ) (filled : Bool) (at c : ℕ) (cs : List ℕ) (inside : Unit {0} → ReadTo Template) → IsSpelt (suc depth) false (suc at) cs (inside tt) → StepSpelt depth filled at c cs (pieceAt depth filled at c cs inside)
+unfolding pieceAt
 step-spelt depth filled at c cs inside h =
     go (eqb c 32) (eqb c 41) (ltb 0 depth && filled) (λ e. eqb-true c 32 e) (λ e. eqb-true c 41 e) (λ e. let k = both (ltb 0 depth) filled e in (ltb-true 0 depth (k .0), k .1))
   where
     go : (s t u : Bool) → (s ≡ true → c ≡ 32) → (t ≡ true → c ≡ 41) → (u ≡ true → (0 < depth) × (filled ≡ true))
-        → StepSpelt depth filled at c cs (if s then space else if t then (if u then close else bad at) else stepFrom (itemAt depth at c cs inside))
+        → StepSpelt depth filled at c cs (if s then space else if t then (if u then close else bad at) else pieceFrom (itemAt depth at c cs inside))
     go true t u a b d = a refl
     go false true true a b d = let k = d refl in (b refl, k .0, k .1)
     go false true false a b d = tt
@@ -393,8 +393,8 @@ closable-next (suc d) true i t = tt
 closable-next (suc d) false i t = tt
 
 -- a step in front of the items that follow, which begin after its further bytes
-before-spelt : (depth : ℕ) (filled : Bool) (at c : ℕ) (cs : List ℕ) (s : Step) (r : Reading Template) → StepSpelt depth filled at c cs s → IsSpelt depth (filled || fills s) (suc at + extra at s) (drop (extra at s) cs) r
-    → IsSpelt depth filled at (c ∷ cs) (before at s r)
+before-spelt : (depth : ℕ) (filled : Bool) (at c : ℕ) (cs : List ℕ) (s : Piece) (r : ReadTo Template) → StepSpelt depth filled at c cs s → IsSpelt depth (filled || isItem s) (suc at + pieceExtra at s) (drop (pieceExtra at s) cs) r
+    → IsSpelt depth filled at (c ∷ cs) (pieceThen at s r)
 before-spelt depth filled at c cs space (stray p) h k = tt
 before-spelt depth filled at c cs space (read t e) h k =
     record {
@@ -442,11 +442,11 @@ spelt (c ∷ cs) depth filled at (suc n) h =
     let l : suc at + n ≡ at + suc n = omega arith in
     subst (λ (x : ℕ). IsSpelt depth filled x (drop n cs) (sequence depth filled (suc at) n cs)) l (spelt cs depth filled (suc at) n (omega arith))
 spelt (c ∷ cs) depth filled at zero h =
-    let inside : Unit {0} → Reading Template = λ _. sequence (suc depth) false (suc at) 0 cs in
-    let s : Step = stepAt depth filled at c cs inside in
-    let m : extra at s ≤ length cs = extra-within at (length cs) s (step-from c cs depth filled at) in
+    let inside : Unit {0} → ReadTo Template = λ _. sequence (suc depth) false (suc at) 0 cs in
+    let s : Piece = pieceAt depth filled at c cs inside in
+    let m : pieceExtra at s ≤ length cs = extra-within at (length cs) s (step-from c cs depth filled at) in
     let inner : IsSpelt (suc depth) false (suc at) cs (inside tt) = rw add-zero at (spelt cs (suc depth) false (suc at) 0 (omega arith)) in
-    rw add-zero (before-spelt depth filled at c cs s (sequence depth (filled || fills s) (suc at) (extra at s) cs) (step-spelt depth filled at c cs inside inner) (spelt cs depth (filled || fills s) (suc at) (extra at s) m))
+    rw add-zero (before-spelt depth filled at c cs s (sequence depth (filled || isItem s) (suc at) (pieceExtra at s) cs) (step-spelt depth filled at c cs inside inner) (spelt cs depth (filled || isItem s) (suc at) (pieceExtra at s) m))
 
 pub read-spelled : (text : List ℕ) (t : Template) → templateOf text ≡ ok t → Spells 0 t text
 unfolding templateOf
@@ -456,7 +456,7 @@ read-spelled text t e = go (sequence 0 false 0 0 text) e (spelt text 0 false 0 0
     whole u front [] parts h p = subst (Spells 0 u) (sym (parts ∙ append-nil front)) p
     whole u front (c ∷ cs) parts h p = absurd h
 
-    go : (r : Reading Template) → orRefused r ≡ ok t → IsSpelt 0 false (0 + 0) (drop 0 text) r → Spells 0 t text
+    go : (r : ReadTo Template) → orRefused r ≡ ok t → IsSpelt 0 false (0 + 0) (drop 0 text) r → Spells 0 t text
     go (read u end) q k = subst (λ (x : Template). Spells 0 x text) (ok-inj q) (whole u (k .front) (k .tail) (k .parts) (k .closed) (k .spells))
     go (stray p) q k = no-refusal q
 

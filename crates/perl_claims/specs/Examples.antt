@@ -6,7 +6,7 @@ use mathlib.Core.List.{List, [], _∷_, _++_}
 use lib.ListN.{length, drop, replicate}
 use lib.Dec.{eqb}
 use Rattle.layout.specs.Quoted.{bytes}
-use Rattle.perl.specs.items.Writing.{repeated}
+use Rattle.perl.specs.Writing.{repeated}
 use Rattle.perl.specs.Conversion.{Converted, fromPerl}
 
 pub data Example : Type 0 where
@@ -30,7 +30,8 @@ leaves r number first layout =
     same (r .answer .number ∷ r .answer .first ∷ r .answer .second ∷ []) (number ∷ first ∷ 0 ∷ [])
     && same (r .layout) layout
 
--- the buffer lent holds forty bytes 170, which stay after the layout and where nothing is written
+-- the call does what an example says; the buffer lent holds forty bytes 170, which stay after the layout and where
+-- nothing is written
 pub holds : Example → Bool
 unfolding leaves fromPerl same
 holds (gives t l) =

@@ -9,12 +9,13 @@ use lib.ListN.{length, take, drop}
 use borrow.Author.Tests.{le-leb, lt-leb}
 use Rattle.layout.specs.declared.Field.{Field}
 use Rattle.layout.specs.declared.Refusal.{Refusal}
-use Rattle.layout.specs.declared.Refusal.the-variants.{BadSize, UnknownType, CountTooLarge, CountMisused, NoRoom}
+use Rattle.layout.specs.declared.Refusal.the-variants.{BadSize, BadType, BadCount, BadMove, NoRoom}
 use Rattle.layout.specs.declared.Parsed.{Parsed}
 use Rattle.layout.specs.declared.Parsed.the-variants.{Fields, Refused}
 use Rattle.layout.specs.Refusals.{if_then_else_, Result, ok, refused, _>>=_, demand}
 use Rattle.layout.specs.Layout.{maxLayout, takesSlot, fieldsOf, slotCount, inLimit, hasMeaning}
-use Rattle.layout.specs.Words.{countUnit, flagUnit, countFrom, fieldOf, wordFor, decoded, Parses}
+use Rattle.layout.specs.Codes.{countUnit, flagUnit, countFrom, fieldOf, codeFor}
+use Rattle.layout.specs.inside.Parsing.{decoded, Parses}
 use Rattle.layout.proofs.Decoded.{Learnt, parsed-fields, parsed-plan, decoded-length}
 use Rattle.record.specs.declared.Answer.{Answer}
 use Rattle.record.specs.Bytes.{storeAt}
@@ -22,9 +23,9 @@ use Rattle.record.specs.Geometry.{lengthsFit}
 use Rattle.record.specs.Packing.{accepted, refusal, packFields}
 use Rattle.record.specs.Reading.{readsFields, ReadAll}
 use Rattle.reader.proofs.checking.Calls.{Fit}
-use Rattle.reader.specs.passes.{readWords}
+use Rattle.reader.specs.inside.passes.{readCodes}
 use Rattle.reader.proofs.passes.Whole as whole
-use Rattle.packer.specs.Whole.{Read, PacksAsRead}
+use Rattle.packer.specs.inside.Whole.{FieldsRead, PacksAsRead}
 use Rattle.packer.proofs.WholeLaws.{pack-sizes}
 use Rattle.plans.specs.Plans.{isType, plannedField, plannedFrom, planFields, prepares, prepare, packPlan, readPlan}
 
@@ -38,11 +39,11 @@ stored-front run s n e q = q ∙ rw (zero-add, e)
 pub slots-few : (fs : List Field) → slotCount fs ≤ length fs
 unfolding slotCount
 slots-few [] = omega arith
-slots-few (f ∷ fs) = by-code (takesSlot (f .code)) (slots-few fs)
+slots-few (f ∷ fs) = by-role (takesSlot (f .role)) (slots-few fs)
   where
-    by-code : (t : Bool) → slotCount fs ≤ length fs → (if t then suc (slotCount fs) else slotCount fs) ≤ suc (length fs)
-    by-code true h = omega arith
-    by-code false h = omega arith
+    by-role : (t : Bool) → slotCount fs ≤ length fs → (if t then suc (slotCount fs) else slotCount fs) ≤ suc (length fs)
+    by-role true h = omega arith
+    by-role false h = omega arith
 
 pub taken-few : {o : Result (List Field)} {n taken : ℕ} {ws : List ℕ} → Learnt o n taken ws → taken ≤ n
 taken-few {n = n} {ws = ws} l = omega (arith, l .taken, slots-few (decoded n ws), decoded-length n ws (l .few))
@@ -93,7 +94,7 @@ Below end (ok a) = Unit {0}
 Below end (refused why place) = place < end
 
 field-below : (i end : ℕ) (a b c : Bool) (f : Field) → i < end
-    → Below end (demand a UnknownType i >>= (λ _. demand b CountTooLarge i >>= (λ _. demand c CountMisused i >>= (λ _. ok f))))
+    → Below end (demand a BadType i >>= (λ _. demand b BadCount i >>= (λ _. demand c BadMove i >>= (λ _. ok f))))
 field-below i end false b c f h = h
 field-below i end true false c f h = h
 field-below i end true true false f h = h
@@ -112,7 +113,7 @@ unfolding plannedFrom plannedField
 from-below packing [] i end e = tt
 from-below packing (w ∷ ws) i end e =
     both-below end (plannedField packing i w) (plannedFrom packing (suc i) ws)
-    (field-below i end (isType (w % flagUnit)) (inLimit (countFrom (w / countUnit))) (hasMeaning packing (fieldOf w .code) (fieldOf w .count)) (fieldOf w) (omega arith))
+    (field-below i end (isType (w % flagUnit)) (inLimit (countFrom (w / countUnit))) (hasMeaning packing (fieldOf w .role) (fieldOf w .count)) (fieldOf w) (omega arith))
     (from-below packing ws (suc i) end (omega arith))
 
 pub plan-inside : (packing : Bool) (plan : List ℕ) (why : Refusal) (place : ℕ) → planFields packing plan ≡ refused why place → place < length plan
@@ -130,7 +131,7 @@ module _ (plan slots area output : List ℕ) where
   plan-sizes h = pack-sizes (length plan) (planFields true plan) slots area output h
 
   module _ {p : Parsed} (fine : lengthsFit (length plan) (length slots) (length output) (length area) ≡ true) (parsed : Parses (planFields true plan) p plan) where
-    pub plan-read : Read p plan slots area output (length plan) (planFields true plan)
+    pub plan-read : FieldsRead p plan slots area output (length plan) (planFields true plan)
     plan-read = record { fine = fine; parsed = parsed; inside = plan-inside true plan }
 
     pub plan-packed : {r : Answer} {out : List ℕ} → PacksAsRead p plan slots area output r out → record { answer = r; output = out } ≡ packPlan plan slots area output
@@ -145,8 +146,8 @@ module _ (plan bs slots area : List ℕ) (mark : ℕ) where
   unfolding readPlan
   plan-refused e q = whole.fields-refused (length plan) (planFields false plan) bs slots area mark e q
 
-  -- a reading by the fields of the words is the reading by the plan
-  pub plan-words : Fit (length plan) (length slots) (length bs) (length area) mark → {n taken : ℕ} {ws : List ℕ} → Learnt (planFields false plan) n taken ws
-      → {e : ReadAll} → e ≡ readWords n taken ws bs slots area mark → e ≡ readPlan plan bs slots area mark
+  -- a reading by the fields of the codes is the reading by the plan
+  pub plan-codes : Fit (length plan) (length slots) (length bs) (length area) mark → {n taken : ℕ} {ws : List ℕ} → Learnt (planFields false plan) n taken ws
+      → {e : ReadAll} → e ≡ readCodes n taken ws bs slots area mark → e ≡ readPlan plan bs slots area mark
   unfolding readPlan
-  plan-words sizes l q = whole.fields-read (length plan) (planFields false plan) bs slots area mark sizes l q
+  plan-codes sizes l q = whole.fields-read (length plan) (planFields false plan) bs slots area mark sizes l q

@@ -8,15 +8,17 @@ use borrow.Author.Tests.{le-leb, lt-leb, leb-true, ne-eqb}
 use Rattle.layout.specs.declared.Field.{Field}
 use Rattle.layout.specs.declared.Typed.{Typed}
 use Rattle.layout.specs.declared.Typed.the-variants.{Known, Unknown}
-use Rattle.layout.specs.declared.Refusal.the-variants.{UnknownType, CountTooLarge, CountMisused}
+use Rattle.layout.specs.declared.Refusal.the-variants.{BadType, BadCount, BadMove}
 use Rattle.layout.specs.Refusals.{if_then_else_, ok, refused}
 use Rattle.layout.specs.Layout.{maxCount, toNat, inLimit, hasMeaning}
-use Rattle.layout.specs.Words.{lastData, skipNumber, lastType, typeNumbered, known, HasType, flagUnit, countUnit, countFrom, overCount, fieldOf, wordOf, wordFor}
+use Rattle.layout.specs.Codes.{lastData, skipNumber, lastType, typeNumbered, known, flagUnit, countUnit, countFrom, fieldOf, codeOf, codeFor}
+use Rattle.layout.specs.inside.Parsing.{HasType, overCount}
 use Rattle.layout.proofs.Encoded.{allBelow, below}
-use Rattle.layout.proofs.Steps.{word-back}
+use Rattle.layout.proofs.Steps.{code-back}
 use Rattle.layout.proofs.Laws.{demanded}
-use Rattle.plans.specs.Plans.{spareNumber, isType, plannedField, Judges}
-use Rattle.plans.specs.declared.Verdict.the-variants.{Good, Bad}
+use Rattle.plans.specs.Plans.{spareNumber, isType, plannedField}
+use Rattle.plans.specs.inside.Judging.{Judges}
+use Rattle.plans.specs.declared.Judgement.the-variants.{Good, Bad}
 
 -- ---- the types: a number that passes names a type
 
@@ -69,32 +71,32 @@ bit-back zero h = refl
 bit-back (suc zero) h = refl
 bit-back (suc (suc b)) h = absurd (omega arith)
 
--- a number is the word of its parts
-word-whole : (w : ℕ) → wordOf (w % flagUnit) (eqb (w / flagUnit % 2) 1) (w / countUnit) ≡ w
-word-whole w =
+-- a number is the code of its parts
+code-whole : (w : ℕ) → codeOf (w % flagUnit) (eqb (w / flagUnit % 2) 1) (w / countUnit) ≡ w
+code-whole w =
     let b : toNat (eqb (w / flagUnit % 2) 1) ≡ w / flagUnit % 2 = bit-back (w / flagUnit % 2) (omega arith) in
     let high : w / flagUnit / 2 ≡ w / countUnit = omega arith in
     let low : w ≡ w % flagUnit + flagUnit * (w / flagUnit) = omega arith in
     let upper : w / flagUnit ≡ w / flagUnit % 2 + 2 * (w / flagUnit / 2) = omega arith in
     rw b (omega arith)
 
-pub word-again : (w : ℕ) → isType (w % flagUnit) ≡ true → wordFor (fieldOf w) ≡ w
-word-again w h =
-    let parts : wordOf (w % flagUnit) (eqb (w / flagUnit % 2) 1) (w / countUnit) ≡ w = word-whole w in
-    rw parts at (word-back (w % flagUnit) (eqb (w / flagUnit % 2) 1) (w / countUnit) (type-low (w % flagUnit) h) (type-named (w % flagUnit) h))
+pub code-again : (w : ℕ) → isType (w % flagUnit) ≡ true → codeFor (fieldOf w) ≡ w
+code-again w h =
+    let parts : codeOf (w % flagUnit) (eqb (w / flagUnit % 2) 1) (w / countUnit) ≡ w = code-whole w in
+    rw parts at (code-back (w % flagUnit) (eqb (w / flagUnit % 2) 1) (w / countUnit) (type-low (w % flagUnit) h) (type-named (w % flagUnit) h))
 
 module _ (packing : Bool) (i w : ℕ) where
-  pub planned-type : isType (w % flagUnit) ≡ false → plannedField packing i w ≡ refused UnknownType i
+  pub planned-type : isType (w % flagUnit) ≡ false → plannedField packing i w ≡ refused BadType i
   unfolding plannedField
   planned-type h = rw h
 
   module _ (type : isType (w % flagUnit) ≡ true) where
-    pub planned-count : inLimit (countFrom (w / countUnit)) ≡ false → plannedField packing i w ≡ refused CountTooLarge i
+    pub planned-count : inLimit (countFrom (w / countUnit)) ≡ false → plannedField packing i w ≡ refused BadCount i
     unfolding plannedField
     planned-count h = rw (type, h)
 
     module _ (count : inLimit (countFrom (w / countUnit)) ≡ true) where
-      pub planned-meaning : hasMeaning packing (known (typeNumbered (w % flagUnit))) (countFrom (w / countUnit)) ≡ false → plannedField packing i w ≡ refused CountMisused i
+      pub planned-meaning : hasMeaning packing (known (typeNumbered (w % flagUnit))) (countFrom (w / countUnit)) ≡ false → plannedField packing i w ≡ refused BadMove i
       unfolding plannedField fieldOf
       planned-meaning h = rw (type, count, h)
 
@@ -128,24 +130,24 @@ abbrev pub endCount : ℕ
 endCount = suc (suc overCount) * countUnit
 
 module _ (packing : Bool) (w : ℕ) where
-  pub judged-type : isType (w % flagUnit) ≡ false → Judges packing w (Bad UnknownType)
+  pub judged-type : isType (w % flagUnit) ≡ false → Judges packing w (Bad BadType)
   judged-type h i = planned-type packing i w h
 
   module _ (type : isType (w % flagUnit) ≡ true) where
-    pub judged-over : endCount ≤ w → Judges packing w (Bad CountTooLarge)
+    pub judged-over : endCount ≤ w → Judges packing w (Bad BadCount)
     judged-over h i = planned-count packing i w type (count-over (w / countUnit) (omega arith))
 
     module _ (small : w < endCount) where
       count : inLimit (countFrom (w / countUnit)) ≡ true
       count = count-within (w / countUnit) (omega arith)
 
-      pub judged-misused : hasMeaning packing (known (typeNumbered (w % flagUnit))) (countFrom (w / countUnit)) ≡ false → Judges packing w (Bad CountMisused)
+      pub judged-misused : hasMeaning packing (known (typeNumbered (w % flagUnit))) (countFrom (w / countUnit)) ≡ false → Judges packing w (Bad BadMove)
       judged-misused h i = planned-meaning packing i w type count h
 
       pub judged-good : hasMeaning packing (known (typeNumbered (w % flagUnit))) (countFrom (w / countUnit)) ≡ true → Judges packing w Good
       judged-good h i = planned-good packing i w type count h
 
--- a number that is a field has a type, so that the field's word is the number
-pub good-word : (packing : Bool) (i w : ℕ) {f : Field} → plannedField packing i w ≡ ok f → wordFor (fieldOf w) ≡ w
+-- a number that is a field has a type, so that the field's code is the number
+pub good-code : (packing : Bool) (i w : ℕ) {f : Field} → plannedField packing i w ≡ ok f → codeFor (fieldOf w) ≡ w
 unfolding plannedField
-good-word packing i w {f} e = word-again w (demanded (isType (w % flagUnit)) UnknownType i _ f e .0)
+good-code packing i w {f} e = code-again w (demanded (isType (w % flagUnit)) BadType i _ f e .0)

@@ -1,29 +1,27 @@
--- Layouts prepared once. A plan is a run of numbers, one for each field of a layout and nothing else; a host may hand in any numbers, and each is checked
--- whenever the plan is used. THE EFFECTS OF THE CALLS are `prepare`, `packPlan` and `readPlan`, at the end.
+-- Layouts prepared once. A plan is a run of numbers, one for each field of a layout and nothing else; a host may hand
+-- in any numbers, and each is checked whenever the plan is used. THE EFFECTS OF THE CALLS are `prepare`, `packPlan` and
+-- `readPlan`, at the end.
 use Prim.Native.Nat.{ℕ, suc, _/_, _%_}
-use mathlib.Core.Path.{_≡_}
 use mathlib.Core.Bool.{Bool, true, false, _&&_, not}
 use mathlib.Core.List.{List, [], _∷_, _++_, map}
 use lib.ListN.{length, drop}
 use lib.Dec.{eqb, leb}
 use Rattle.layout.specs.declared.Field.{Field}
-use Rattle.layout.specs.declared.Refusal.the-variants.{BadSize, UnknownType, CountTooLarge, CountMisused, NoRoom}
+use Rattle.layout.specs.declared.Refusal.the-variants.{BadSize, BadType, BadCount, BadMove, NoRoom}
 use Rattle.layout.specs.Refusals.{if_then_else_, Result, ok, refused, _>>=_, demand}
 use Rattle.layout.specs.Layout.{maxLayout, inLimit, hasMeaning, fieldsOf, slotCount}
-use Rattle.layout.specs.Words.{lastData, skipNumber, lastType, flagUnit, countUnit, countFrom, fieldOf, wordFor}
+use Rattle.layout.specs.Codes.{lastData, skipNumber, lastType, flagUnit, countUnit, countFrom, fieldOf, codeFor}
 use Rattle.record.specs.declared.Answer.{Answer}
-use Rattle.plans.specs.declared.Verdict.{Verdict}
-use Rattle.plans.specs.declared.Verdict.the-variants.{Good, Bad}
 use Rattle.record.specs.Packing.{accepted, refusal, Packed, packFields}
 use Rattle.record.specs.Reading.{ReadAll, readFields}
 
 -- ---- the fields of a plan
 
--- 7 would be the big-endian integer of one byte: `c` has 6, and no type character 7
+-- the number that no type character has: 7 would be the big-endian integer of one byte, and `c` has 6
 abbrev pub spareNumber : ℕ
 spareNumber = 7
 
--- some type character has this number
+-- some type character has the number d
 abbrev pub isType : ℕ → Bool
 isType d = if leb d lastData then not (eqb d spareNumber) else (leb skipNumber d && leb d lastType)
 
@@ -31,37 +29,31 @@ isType d = if leb d lastData then not (eqb d spareNumber) else (leb skipNumber d
 unfoldable pub plannedField : Bool → ℕ → ℕ → Result Field
 unfolding fieldOf
 plannedField packing i w = do
-  _ ← demand (isType (w % flagUnit)) UnknownType i
-  _ ← demand (inLimit (countFrom (w / countUnit))) CountTooLarge i
-  _ ← demand (hasMeaning packing (fieldOf w .code) (fieldOf w .count)) CountMisused i
+  _ ← demand (isType (w % flagUnit)) BadType i
+  _ ← demand (inLimit (countFrom (w / countUnit))) BadCount i
+  _ ← demand (hasMeaning packing (fieldOf w .role) (fieldOf w .count)) BadMove i
   ok (fieldOf w)
 
 -- the fields of the numbers from number i on
 unfoldable pub plannedFrom : Bool → ℕ → List ℕ → Result (List Field)
 unfolding plannedField
 plannedFrom packing i [] = ok []
-plannedFrom packing i (w ∷ ws) = plannedField packing i w >>= (λ f. plannedFrom packing (suc i) ws >>= (λ fs. ok (f ∷ fs)))
+plannedFrom packing i (w ∷ ws) =
+    plannedField packing i w >>= (λ f. plannedFrom packing (suc i) ws >>= (λ fs. ok (f ∷ fs)))
 
 -- THE FIELDS OF A PLAN, for packing (true) or reading (false), or the first refusal
 unfoldable pub planFields : Bool → List ℕ → Result (List Field)
 unfolding plannedFrom
 planFields packing plan = plannedFrom packing 0 plan
 
--- inside: the verdict on one number, wherever it stands
-abbrev pub judgedAs : ℕ → ℕ → Verdict → Result Field
-judgedAs w i Good = ok (fieldOf w)
-judgedAs w i (Bad why) = refused why i
-
-abbrev pub Judges : Bool → ℕ → Verdict → Type 0
-Judges packing w v = (i : ℕ) → plannedField packing i w ≡ judgedAs w i v
-
 -- ---- a layout prepared
 
--- the plan of fields: their words
+-- the plan of fields: their codes
 abbrev pub planOf : List Field → List ℕ
-planOf fs = map wordFor fs
+planOf fs = map codeFor fs
 
--- the fields of a layout, judged as reading judges them, or the first refusal; last where a run of so many numbers is too short for them
+-- the fields of a layout, judged as reading judges them, or the first refusal; last where a run of `room` numbers is
+-- too short for them
 unfoldable pub prepares : List ℕ → ℕ → Result (List Field)
 unfolding fieldsOf
 prepares layout room = do
@@ -75,13 +67,15 @@ pub record Planned : Type 0 where
   pub answer : Answer
   pub plan : List ℕ
 
--- the plan at the front of the run, whose other numbers stay, with how many there are and how many slots they take; a refusal changes nothing
+-- the plan at the front of the run, whose other numbers stay, with how many there are and how many slots they take; a
+-- refusal changes nothing
 abbrev pub prepareEffect : List ℕ → Result (List Field) → Planned
-prepareEffect run (ok fs) = record { answer = accepted (length fs) (slotCount fs); plan = planOf fs ++ drop (length fs) run }
+prepareEffect run (ok fs) =
+    record { answer = accepted (length fs) (slotCount fs); plan = planOf fs ++ drop (length fs) run }
 prepareEffect run (refused why place) = record { answer = refusal why place; plan = run }
 
 unfoldable pub prepare : List ℕ → List ℕ → Planned
-unfolding prepares wordFor slotCount
+unfolding prepares codeFor slotCount
 prepare layout run = prepareEffect run (prepares layout (length run))
 
 -- ---- packing and reading by a plan: as by a layout, with the fields of the plan

@@ -1,13 +1,14 @@
-// Layouts prepared once: a layout is read into a plan, a run of numbers with one for each field, and records are packed and read by the plan.
-// A plan may hold any numbers: each call checks them.
+// Layouts prepared once: a layout is read into a plan, a run of numbers with one for each field, and records are packed
+// and read by the plan. A plan may hold any numbers: each call checks them.
 ghost use mathlib.Core.Path.{_≡_};
 ghost use mathlib.Core.List.{_++_};
 ghost use Prim.Native.Nat.{_≤_};
 ghost use lib.ListN.{length, take, drop};
 ghost use Rattle.layout.specs.Layout.{maxLayout};
 ghost use Rattle.layout.specs.Lent.{before, after};
-ghost use Rattle.layout.specs.Words.{Parses};
-ghost use Rattle.plans.specs.Plans.{Judges, planFields, prepare, packPlan, readPlan};
+ghost use Rattle.layout.specs.inside.Parsing.{Parses};
+ghost use Rattle.plans.specs.Plans.{planFields, prepare, packPlan, readPlan};
+ghost use Rattle.plans.specs.inside.Judging.{Judges};
 use layout::Parsed;
 use layout::Refusal;
 use layout::parser;
@@ -23,38 +24,39 @@ const SPARE: u32 = 7;
 const END_COUNT: u32 = (scanner::LAST_COUNT + 1) * layout::COUNT_UNIT;
 
 // Whether a number of a plan is a field, or what it is refused with.
-enum Verdict {
+enum Judgement {
     Good,
     Bad(Refusal),
 }
 
-// The numbers of types that take a slot are looked at first, and by themselves: they are what plans are made of.
-fn judge_one(packing: bool, w: u32) -> Verdict
+// Judges one number of a plan. The numbers of types that take a slot are looked at first, and by themselves: they are
+// what plans are made of.
+fn judge_one(packing: bool, w: u32) -> Judgement
     ensures { λ r. ⌜ Judges packing w r ⌝ }
 {
     let d = w % layout::FLAG_UNIT;
     if d <= layout::LAST_DATA {
         if d == SPARE {
-            return Verdict::Bad(Refusal::UnknownType);
+            return Judgement::Bad(Refusal::BadType);
         }
         if END_COUNT <= w {
-            return Verdict::Bad(Refusal::CountTooLarge);
+            return Judgement::Bad(Refusal::BadCount);
         }
-        return Verdict::Good;
+        return Judgement::Good;
     }
     if d < layout::SKIP {
-        return Verdict::Bad(Refusal::UnknownType);
+        return Judgement::Bad(Refusal::BadType);
     }
     if layout::LAST_TYPE < d {
-        return Verdict::Bad(Refusal::UnknownType);
+        return Judgement::Bad(Refusal::BadType);
     }
     if END_COUNT <= w {
-        return Verdict::Bad(Refusal::CountTooLarge);
+        return Judgement::Bad(Refusal::BadCount);
     }
     if !parser::has_meaning(packing, d, w / layout::COUNT_UNIT) {
-        return Verdict::Bad(Refusal::CountMisused);
+        return Judgement::Bad(Refusal::BadMove);
     }
-    Verdict::Good
+    Judgement::Good
 }
 
 // The fields of a plan: how many there are and how many of them take a slot, or the first refusal.
@@ -68,10 +70,10 @@ pub fn judge(plan: &[u32], packing: bool) -> Parsed
         let w = plan[i];
         let v = judge_one(packing, w);
         match v {
-            Verdict::Bad(why) => {
+            Judgement::Bad(why) => {
                 return Parsed::Refused(why, i);
             }
-            Verdict::Good => {
+            Judgement::Good => {
                 taken += layout::slots_in(w % layout::FLAG_UNIT);
                 i += 1;
             }
@@ -80,14 +82,14 @@ pub fn judge(plan: &[u32], packing: bool) -> Parsed
     Parsed::Fields(i, taken)
 }
 
-// Copies the first n words to the front of a run.
-fn copy(run: &mut [u32], words: &[u32], n: usize)
-    requires { ⌜ (n ≤ length (now run)) × (n ≤ length (now words)) ⌝ }
-    ensures { λ _. ⌜ after run ≡ take n (before words) ++ drop n (before run) ⌝ }
+// Copies the first n codes to the front of a run.
+fn copy(run: &mut [u32], codes: &[u32], n: usize)
+    requires { ⌜ (n ≤ length (now run)) × (n ≤ length (now codes)) ⌝ }
+    ensures { λ _. ⌜ after run ≡ take n (before codes) ++ drop n (before run) ⌝ }
 {
     let mut i: usize = 0;
     while i < n {
-        run[i] = words[i];
+        run[i] = codes[i];
         i += 1;
     }
 }
@@ -99,15 +101,15 @@ pub fn prepare(layout: &[u8], run: &mut [u32]) -> Answer
     if layout::MAX_LAYOUT < layout.len() {
         return Answer::refused(Refusal::BadSize, 0);
     }
-    let mut words: [u32; layout::MAX_LAYOUT] = [0; layout::MAX_LAYOUT];
-    let p = parser::parse(layout, false, &mut words);
+    let mut codes: [u32; layout::MAX_LAYOUT] = [0; layout::MAX_LAYOUT];
+    let p = parser::parse(layout, false, &mut codes);
     match p {
         Parsed::Refused(why, place) => Answer::refused(why, place as u32),
         Parsed::Fields(n, taken) => {
             if run.len() < n {
                 return Answer::refused(Refusal::NoRoom, 0);
             }
-            copy(run, &words, n);
+            copy(run, &codes, n);
             Answer::accepted(n as u32, taken as u32)
         }
     }
@@ -115,7 +117,8 @@ pub fn prepare(layout: &[u8], run: &mut [u32]) -> Answer
 
 // Packs the arguments into the output by a plan, as `packer::pack` does by a layout. A refusal changes nothing.
 pub fn pack(plan: &[u32], slots: &[u32], area: &[u8], output: &mut [u8]) -> Answer
-    ensures { λ r. ⌜ record { answer = r; output = after output } ≡ packPlan (before plan) (before slots) (before area) (before output) ⌝ }
+    ensures { λ r. ⌜ record { answer = r; output = after output }
+        ≡ packPlan (before plan) (before slots) (before area) (before output) ⌝ }
 {
     if !sizes::lengths_fit(plan.len(), slots.len(), output.len(), area.len()) {
         return Answer::refused(Refusal::BadSize, 0);
@@ -132,7 +135,8 @@ pub fn read(
     area: &mut [u8],
     mark: usize,
 ) -> ReadAnswer
-    ensures { λ r. ⌜ record { answer = r; slots = after slots; area = after area } ≡ readPlan (before plan) (before bytes) (before slots) (before area) mark ⌝ }
+    ensures { λ r. ⌜ record { answer = r; slots = after slots; area = after area }
+        ≡ readPlan (before plan) (before bytes) (before slots) (before area) mark ⌝ }
 {
     if !checking::sizes_fit(plan.len(), slots.len(), bytes.len(), area.len(), mark) {
         return ReadAnswer {

@@ -9,12 +9,12 @@ use lib.ListN.{length, drop, length-map}
 use lib.Seq.{take-at}
 use borrow.Author.Tests.{le-leb, leb-true}
 use Rattle.layout.specs.declared.Field.{Field}
-use Rattle.layout.specs.declared.Refusal.the-variants.{BadSize, CountMisused, NoRoom}
+use Rattle.layout.specs.declared.Refusal.the-variants.{BadSize, BadMove, NoRoom}
 use Rattle.layout.specs.Refusals.{Result, ok, refused}
 use Rattle.layout.specs.Layout.{maxLayout, fieldsOf}
-use Rattle.layout.specs.Words.{wordFor}
+use Rattle.layout.specs.Codes.{codeFor}
 use Rattle.layout.proofs.Laws.{bound, demanded, no-refusal, ok-inj, no-number-zero}
-use Rattle.describe.proofs.placed.Counts.{fields-few}
+use Rattle.describe.proofs.Counts.{fields-few}
 use Rattle.record.specs.Geometry.{lengthsFit}
 use Rattle.record.specs.Packing.{Packed, packFields, pack}
 use Rattle.record.specs.Reading.{readAll, readFields}
@@ -44,7 +44,7 @@ made layout run z = go (prepares layout (length run)) refl z
           fields = fs;
           are = are ∙ e₃;
           short = leb-true (length layout) maxLayout short;
-          is = take-at (planOf fs) (drop (length fs) run) (length fs) (length-map fs wordFor);
+          is = take-at (planOf fs) (drop (length fs) run) (length fs) (length-map fs codeFor);
         }
     go (refused why place) e z = no-number-zero why z
 
@@ -77,11 +77,11 @@ module _ (a b : ℕ) (o : Result (List Field)) (h : a ≤ maxLayout) (k : b ≤ 
 alike-same : {p q : Packed} → p ≡ q → Alike p q
 alike-same e = rw e (record { number = refl; place = λ h. refl; second = refl; output = refl })
 
-misused : (n : ℕ) (slots area output : List ℕ) (p q : ℕ) → Alike (packFields n (refused CountMisused p) slots area output) (packFields n (refused CountMisused q) slots area output)
+misused : (n : ℕ) (slots area output : List ℕ) (p q : ℕ) → Alike (packFields n (refused BadMove p) slots area output) (packFields n (refused BadMove q) slots area output)
 unfolding packFields
 misused n slots area output p q = go (lengthsFit n (length slots) (length output) (length area)) refl
   where
-    go : (t : Bool) → lengthsFit n (length slots) (length output) (length area) ≡ t → Alike (packFields n (refused CountMisused p) slots area output) (packFields n (refused CountMisused q) slots area output)
+    go : (t : Bool) → lengthsFit n (length slots) (length output) (length area) ≡ t → Alike (packFields n (refused BadMove p) slots area output) (packFields n (refused BadMove q) slots area output)
     go true e = rw e (record { number = refl; place = λ h. absurd (h refl); second = refl; output = refl })
     go false e = rw e (record { number = refl; place = λ h. refl; second = refl; output = refl })
 
@@ -102,7 +102,7 @@ unfolding packPlan readPlan planFields
 stands layout plan m =
     let fs : List Field = m .fields in
     let found = text-found layout fs (m .are) in
-    let long : length (planOf fs) ≡ length fs = length-map fs wordFor in
+    let long : length (planOf fs) ≡ length fs = length-map fs codeFor in
     let few : length fs ≤ length layout = fields-few false layout fs (m .are) in
     let small : length (planOf fs) ≤ maxLayout = omega (arith, m .short) in
     let planned : Judged (meant fs) fs (planFields true (planOf fs)) = plan-packs fs (found .0) 0 in

@@ -1,4 +1,5 @@
--- Worked examples of plans, all in one statement, `PlansAsTold`: what is prepared, what is refused, and where. It is proved in proofs/Examples.antt.
+-- Worked examples of plans, all in one statement, `PlansAsTold`: what is prepared, what is refused, and where. It is
+-- proved in proofs/Examples.antt.
 use Prim.Native.Nat.{ℕ}
 use Prim.Native.String.{String}
 use mathlib.Core.Bool.{Bool, true, _&&_}
@@ -15,7 +16,8 @@ pub data Example : Type 0 where
   preparing : String → ℕ → ℕ → ℕ → ℕ → Example
   -- a plan; the number and the place that packing no slots into nothing answers, and those of reading nothing
   forged : List ℕ → ℕ → ℕ → ℕ → ℕ → Example
-  -- the plan of a layout; the same
+  -- a layout that is prepared; the number and the place that packing no slots into nothing by its plan answers, and
+  -- those of reading nothing
   planned : String → ℕ → ℕ → ℕ → ℕ → Example
 
 abbrev answered : Answer → ℕ → ℕ → ℕ → Bool
@@ -53,7 +55,8 @@ examples =
     ∷ planned "X  x*" 4 1 0 0
     -- a field that needs a slot
     ∷ planned "x a" 5 0 5 0
-    -- numbers that no layout has: the type that no letter has, and one far off; a count over the limit; `@` without a count
+    -- numbers that no layout has: the type that no letter has, and one far off; a count over the limit; `@` without a
+    -- count
     ∷ forged (25 ∷ 7 ∷ []) 2 1 2 1
     ∷ forged (255 ∷ []) 2 0 2 0
     ∷ forged (25 ∷ 16778776 ∷ []) 3 1 3 1

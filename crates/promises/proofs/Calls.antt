@@ -10,10 +10,10 @@ use Rattle.layout.specs.declared.Field.{Field}
 use Rattle.layout.specs.declared.Parsed.{Parsed}
 use Rattle.layout.specs.declared.Parsed.the-variants.{Fields, Refused}
 use Rattle.layout.specs.declared.Refusal.{Refusal}
-use Rattle.layout.specs.declared.Refusal.the-variants.{BadSize, WrongSlots, NoRoom}
+use Rattle.layout.specs.declared.Refusal.the-variants.{BadSize, BadSlots, NoRoom}
 use Rattle.layout.specs.Refusals.{numberOf, ok, refused}
 use Rattle.layout.specs.Layout.{maxLayout, fieldsOf}
-use Rattle.layout.specs.Words.{decoded, Parses}
+use Rattle.layout.specs.inside.Parsing.{decoded, Parses}
 use Rattle.layout.proofs.Laws.{ok-inj}
 use Rattle.layout.proofs.Decoded.{decoded-length, Learnt, parsed-fields, parsed-refused}
 use Rattle.layout.proofs.Places.{refused-inside}
@@ -22,8 +22,8 @@ use Rattle.promises.specs.declared.Promise.{Promise}
 use Rattle.promises.specs.declared.Promise.the-variants.{Grows, Keeps, Joins, Plain, Slots, Room}
 use Rattle.promises.specs.declared.Told.{Told}
 use Rattle.promises.specs.Placed.{Placed, fieldsIn, placedFields}
-use Rattle.promises.specs.Promises.{nothing, nowhere, firstDifference, told, layoutFields, promised, fieldsDiffer, notPlain, refusedNew, grown, extendedBy, extended}
-use Rattle.promises.specs.Walk.{keptFront, sameFront, PlaceOf, Holds, ReadAs, BreaksAt, GrownAs}
+use Rattle.promises.specs.Promises.{reachStart, nowhere, firstDifference, told, layoutFields, promised, fieldsDiffer, notPlain, refusedNew, grown, extendedBy, extended}
+use Rattle.promises.specs.inside.Walk.{keptFront, sameFront, PlaceOf, Holds, ReadAs, BreaksAt, GrownAs}
 use Rattle.promises.proofs.Places.{Placing, placing, placed-fields, placed-refused}
 use Rattle.promises.proofs.Fronts.{break-none, break-at, differ-none, differ-at, front-few}
 
@@ -46,41 +46,41 @@ module _ (text : List ℕ) where
       let l : Learnt (fieldsOf true text) n slots ws = parsed-fields (fieldsOf true text) (Fields n slots) n slots ws p refl in
       record { few = l .few; room = l .room; short = h; fields = l .fields }
 
--- ---- the words of a text
+-- ---- the codes of a text
 
 module _ (text : List ℕ) (n : ℕ) (ws : List ℕ) (h : Holds text n ws) where
   pub layout-placed : (ps : List Placed) → placedFields text ≡ ok ps → layoutFields text ≡ ok ps
   layout-placed ps e = layout-short text (h .short) ∙ e
 
-  pub words-placed : Placing text (decoded n ws)
-  words-placed = placing text (decoded n ws) (h .fields)
+  pub codes-placed : Placing text (decoded n ws)
+  codes-placed = placing text (decoded n ws) (h .fields)
 
-  words-fields : (ps : List Placed) → placedFields text ≡ ok ps → fieldsIn ps ≡ decoded n ws
-  words-fields ps e = ok-inj (sym (placed-fields text ps e) ∙ h .fields)
+  codes-fields : (ps : List Placed) → placedFields text ≡ ok ps → fieldsIn ps ≡ decoded n ws
+  codes-fields ps e = ok-inj (sym (placed-fields text ps e) ∙ h .fields)
 
-  words-length : (ps : List Placed) → placedFields text ≡ ok ps → length ps ≡ n
-  words-length ps e = sym (length-map ps (λ p. p .what)) ∙ ap length (words-fields ps e) ∙ decoded-length n ws (h .few)
+  codes-length : (ps : List Placed) → placedFields text ≡ ok ps → length ps ≡ n
+  codes-length ps e = sym (length-map ps (λ p. p .what)) ∙ ap length (codes-fields ps e) ∙ decoded-length n ws (h .few)
 
   -- ---- the first field that breaks a promise
 
-  module _ (q : Promise) (k : ℕ) (kept : k ≡ keptFront q nothing (decoded n ws)) where
+  module _ (q : Promise) (k : ℕ) (kept : k ≡ keptFront q reachStart (decoded n ws)) where
     pub breaks-none : n ≤ k → BreaksAt text q nowhere
     breaks-none l ps e =
-        let many : length ps ≤ keptFront q nothing (fieldsIn ps) =
-        rw (words-fields ps e) (omega (arith, words-length ps e)) in
+        let many : length ps ≤ keptFront q reachStart (fieldsIn ps) =
+        rw (codes-fields ps e) (omega (arith, codes-length ps e)) in
         sym (break-none q 0 ps many)
 
     pub breaks-at : (r : ℕ) → k < n → PlaceOf text k r → BreaksAt text q r
     breaks-at r l p ps e =
-        let front : k ≡ keptFront q nothing (fieldsIn ps) = rw (words-fields ps e) kept in
-        let few : keptFront q nothing (fieldsIn ps) < length ps = omega (arith, words-length ps e) in
+        let front : k ≡ keptFront q reachStart (fieldsIn ps) = rw (codes-fields ps e) kept in
+        let few : keptFront q reachStart (fieldsIn ps) < length ps = omega (arith, codes-length ps e) in
         p .same ps e ∙ rw front (sym (break-at q (length text) ps few))
 
   -- ---- beside the old fields
 
   module _ (fs : List Field) (k : ℕ) (same : k ≡ sameFront fs (decoded n ws)) where
     front : (ps : List Placed) → placedFields text ≡ ok ps → k ≡ sameFront fs (fieldsIn ps)
-    front ps e = rw (words-fields ps e) same
+    front ps e = rw (codes-fields ps e) same
 
     pub grown-differs : (r : ℕ) → k < length fs → PlaceOf text k r → GrownAs text fs (refusedNew fieldsDiffer r)
     unfolding grown
@@ -101,7 +101,7 @@ module _ (text : List ℕ) (n : ℕ) (ws : List ℕ) (h : Holds text n ws) where
         grown-breaks some ps e = rw (alike ps e, ← plain ps e, ne-eqb a nowhere some)
 
         module _ (no-a : a ≡ nowhere) (b : ℕ) (slots : BreaksAt text Slots b) where
-          pub grown-slots : (b ≡ nowhere → ⊥) → GrownAs text fs (refusedNew (numberOf WrongSlots) b)
+          pub grown-slots : (b ≡ nowhere → ⊥) → GrownAs text fs (refusedNew (numberOf BadSlots) b)
           unfolding grown
           grown-slots some ps e = rw (alike ps e, ← plain ps e, no-a, ← slots ps e, ne-eqb b nowhere some)
 
@@ -114,7 +114,7 @@ module _ (text : List ℕ) (n : ℕ) (ws : List ℕ) (h : Holds text n ws) where
             pub grown-told : c ≡ nowhere → (m : ℕ) → m ≡ length fs → GrownAs text fs (told m (n - m) 0)
             unfolding grown
             grown-told no-c m long ps e =
-                rw (alike ps e, ← plain ps e, no-a, ← slots ps e, no-b, ← room ps e, no-c, long, words-length ps e)
+                rw (alike ps e, ← plain ps e, no-a, ← slots ps e, no-b, ← room ps e, no-c, long, codes-length ps e)
 
     pub grown-few : length fs ≤ k → length fs ≤ n
     grown-few l = omega (arith, front-few fs (decoded n ws) .1, decoded-length n ws (h .few))
@@ -130,7 +130,7 @@ module _ (layout : List ℕ) where
       → told a b c ≡ promised layout
   unfolding promised
   promises-told n ws h a b c p q r =
-      let w : Placing layout (decoded n ws) = words-placed layout n ws h in
+      let w : Placing layout (decoded n ws) = codes-placed layout n ws h in
       rw (layout-placed layout n ws h (w .placed) (w .here), p (w .placed) (w .here), q (w .placed) (w .here), r (w .placed) (w .here))
 
 module _ (fs : List Field) (new : List ℕ) where
@@ -141,7 +141,7 @@ module _ (fs : List Field) (new : List ℕ) where
   pub by-grown : (n : ℕ) (ws : List ℕ) → Holds new n ws → (r : Told) → GrownAs new fs r → r ≡ extendedBy fs new
   unfolding extendedBy
   by-grown n ws h r g =
-      let w : Placing new (decoded n ws) = words-placed new n ws h in
+      let w : Placing new (decoded n ws) = codes-placed new n ws h in
       g (w .placed) (w .here) ∙ rw (layout-placed new n ws h (w .placed) (w .here))
 
 module _ (old new : List ℕ) where
@@ -152,5 +152,5 @@ module _ (old new : List ℕ) where
   pub extends-by : (m : ℕ) (ws : List ℕ) → Holds old m ws → extendedBy (decoded m ws) new ≡ extended old new
   unfolding extended
   extends-by m ws h =
-      let w : Placing old (decoded m ws) = words-placed old m ws h in
+      let w : Placing old (decoded m ws) = codes-placed old m ws h in
       rw (layout-placed old m ws h (w .placed) (w .here), w .same)

@@ -1,5 +1,5 @@
--- Fields at the front of a layout: what the loops over words keep, and that the place of the first field that breaks a promise, or differs, is the place
--- of the one behind them.
+-- Fields at the front of a layout: what the loops over codes keep, and that the place of the first field that breaks a
+-- promise, or differs, is the place of the one after them.
 use Prim.Native.Nat.{ℕ, suc, _+_, _*_, _≤_, _<_, min}
 use native.Mathlib.Omega.{arith}
 use native.Mathlib.Nat.{zero-add, lt-of-not-le}
@@ -8,13 +8,14 @@ use mathlib.Core.Path.{_≡_, refl, _∙_}
 use mathlib.Core.Bool.{Bool, true, false}
 use mathlib.Core.List.{List, [], _∷_}
 use lib.ListN.{length, getD, drop}
-use Rattle.layout.specs.declared.Code.{Code}
-use Rattle.layout.specs.declared.Code.the-variants.{Data, Move}
+use Rattle.layout.specs.declared.Role.{Role}
+use Rattle.layout.specs.declared.Role.the-variants.{Data, Move}
 use Rattle.layout.specs.declared.Motion.the-variants.{Skip, Back, Goto}
 use Rattle.layout.specs.declared.Count.{Count}
 use Rattle.layout.specs.declared.Field.{Field}
 use Rattle.layout.specs.Refusals.{if_then_else_}
-use Rattle.layout.specs.Words.{FitCode, FitCount, FieldOf, fieldOf, decoded}
+use Rattle.layout.specs.Codes.{fieldOf}
+use Rattle.layout.specs.inside.Parsing.{FitRole, FitCount, FieldOf, decoded}
 use Rattle.layout.proofs.Decoded.{next-field, no-field, slots-le}
 use Rattle.record.specs.Geometry.{amount}
 use Rattle.record.proofs.Bounds.{bytes-small}
@@ -23,22 +24,22 @@ use Rattle.runs.specs.Ends.{fills}
 use Rattle.promises.specs.declared.Promise.{Promise}
 use Rattle.promises.specs.declared.Reach.{Reach}
 use Rattle.promises.specs.Placed.{Placed, fieldsIn, placeOf}
-use Rattle.promises.specs.Promises.{nothing, with, keptBy, nowhere, breakFrom, firstBreak, sameField, firstDifference}
-use Rattle.promises.specs.Walk.{keptFront, fieldReach, sameFront}
+use Rattle.promises.specs.Promises.{reachStart, reachWith, keptBy, nowhere, breakFrom, firstBreak, sameField, firstDifference}
+use Rattle.promises.specs.inside.Walk.{keptFront, codeReach, sameFront}
 
--- ---- the loop over one layout's words, in front of field i, with the fields before it come so far
+-- ---- the loop over one layout's codes, in front of field i, with the fields before it come so far
 
 pub record Kept (q : Promise) (n : ℕ) (ws : List ℕ) (i : ℕ) (r : Reach) : Type 0 where
   pub within : i ≤ n
   pub few : r .slots ≤ i
-  pub near : r .end ≤ i * fieldReach
-  pub so-far : keptFront q nothing (decoded n ws) ≡ i + keptFront q r (drop i (decoded n ws))
+  pub near : r .end ≤ i * codeReach
+  pub so-far : keptFront q reachStart (decoded n ws) ≡ i + keptFront q r (drop i (decoded n ws))
 
-pub kept-none : (q : Promise) (n : ℕ) (ws : List ℕ) → Kept q n ws 0 nothing
+pub kept-none : (q : Promise) (n : ℕ) (ws : List ℕ) → Kept q n ws 0 reachStart
 kept-none q n ws = record { within = omega arith; few = omega arith; near = omega arith; so-far = rw zero-add }
 
 -- one field takes the end no further than its reach
-pub one-near : (k : Code) (n : Count) → FitCode k → FitCount n → fills k n ≤ fieldReach
+pub one-near : (k : Role) (n : Count) → FitRole k → FitCount n → fills k n ≤ codeReach
 unfolding fills
 one-near (Data s) n h l = omega (arith, bytes-small s (amount n 0) h, amount-small n 0 l)
 one-near (Move Skip) n h l = omega (arith, amount-small n 0 l)
@@ -48,14 +49,14 @@ one-near (Move Goto) n h l = omega arith
 module _ (q : Promise) (n : ℕ) (ws : List ℕ) (few : n ≤ length ws) where
   module _ (i : ℕ) (r : Reach) (k : Kept q n ws i r) where
     -- its field f, how far the layout has come with it, and whether it keeps the promise
-    module _ (h : i < n) (f : Field) (fit : FieldOf (getD ws i 0) f) (s : Reach) (far : s ≡ with r f) (t : Bool)
+    module _ (h : i < n) (f : Field) (fit : FieldOf (getD ws i 0) f) (s : Reach) (far : s ≡ reachWith r f) (t : Bool)
         (told : t ≡ keptBy q s f) where
       here : keptFront q r (drop i (decoded n ws))
           ≡ (if t then suc (keptFront q s (drop (i + 1) (decoded n ws))) else 0)
       unfolding keptFront
       here = rw (next-field n ws few i h, ← fit .same, ← far, ← told)
 
-      pub kept-stop : t ≡ false → i ≡ keptFront q nothing (decoded n ws)
+      pub kept-stop : t ≡ false → i ≡ keptFront q reachStart (decoded n ws)
       kept-stop e = let none : keptFront q r (drop i (decoded n ws)) ≡ 0 = here ∙ rw e in omega (arith, k .so-far)
 
       pub kept-more : t ≡ true → Kept q n ws (i + 1) s
@@ -65,17 +66,17 @@ module _ (q : Promise) (n : ℕ) (ws : List ℕ) (few : n ≤ length ws) where
           record {
             within = omega arith;
             few = rw far (omega (arith, k .few, slots-le f));
-            near = rw far (omega (arith, k .near, one-near (f .code) (f .count) (fit .code) (fit .count)));
+            near = rw far (omega (arith, k .near, one-near (f .role) (f .count) (fit .role) (fit .count)));
             so-far = omega (arith, k .so-far);
           }
 
-    pub kept-done : n ≤ i → i ≡ keptFront q nothing (decoded n ws)
+    pub kept-done : n ≤ i → i ≡ keptFront q reachStart (decoded n ws)
     unfolding keptFront
     kept-done h =
         let here : keptFront q r (drop i (decoded n ws)) ≡ 0 = rw (no-field n ws few i h) in
         omega (arith, k .so-far)
 
--- ---- the loop over the words of two
+-- ---- the loop over the codes of two
 
 pub record Alike (m : ℕ) (vs : List ℕ) (n : ℕ) (ws : List ℕ) (i : ℕ) : Type 0 where
   pub within : i ≤ min m n
@@ -128,7 +129,7 @@ module _ (q : Promise) (end : ℕ) where
   unfolding keptFront breakFrom
   none-from r [] h = refl
   none-from r (p ∷ ps) h =
-      step (with r (p .what)) (keptBy q (with r (p .what)) (p .what)) h (λ k. none-from (with r (p .what)) ps k)
+      step (reachWith r (p .what)) (keptBy q (reachWith r (p .what)) (p .what)) h (λ k. none-from (reachWith r (p .what)) ps k)
     where
       step : (s : Reach) (t : Bool) → suc (length ps) ≤ (if t then suc (keptFront q s (fieldsIn ps)) else 0)
           → BreakNone s ps → (if t then breakFrom q s ps else p .place) ≡ nowhere
@@ -143,7 +144,7 @@ module _ (q : Promise) (end : ℕ) where
   unfolding keptFront breakFrom placeOf
   at-from r [] h = absurd (omega arith)
   at-from r (p ∷ ps) h =
-      step (with r (p .what)) (keptBy q (with r (p .what)) (p .what)) h (λ k. at-from (with r (p .what)) ps k)
+      step (reachWith r (p .what)) (keptBy q (reachWith r (p .what)) (p .what)) h (λ k. at-from (reachWith r (p .what)) ps k)
     where
       step : (s : Reach) (t : Bool) → (if t then suc (keptFront q s (fieldsIn ps)) else 0) < suc (length ps)
           → BreakAt s ps
@@ -152,14 +153,14 @@ module _ (q : Promise) (end : ℕ) where
       step s true k ih = ih (omega arith)
       step s false k ih = refl
 
-  pub break-none : (ps : List Placed) → length ps ≤ keptFront q nothing (fieldsIn ps) → firstBreak q ps ≡ nowhere
+  pub break-none : (ps : List Placed) → length ps ≤ keptFront q reachStart (fieldsIn ps) → firstBreak q ps ≡ nowhere
   unfolding firstBreak
-  break-none ps h = none-from nothing ps h
+  break-none ps h = none-from reachStart ps h
 
-  pub break-at : (ps : List Placed) → keptFront q nothing (fieldsIn ps) < length ps
-      → firstBreak q ps ≡ placeOf end ps (keptFront q nothing (fieldsIn ps))
+  pub break-at : (ps : List Placed) → keptFront q reachStart (fieldsIn ps) < length ps
+      → firstBreak q ps ≡ placeOf end ps (keptFront q reachStart (fieldsIn ps))
   unfolding firstBreak
-  break-at ps h = at-from nothing ps h
+  break-at ps h = at-from reachStart ps h
 
 -- ---- the first field that is not the old layout's
 

@@ -1,5 +1,5 @@
--- The fields with their places: without the places they are the layout reader's, and a walk over the text that passes spaces and whole fields comes to the
--- place of each.
+-- The fields with their places: without the places they are the layout reader's, and a walk over the text that passes
+-- spaces and whole fields comes to the place of each.
 use Prim.Native.Nat.{ℕ, zero, suc, _+_, _-_, _≤_, _<_}
 use native.Mathlib.Nat.{add-zero}
 use native.Mathlib.Numerals.{add-one}
@@ -15,18 +15,18 @@ use Rattle.layout.specs.declared.Field.{Field}
 use Rattle.layout.specs.declared.Refusal.{Refusal}
 use Rattle.layout.specs.declared.Typed.{Typed}
 use Rattle.layout.specs.declared.Typed.the-variants.{Known, Unknown}
-use Rattle.layout.specs.declared.Refusal.the-variants.{UnknownType, CountTooLarge, CountMisused}
+use Rattle.layout.specs.declared.Refusal.the-variants.{BadType, BadCount, BadMove}
 use Rattle.layout.specs.Refusals.{if_then_else_, Result, ok, refused, _>>=_, demand}
-use Rattle.layout.specs.Layout.{typeOf, flagged, countOf, countLength, inLimit, hasMeaning, toNat, Step, space, field, bad, stepFrom, fieldAfter, fieldAt, stepOf, extra, before, fieldsFrom, fieldsOf}
-use Rattle.layout.specs.Words.{TailAt}
+use Rattle.layout.specs.Layout.{typeOf, flagged, countOf, countLength, inLimit, hasMeaning, toNat, Step, space, field, bad, stepFrom, fieldAfter, fieldAt, stepOf, stepExtra, stepThen, fieldsFrom, fieldsOf}
+use Rattle.layout.specs.inside.Parsing.{TailAt}
 use Rattle.layout.proofs.Laws.{no-refusal, bound, ok-inj}
 use Rattle.layout.proofs.Steps.{count-within, flag-within}
 use Rattle.promises.specs.Placed.{Placed, fieldsIn, withoutPlaces, placedBefore, placedFrom, placedFields, placeOf}
-use Rattle.promises.specs.Walk.{PlaceOf}
+use Rattle.promises.specs.inside.Walk.{PlaceOf}
 
 -- ---- without the places
 
-forget-before : (at : ℕ) (s : Step) (r : Result (List Placed)) → withoutPlaces (placedBefore at s r) ≡ before s (withoutPlaces r)
+forget-before : (at : ℕ) (s : Step) (r : Result (List Placed)) → withoutPlaces (placedBefore at s r) ≡ stepThen s (withoutPlaces r)
 forget-before at space r = refl
 forget-before at (field f n) (ok ps) = refl
 forget-before at (field f n) (refused why place) = refl
@@ -38,7 +38,7 @@ forget-from [] at n = refl
 forget-from (c ∷ cs) at (suc n) = forget-from cs (suc at) n
 forget-from (c ∷ cs) at zero =
     let s : Step = stepOf true at c cs in
-    forget-before at s (placedFrom (suc at) (extra s) cs) ∙ ap (before s) (forget-from cs (suc at) (extra s))
+    forget-before at s (placedFrom (suc at) (stepExtra s) cs) ∙ ap (stepThen s) (forget-from cs (suc at) (stepExtra s))
 
 pub forgotten : (text : List ℕ) → withoutPlaces (placedFields text) ≡ fieldsOf true text
 unfolding placedFields fieldsOf
@@ -81,12 +81,12 @@ skipped (c ∷ cs) at zero = rw add-zero
 skipped (c ∷ cs) at (suc n) = skipped cs (suc at) n ∙ ap (λ (i : ℕ). placedFrom i 0 (drop n cs)) (let e : suc at + n ≡ at + suc n = omega arith in e)
 
 at-byte : (text : List ℕ) (at : ℕ) → at < length text
-    → placedRest text at ≡ placedBefore at (stepOf true at (getD text at 0) (drop (suc at) text)) (placedRest text (suc at + extra (stepOf true at (getD text at 0) (drop (suc at) text))))
+    → placedRest text at ≡ placedBefore at (stepOf true at (getD text at 0) (drop (suc at) text)) (placedRest text (suc at + stepExtra (stepOf true at (getD text at 0) (drop (suc at) text))))
 unfolding placedRest placedFrom
 at-byte text at h =
     let s : Step = stepOf true at (getD text at 0) (drop (suc at) text) in
     ap (placedFrom at 0) (drop-cons text at 0 h)
-    ∙ ap (placedBefore at s) (skipped (drop (suc at) text) (suc at) (extra s) ∙ ap (placedFrom (suc at + extra s) 0) (drop-drop (extra s) (suc at) text))
+    ∙ ap (placedBefore at s) (skipped (drop (suc at) text) (suc at) (stepExtra s) ∙ ap (placedFrom (suc at + stepExtra s) 0) (drop-drop (stepExtra s) (suc at) text))
 
 at-end : (text : List ℕ) (at : ℕ) → length text ≤ at → placedRest text at ≡ ok []
 unfolding placedRest placedFrom
@@ -103,22 +103,22 @@ tailLength cs = toNat (flagged cs) + countLength (drop (toNat (flagged cs)) cs)
 
 abbrev pub Reads : ℕ → List ℕ → Step → Type 0
 Reads c cs space = c ≡ 32
-Reads c cs (field f m) = (typeOf c ≡ Known (f .code)) × (m ≡ tailLength cs)
+Reads c cs (field f m) = (typeOf c ≡ Known (f .role)) × (m ≡ tailLength cs)
 Reads c cs (bad why place) = Unit {0}
 
-reads-end : (p q c : ℕ) (cs : List ℕ) (f : Field) (l m : Bool) → typeOf c ≡ Known (f .code)
-    → Reads c cs (stepFrom (demand l CountTooLarge p >>= (λ _. demand m CountMisused q >>= (λ _. ok (f, tailLength cs)))))
+reads-end : (p q c : ℕ) (cs : List ℕ) (f : Field) (l m : Bool) → typeOf c ≡ Known (f .role)
+    → Reads c cs (stepFrom (demand l BadCount p >>= (λ _. demand m BadMove q >>= (λ _. ok (f, tailLength cs)))))
 reads-end p q c cs f false m e = tt
 reads-end p q c cs f true false e = tt
 reads-end p q c cs f true true e = (e, refl)
 
 reads-typed : (at c : ℕ) (cs : List ℕ) (t : Typed) → typeOf c ≡ t
-    → Reads c cs (stepFrom (elim t [ Known k ↦ fieldAfter true at k cs | Unknown ↦ refused UnknownType at ]))
+    → Reads c cs (stepFrom (elim t [ Known k ↦ fieldAfter true at k cs | Unknown ↦ refused BadType at ]))
 unfolding fieldAfter
 reads-typed at c cs (Known k) e =
     let u = flagged cs in
     let n = countOf (drop (toNat u) cs) in
-    reads-end (suc at + toNat u) at c cs (record { code = k; unsigned = u; count = n }) (inLimit n) (hasMeaning true k n) e
+    reads-end (suc at + toNat u) at c cs (record { role = k; unsigned = u; count = n }) (inLimit n) (hasMeaning true k n) e
 reads-typed at c cs Unknown e = tt
 
 pub reads-step : (at c : ℕ) (cs : List ℕ) → Reads c cs (stepOf true at c cs)
@@ -152,7 +152,7 @@ module _ (text : List ℕ) (p b v e : ℕ) (tail : TailAt text (p + 1) b v e) wh
       let l : countLength (drop (p + 1 + b) text) ≤ length text - (p + 1 + b) = rw (← length-drop) (count-within (drop (p + 1 + b) text)) in
       omega (arith, tail .1 .1, bit)
 
--- ---- the walk, in front of the byte `at`, with so many fields left to pass
+-- ---- the walk, in front of the byte `at`, with `left` fields left to pass
 
 -- the fields from here on, among which the one that is looked for is number `left`
 pub record Ahead (text : List ℕ) (k left at : ℕ) (ps : List Placed) : Type 0 where
@@ -168,13 +168,13 @@ pub walking-none : (text : List ℕ) (k : ℕ) → Walking text k k 0
 unfolding placedFields placedRest
 walking-none text k = record { within = omega arith; on = λ ps e. record { ahead = ps; here = e; same = refl } }
 
--- the field that stands here, and those behind it
+-- the field that stands here, and those after it
 record Standing (text : List ℕ) (at : ℕ) (qs : List Placed) : Type 0 where
   it : Placed
   others : List Placed
   split : qs ≡ it ∷ others
   place : it .place ≡ at
-  behind : placedRest text (suc at + tailLength (drop (suc at) text)) ≡ ok others
+  after : placedRest text (suc at + tailLength (drop (suc at) text)) ≡ ok others
 
 standing : (text : List ℕ) (at : ℕ) (qs : List Placed) → at < length text → (getD text at 0 ≡ 32 → ⊥) → placedRest text at ≡ ok qs → Standing text at qs
 standing text at qs h solid e =
@@ -182,11 +182,11 @@ standing text at qs h solid e =
     let s : Step = stepOf true at (getD text at 0) cs in
     go s (reads-step at (getD text at 0) cs) (sym (at-byte text at h) ∙ e)
   where
-    go : (s : Step) → Reads (getD text at 0) (drop (suc at) text) s → placedBefore at s (placedRest text (suc at + extra s)) ≡ ok qs → Standing text at qs
+    go : (s : Step) → Reads (getD text at 0) (drop (suc at) text) s → placedBefore at s (placedRest text (suc at + stepExtra s)) ≡ ok qs → Standing text at qs
     go space t k = absurd (solid t)
     go (field f m) t k =
         let (rs, k₁, k₂) = bound (placedRest text (suc at + m)) (λ ps. ok (record { what = f; place = at } ∷ ps)) qs k in
-        record { it = record { what = f; place = at }; others = rs; split = sym (ok-inj k₂); place = refl; behind = ap (λ (i : ℕ). placedRest text (suc at + i)) (sym (t .1)) ∙ k₁ }
+        record { it = record { what = f; place = at }; others = rs; split = sym (ok-inj k₂); place = refl; after = ap (λ (i : ℕ). placedRest text (suc at + i)) (sym (t .1)) ∙ k₁ }
     go (bad why place) t k = no-refusal k
 
 module _ (text : List ℕ) (k left at : ℕ) (w : Walking text k left at) where
@@ -217,7 +217,7 @@ module _ (text : List ℕ) (k left at : ℕ) (w : Walking text k left at) where
         let s : Standing text at (a .ahead) = standing text at (a .ahead) h solid (a .here) in
         let more : left ≡ suc (left - 1) = omega arith in
         let same : placeOf (length text) (s .it ∷ s .others) (suc (left - 1)) ≡ placeOf (length text) ps k = rw (s .split, more) at (a .same) in
-        record { ahead = s .others; here = rw (next-place text at b v e tail) (s .behind); same = same };
+        record { ahead = s .others; here = rw (next-place text at b v e tail) (s .after); same = same };
   }
 
   pub walking-done : length text ≤ at → PlaceOf text k at

@@ -1,5 +1,6 @@
--- Fields that are the same: the test of the definition holds just where two fields are equal, because a type and a count can be told from their numbers;
--- and two words stand for the same field just where they agree in the type and in all above it.
+-- Fields that are the same: the test of the definition holds just where two fields are equal, because a type and a
+-- count can be told from their numbers; and two codes stand for the same field just where they agree in the type and in
+-- all above it.
 use Prim.Native.Nat.{ℕ, zero, suc, _+_, _*_, _/_, _%_, _≤_, _<_}
 use native.Mathlib.Omega.{arith}
 use native.Mathlib.Nat.{lt-of-not-le}
@@ -8,18 +9,18 @@ use mathlib.Core.Path.{_≡_, refl, sym, ap, _∙_}
 use mathlib.Core.Bool.{Bool, true, false, _&&_, true≢false}
 use borrow.Author.Tests.{eq-eqb, ne-eqb, eqb-true}
 use lib.Dec.{eqb}
-use Rattle.layout.specs.declared.Code.{Code}
-use Rattle.layout.specs.declared.Code.the-variants.{Data, Move}
+use Rattle.layout.specs.declared.Role.{Role}
+use Rattle.layout.specs.declared.Role.the-variants.{Data, Move}
 use Rattle.layout.specs.declared.Motion.the-variants.{Skip, Back, Goto}
 use Rattle.layout.specs.declared.Shape.the-variants.{Text, Digits, Integers, Reals}
 use Rattle.layout.specs.declared.Count.{Count}
 use Rattle.layout.specs.declared.Count.the-variants.{Absent, Star, Times}
 use Rattle.layout.specs.declared.Field.{Field}
 use Rattle.layout.specs.Layout.{toNat}
-use Rattle.layout.specs.Words.{lastData, skipNumber, backNumber, gotoNumber, typeNumbered, known, countFrom, fieldOf, flagUnit, countUnit}
+use Rattle.layout.specs.Codes.{lastData, skipNumber, backNumber, gotoNumber, typeNumbered, known, countFrom, fieldOf, flagUnit, countUnit}
 use Rattle.layout.proofs.Numbered.{moving, move-type}
 use Rattle.promises.specs.Promises.{typeNumbers, countNumber, sameType, sameField}
-use Rattle.promises.specs.Walk.{typeIn}
+use Rattle.promises.specs.inside.Walk.{typeIn}
 
 -- ---- back from the numbers
 
@@ -27,7 +28,7 @@ bit-of : (u : Bool) → eqb (toNat u) 1 ≡ u
 bit-of true = refl
 bit-of false = refl
 
-abbrev typeFrom : ℕ → ℕ → ℕ → Code
+abbrev typeFrom : ℕ → ℕ → ℕ → Role
 typeFrom zero a b = Data (Text a)
 typeFrom (suc zero) a b = Data (Digits (eqb a 1) (eqb b 1))
 typeFrom (suc (suc zero)) a b = Data (Integers a (eqb b 1))
@@ -36,7 +37,7 @@ typeFrom (suc (suc (suc (suc zero)))) a b = Move Skip
 typeFrom (suc (suc (suc (suc (suc zero))))) a b = Move Back
 typeFrom (suc (suc (suc (suc (suc (suc n)))))) a b = Move Goto
 
-type-back : (k : Code) → typeFrom (typeNumbers k .0) (typeNumbers k .1) (typeNumbers k .2) ≡ k
+type-back : (k : Role) → typeFrom (typeNumbers k .0) (typeNumbers k .1) (typeNumbers k .2) ≡ k
 type-back (Data (Text pad)) = refl
 type-back (Data (Digits hex high)) = rw (bit-of hex, bit-of high)
 type-back (Data (Integers w big)) = rw (bit-of big)
@@ -66,7 +67,7 @@ three-true true true c e = (refl, refl, e)
 three-true true false c e = absurd (true≢false (sym e))
 three-true false b c e = absurd (true≢false (sym e))
 
-same-type : (j k : Code) → sameType j k ≡ true → j ≡ k
+same-type : (j k : Role) → sameType j k ≡ true → j ≡ k
 same-type j k e =
     let (p, q, s) = three-true _ _ _ e in
     let a : typeNumbers j .0 ≡ typeNumbers k .0 = eqb-true _ _ p in
@@ -74,20 +75,20 @@ same-type j k e =
     let c : typeNumbers j .2 ≡ typeNumbers k .2 = eqb-true _ _ s in
     sym (type-back j) ∙ (rw (a, b, c) (type-back k))
 
-parts-equal : {j k : Code} {a b : Bool} {m n : Count} → j ≡ k → a ≡ b → m ≡ n
-    → _≡_ {A = Field} (record { code = j; unsigned = a; count = m }) (record { code = k; unsigned = b; count = n })
-parts-equal code flag count = cc
+parts-equal : {j k : Role} {a b : Bool} {m n : Count} → j ≡ k → a ≡ b → m ≡ n
+    → _≡_ {A = Field} (record { role = j; unsigned = a; count = m }) (record { role = k; unsigned = b; count = n })
+parts-equal role flag count = cc
 
 pub same-equal : (f g : Field) → sameField f g ≡ true → f ≡ g
 unfolding sameField
 same-equal f g e =
     let (p, q, s) = three-true _ _ _ e in
-    let code : f .code ≡ g .code = same-type (f .code) (g .code) p in
+    let role : f .role ≡ g .role = same-type (f .role) (g .role) p in
     let bit : toNat (f .unsigned) ≡ toNat (g .unsigned) = eqb-true _ _ q in
     let flag : f .unsigned ≡ g .unsigned = sym (bit-of (f .unsigned)) ∙ ap (λ (n : ℕ). eqb n 1) bit ∙ bit-of (g .unsigned) in
     let number : countNumber (f .count) ≡ countNumber (g .count) = eqb-true _ _ s in
     let count : f .count ≡ g .count = sym (count-back (f .count)) ∙ ap countFrom number ∙ count-back (g .count) in
-    parts-equal code flag count
+    parts-equal role flag count
 
 eqb-same : (n : ℕ) → eqb n n ≡ true
 eqb-same n = eq-eqb n n refl
@@ -103,7 +104,7 @@ same-not f g h = go (sameField f g) refl
     go true e = absurd (h (same-equal f g e))
     go false e = refl
 
--- ---- the type in a word
+-- ---- the type in a code
 
 abbrev low : ℕ → Bool
 low zero = true
@@ -138,9 +139,9 @@ type-rest d h skip goto = rw (move-type d h, ne-eqb d skipNumber skip, ne-eqb d 
     backs false = refl
 
 -- the number tells the type
-code-again : (d : ℕ) → known (typeNumbered (typeIn (known (typeNumbered d)))) ≡ known (typeNumbered d)
+role-again : (d : ℕ) → known (typeNumbered (typeIn (known (typeNumbered d)))) ≡ known (typeNumbered d)
 unfolding typeNumbered
-code-again d = elim (decLe d lastData) [
+role-again d = elim (decLe d lastData) [
   | yes h ↦ ap (λ (n : ℕ). known (typeNumbered n)) (sym (type-low d h))
   | no h ↦ rw (move-type d (lt-of-not-le h)) (moves (eqb d skipNumber) (eqb d backNumber) (eqb d gotoNumber))
 ]
@@ -151,15 +152,15 @@ code-again d = elim (decLe d lastData) [
     moves false false true = refl
     moves false false false = refl
 
--- ---- two words
+-- ---- two codes
 
 module _ (v w : ℕ) where
-  words-same : typeIn (fieldOf v .code) ≡ typeIn (fieldOf w .code) → v / flagUnit ≡ w / flagUnit → fieldOf v ≡ fieldOf w
+  codes-same : typeIn (fieldOf v .role) ≡ typeIn (fieldOf w .role) → v / flagUnit ≡ w / flagUnit → fieldOf v ≡ fieldOf w
   unfolding fieldOf
-  words-same t e =
-      let code : known (typeNumbered (v % flagUnit)) ≡ known (typeNumbered (w % flagUnit)) = sym (code-again (v % flagUnit)) ∙ ap (λ (n : ℕ). known (typeNumbered n)) t ∙ code-again (w % flagUnit) in
+  codes-same t e =
+      let role : known (typeNumbered (v % flagUnit)) ≡ known (typeNumbered (w % flagUnit)) = sym (role-again (v % flagUnit)) ∙ ap (λ (n : ℕ). known (typeNumbered n)) t ∙ role-again (w % flagUnit) in
       let count : v / countUnit ≡ w / countUnit = omega arith in
-      rw (code, e, count)
+      rw (role, e, count)
 
   bits-same : (a b : ℕ) → a < 2 → b < 2 → eqb a 1 ≡ eqb b 1 → a ≡ b
   bits-same zero zero h k e = refl
@@ -180,12 +181,12 @@ module _ (v w : ℕ) where
       let b : w / flagUnit ≡ w / flagUnit % 2 + 2 * (w / countUnit) = omega arith in
       omega arith
 
-  pub types-differ : (typeIn (fieldOf v .code) ≡ typeIn (fieldOf w .code) → ⊥) → false ≡ sameField (fieldOf v) (fieldOf w)
-  types-differ h = sym (same-not (fieldOf v) (fieldOf w) (λ e. h (ap (λ (f : Field). typeIn (f .code)) e)))
+  pub types-differ : (typeIn (fieldOf v .role) ≡ typeIn (fieldOf w .role) → ⊥) → false ≡ sameField (fieldOf v) (fieldOf w)
+  types-differ h = sym (same-not (fieldOf v) (fieldOf w) (λ e. h (ap (λ (f : Field). typeIn (f .role)) e)))
 
-  pub types-same : typeIn (fieldOf v .code) ≡ typeIn (fieldOf w .code) → eqb (v / flagUnit) (w / flagUnit) ≡ sameField (fieldOf v) (fieldOf w)
+  pub types-same : typeIn (fieldOf v .role) ≡ typeIn (fieldOf w .role) → eqb (v / flagUnit) (w / flagUnit) ≡ sameField (fieldOf v) (fieldOf w)
   types-same t = go (eqb (v / flagUnit) (w / flagUnit)) refl
     where
       go : (b : Bool) → eqb (v / flagUnit) (w / flagUnit) ≡ b → b ≡ sameField (fieldOf v) (fieldOf w)
-      go true e = sym (rw (words-same t (eqb-true _ _ e)) (same-itself (fieldOf w)))
+      go true e = sym (rw (codes-same t (eqb-true _ _ e)) (same-itself (fieldOf w)))
       go false e = sym (same-not (fieldOf v) (fieldOf w) (λ k. true≢false (sym (eq-eqb (v / flagUnit) (w / flagUnit) (same-upper k)) ∙ e)))

@@ -1,4 +1,4 @@
--- The fields of a layout with their places, what a layout promises, and what the code computes.
+-- The fields of a layout with their places, and what a layout promises.
 pub mod Placed
 pub mod Promises
-pub mod Walk
+pub mod inside

@@ -1,10 +1,11 @@
--- The fields of a layout and where they stand in its text. Each field is read just as crates/layout/specs/Layout.antt reads it; here its place is kept.
+-- The fields of a layout and where they stand in its text. Each field is read just as crates/layout/specs/Layout.antt
+-- reads it; here its place is kept.
 use Prim.Native.Nat.{ℕ, zero, suc}
 use mathlib.Core.Bool.{true}
 use mathlib.Core.List.{List, [], _∷_, map}
 use Rattle.layout.specs.declared.Field.{Field}
 use Rattle.layout.specs.Refusals.{Result, ok, refused, _>>=_}
-use Rattle.layout.specs.Layout.{Step, space, field, bad, stepOf, extra}
+use Rattle.layout.specs.Layout.{Step, space, field, bad, stepOf, stepExtra}
 
 -- a field, and the byte at which its type character stands
 pub record Placed : Type 0 where
@@ -31,11 +32,11 @@ placedFrom at n [] = ok []
 placedFrom at (suc n) (c ∷ cs) = placedFrom (suc at) n cs
 placedFrom at zero (c ∷ cs) =
     let s = stepOf true at c cs in
-    let rest = placedFrom (suc at) (extra s) cs in
+    let rest = placedFrom (suc at) (stepExtra s) cs in
     placedBefore at s rest
 
--- THE FIELDS OF A LAYOUT WITH THEIR PLACES, as packing reads it, or the first refusal from the left. Without the places they are `fieldsOf`
--- (crates/promises_claims, `PlacesOf`).
+-- THE FIELDS OF A LAYOUT WITH THEIR PLACES, as packing reads it, or the first refusal from the left. Without the places
+-- they are `fieldsOf` (crates/promises_claims, `PlacesOf`).
 unfoldable pub placedFields : List ℕ → Result (List Placed)
 unfolding placedFrom
 placedFields text = placedFrom 0 0 text

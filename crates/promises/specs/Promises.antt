@@ -1,25 +1,24 @@
--- What a layout promises: whether demand 3 (document 01), M-107 and M-113 (02) speak of it; and whether one layout is another with fields added.
--- THE EFFECTS OF THE CALLS are `promised` and `extended`.
+-- What a layout promises: whether demand 3 (document 01), M-107 and M-113 (02) speak of it; and whether one layout is
+-- another with fields added. THE EFFECTS OF THE CALLS are `promised` and `extended`.
 use Prim.Native.Nat.{ℕ, suc, _+_, _-_}
 use mathlib.Core.Bool.{Bool, _&&_}
 use mathlib.Core.List.{List, [], _∷_}
 use lib.ListN.{length}
 use lib.Dec.{eqb, leb}
-use Rattle.layout.specs.declared.Code.{Code}
-use Rattle.layout.specs.declared.Code.the-variants.{Data, Move}
+use Rattle.layout.specs.declared.Role.{Role}
+use Rattle.layout.specs.declared.Role.the-variants.{Data, Move}
 use Rattle.layout.specs.declared.Motion.the-variants.{Skip, Back, Goto}
 use Rattle.layout.specs.declared.Shape.the-variants.{Text, Digits, Integers, Reals}
 use Rattle.layout.specs.declared.Count.{Count}
 use Rattle.layout.specs.declared.Count.the-variants.{Absent, Star, Times}
 use Rattle.layout.specs.declared.Field.{Field}
-use Rattle.layout.specs.declared.Refusal.the-variants.{BadSize, WrongSlots, NoRoom}
+use Rattle.layout.specs.declared.Refusal.the-variants.{BadSize, BadSlots, NoRoom}
 use Rattle.layout.specs.Refusals.{if_then_else_, numberOf, Result, ok, refused, _>>=_, demand}
-use Rattle.layout.specs.Layout.{maxLayout, toNat}
-use Rattle.layout.specs.Words.{slotsTaken}
+use Rattle.layout.specs.Layout.{maxLayout, toNat, slotsTaken}
 use Rattle.record.specs.Table.{maxSlots, maxRecord}
 use Rattle.record.specs.Packing.{accepted, refusal}
-use Rattle.runs.specs.Ends.{plainCode, plainCount, fills}
-use Rattle.lossless.specs.Claim.{losslessCode}
+use Rattle.runs.specs.Ends.{plainRole, plainCount, fills}
+use Rattle.lossless.specs.Claim.{losslessRole}
 use Rattle.promises.specs.declared.Promise.{Promise}
 use Rattle.promises.specs.declared.Promise.the-variants.{Grows, Keeps, Joins, Plain, Slots, Room}
 use Rattle.promises.specs.declared.Reach.{Reach}
@@ -28,70 +27,70 @@ use Rattle.promises.specs.Placed.{Placed, fieldsIn, placedFields}
 
 -- ---- how far a layout has come with a field; the type Reach is the source's
 
--- in front of the first field
-abbrev pub nothing : Reach
-nothing = record { slots = 0; end = 0 }
+-- how far a layout has come in front of its first field
+abbrev pub reachStart : Reach
+reachStart = record { slots = 0; end = 0 }
 
--- with one field more: the slots that it and those before it take, and its end, what they fill in packing added up
--- (01, What demand 3 reads back)
-abbrev pub with : Reach → Field → Reach
-with r f = record { slots = r .slots + slotsTaken f; end = r .end + fills (f .code) (f .count) }
+-- how far it has come with one field more: the slots that this and the fields before it take, and its end, what they
+-- fill in packing added up (01, What demand 3 reads back)
+abbrev pub reachWith : Reach → Field → Reach
+reachWith r f = record { slots = r .slots + slotsTaken f; end = r .end + fills (f .role) (f .count) }
 
 -- ---- the promises, field by field; the type Promise is the source's
 
--- no star, no `X`, no `@`, no count of 0 (01, demand 3)
+-- a field is plain: no star, no `X`, no `@`, no count of 0 (01, demand 3)
 abbrev pub plainField : Field → Bool
-plainField f = plainCode (f .code) && plainCount (f .count)
+plainField f = plainRole (f .role) && plainCount (f .count)
 
--- reading it loses nothing (02, M-107, the fields that it lists)
+-- reading a field loses nothing (02, M-107, the fields that it lists)
 abbrev pub losslessField : Field → Bool
-losslessField f = losslessCode (f .code) (f .count) && plainCount (f .count)
+losslessField f = losslessRole (f .role) (f .count) && plainCount (f .count)
 
 -- the limits (01, Slot tables, sizes): past them every packing by a plain layout is refused, so that the theorems say
 -- nothing of it
-abbrev pub slotsFit : Reach → Bool
-slotsFit r = leb (r .slots) maxSlots
+abbrev pub slotsInTable : Reach → Bool
+slotsInTable r = leb (r .slots) maxSlots
 
-abbrev pub endFits : Reach → Bool
-endFits r = leb (r .end) maxRecord
+abbrev pub endInRecord : Reach → Bool
+endInRecord r = leb (r .end) maxRecord
 
-abbrev pub fits : Reach → Bool
-fits r = slotsFit r && endFits r
+abbrev pub inLimits : Reach → Bool
+inLimits r = slotsInTable r && endInRecord r
 
--- whether a field keeps a promise, where the layout has come so far with it
+-- whether the field f keeps a promise, where the layout has come as far as r with it
 abbrev pub keptBy : Promise → Reach → Field → Bool
 -- the layout may grow at its end (01, demand 3)
-keptBy Grows r f = plainField f && fits r
--- reading by it loses nothing (02, M-107)
-keptBy Keeps r f = losslessField f && fits r
--- it may be joined with others (02, M-113): no `X`, no `@`
-keptBy Joins r f = plainCode (f .code)
--- the first of these promises in its three parts, which `extends` asks for one after the other
+keptBy Grows r f = plainField f && inLimits r
+-- reading by the layout loses nothing (02, M-107)
+keptBy Keeps r f = losslessField f && inLimits r
+-- the layout may be joined with others (02, M-113): no `X`, no `@`
+keptBy Joins r f = plainRole (f .role)
+-- the promise to grow in its three parts, which `extends` asks for one after the other
 keptBy Plain r f = plainField f
-keptBy Slots r f = slotsFit r
-keptBy Room r f = endFits r
+keptBy Slots r f = slotsInTable r
+keptBy Room r f = endInRecord r
 
 -- what stands for a place where there is none; every place in a layout is below `maxLayout`
 abbrev pub nowhere : ℕ
 nowhere = 4294967295
 
--- the place of the first field that breaks a promise, where the fields before have come so far
+-- the place of the first field that breaks a promise, where the fields before have come as far as r
 unfoldable pub breakFrom : Promise → Reach → List Placed → ℕ
 unfolding fills
 breakFrom q r [] = nowhere
 breakFrom q r (p ∷ ps) =
-    let here = with r (p .what) in
+    let here = reachWith r (p .what) in
     let later = breakFrom q here ps in
     if keptBy q here (p .what) then later else p .place
 
 unfoldable pub firstBreak : Promise → List Placed → ℕ
 unfolding breakFrom
-firstBreak q ps = breakFrom q nothing ps
+firstBreak q ps = breakFrom q reachStart ps
 
 -- ---- the same field: type, flag and count agree (01, What demand 3 reads back)
 
--- a type as three numbers: its form, and what tells the types of a form apart
-abbrev pub typeNumbers : Code → ℕ × ℕ × ℕ
+-- a role as three numbers: its form, and what tells the roles of a form apart
+abbrev pub typeNumbers : Role → ℕ × ℕ × ℕ
 typeNumbers (Data (Text pad)) = (0, pad, 0)  -- a A
 typeNumbers (Data (Digits hex high)) = (1, toNat hex, toNat high)  -- b B h H
 typeNumbers (Data (Integers w big)) = (2, w, toNat big)  -- c s S i I w W
@@ -106,17 +105,19 @@ countNumber Absent = 0
 countNumber Star = 1
 countNumber (Times n) = suc (suc n)
 
-abbrev pub sameType : Code → Code → Bool
+abbrev pub sameType : Role → Role → Bool
 sameType j k =
-    eqb (typeNumbers j .0) (typeNumbers k .0) && eqb (typeNumbers j .1) (typeNumbers k .1) && eqb (typeNumbers j .2) (typeNumbers k .2)
+    eqb (typeNumbers j .0) (typeNumbers k .0) && eqb (typeNumbers j .1) (typeNumbers k .1)
+    && eqb (typeNumbers j .2) (typeNumbers k .2)
 
--- that this is so just where the two are equal is proved (proofs/Same.antt)
+-- two fields agree in all three; that they do just where they are equal is proved (proofs/Same.antt)
 unfoldable pub sameField : Field → Field → Bool
 sameField f g =
-    sameType (f .code) (g .code) && eqb (toNat (f .unsigned)) (toNat (g .unsigned)) && eqb (countNumber (f .count)) (countNumber (g .count))
+    sameType (f .role) (g .role) && eqb (toNat (f .unsigned)) (toNat (g .unsigned))
+    && eqb (countNumber (f .count)) (countNumber (g .count))
 
--- The place of the first field of the new layout that is not the old one's, or the end of its text where that has fewer fields. What follows the old
--- layout's fields is added.
+-- The place of the first field of the new layout that is not the old one's, or the end of its text where that has fewer
+-- fields. What follows the old layout's fields is added.
 unfoldable pub firstDifference : ℕ → List Field → List Placed → ℕ
 unfolding sameField
 firstDifference end [] ps = nowhere
@@ -142,10 +143,12 @@ inLayout which (refused why place) next = record { answer = refusal why place; f
 
 -- ---- the calls
 
--- 0 and three places: where the layout breaks the promise to grow, to keep everything, to be joined
+-- what is answered of a layout: 0 and three places, where it breaks the promise to grow, to keep everything, to be
+-- joined
 unfoldable pub promised : List ℕ → Told
 unfolding layoutFields firstBreak
-promised layout = inLayout 0 (layoutFields layout) (λ ps. told (firstBreak Grows ps) (firstBreak Keeps ps) (firstBreak Joins ps))
+promised layout =
+    inLayout 0 (layoutFields layout) (λ ps. told (firstBreak Grows ps) (firstBreak Keeps ps) (firstBreak Joins ps))
 
 -- the two refusals of `extends` that no other call has; their numbers follow those of crates/layout/specs/Refusals.antt
 abbrev pub fieldsDiffer : ℕ
@@ -154,7 +157,7 @@ fieldsDiffer = 17
 abbrev pub notPlain : ℕ
 notPlain = 18
 
--- the old layout is number 0 and the new one number 1
+-- a refusal of the new layout, which is number 1 (the old one is number 0)
 abbrev pub refusedNew : ℕ → ℕ → Told
 refusedNew number place = record { answer = record { number = number; first = place; second = 0 }; fourth = 1 }
 
@@ -162,18 +165,18 @@ refusedNew number place = record { answer = record { number = number; first = pl
 abbrev pub refusedAt : ℕ → ℕ → Told → Told
 refusedAt number place next = if eqb place nowhere then next else refusedNew number place
 
--- What is answered of the old layout's fields and the new one's, whose text has so many bytes: 17, 18, 5 and 11 in this
+-- What is answered of the old layout's fields and the new one's, whose text has `end` bytes: 17, 18, 5 and 11 in this
 -- order; or 0, the old fields, the fields added, 0.
 unfoldable pub grown : ℕ → List Field → List Placed → Told
 unfolding firstDifference firstBreak
 grown end fs ps =
     refusedAt fieldsDiffer (firstDifference end fs ps)
     (refusedAt notPlain (firstBreak Plain ps)
-    (refusedAt (numberOf WrongSlots) (firstBreak Slots ps)
+    (refusedAt (numberOf BadSlots) (firstBreak Slots ps)
     (refusedAt (numberOf NoRoom) (firstBreak Room ps)
     (told (length fs) (length ps - length fs) 0))))
 
--- the new text read, beside the old layout's fields
+-- what is answered of the old layout's fields and the new text, once that is read
 unfoldable pub extendedBy : List Field → List ℕ → Told
 unfolding layoutFields grown
 extendedBy fs new = inLayout 1 (layoutFields new) (λ ps. grown (length new) fs ps)

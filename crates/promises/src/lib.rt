@@ -1,25 +1,27 @@
-// What a layout promises, asked before it is used: whether it may grow at its end (demand 3), whether reading by it loses nothing (M-107), whether it may
-// be joined with others (M-113); and whether a layout is another one with fields added at its end.
-// The definitions are in specs/Promises.antt; what they have to do with the three theorems is claimed and proved in the crate `promises_claims`.
+// What a layout promises, asked before it is used: whether it may grow at its end (demand 3), whether reading by it
+// loses nothing (M-107), whether it may be joined with others (M-113); and whether a layout is another one with fields
+// added at its end. The definitions are in specs/Promises.antt; what they have to do with the three theorems is claimed
+// and proved in the crate `promises_claims`.
 ghost use mathlib.Core.Path.{_≡_};
 ghost use mathlib.Core.Bool.{_&&_};
 ghost use Prim.Native.Nat.{_≤_, _<_};
 ghost use lib.ListN.{length};
-ghost use Rattle.layout.specs.declared.Code.the-variants.{Move};
+ghost use Rattle.layout.specs.declared.Role.the-variants.{Move};
 ghost use Rattle.layout.specs.Lent.{before, after};
 ghost use Rattle.layout.specs.Layout.{maxLayout, takesSlot, toNat};
-ghost use Rattle.layout.specs.Words.{FitCode, FitCount, fieldOf, decoded};
+ghost use Rattle.layout.specs.Codes.{fieldOf};
+ghost use Rattle.layout.specs.inside.Parsing.{FitRole, FitCount, decoded};
 ghost use Rattle.record.specs.Packing.{refusal};
-ghost use Rattle.runs.specs.Ends.{plainCode, plainCount, fills};
-ghost use Rattle.lossless.specs.Claim.{showsAll, losslessCode};
-ghost use Rattle.promises.specs.Promises.{nothing, with, plainField, losslessField, slotsFit, endFits, fits, keptBy, sameField, told, refusedNew, promised, extendedBy, extended};
-ghost use Rattle.promises.specs.Walk.{keptFront, fieldReach, layoutReach, sameFront, typeIn, PlaceOf, Holds, ReadAs, BreaksAt, GrownAs};
-use layout::Code;
+ghost use Rattle.runs.specs.Ends.{plainRole, plainCount, fills};
+ghost use Rattle.lossless.specs.Claim.{showsAll, losslessRole};
+ghost use Rattle.promises.specs.Promises.{reachStart, reachWith, plainField, losslessField, slotsInTable, endInRecord, inLimits, keptBy, sameField, told, refusedNew, promised, extendedBy, extended};
+ghost use Rattle.promises.specs.inside.Walk.{keptFront, codeReach, codesReach, sameFront, typeIn, PlaceOf, Holds, ReadAs, BreaksAt, GrownAs};
 use layout::Count;
 use layout::Field;
 use layout::Motion;
 use layout::Parsed;
 use layout::Refusal;
+use layout::Role;
 use layout::Shape;
 use layout::parser;
 use layout::scanner;
@@ -60,12 +62,12 @@ const NOT_PLAIN: u32 = 18;
 // ---- how far a layout has come
 
 // The slots that a field takes.
-fn slots_taken(k: Code) -> usize
+fn slots_taken(k: Role) -> usize
     ensures { λ r. ⌜ r ≡ toNat (takesSlot k) ⌝ }
 {
     match k {
-        Code::Data(_s) => 1,
-        Code::Move(_m) => 0,
+        Role::Data(_s) => 1,
+        Role::Move(_m) => 0,
     }
 }
 
@@ -80,30 +82,30 @@ fn fills_motion(m: Motion, n: Count) -> usize
 }
 
 // The bytes that a field fills in packing.
-fn fills(k: Code, n: Count) -> usize
-    requires { ⌜ FitCode k × FitCount n ⌝ }
-    ensures { λ r. ⌜ (r ≡ fills k n) × (r ≤ fieldReach) ⌝ }
+fn fills(k: Role, n: Count) -> usize
+    requires { ⌜ FitRole k × FitCount n ⌝ }
+    ensures { λ r. ⌜ (r ≡ fills k n) × (r ≤ codeReach) ⌝ }
 {
     match k {
-        Code::Data(s) => sizes::bytes_for(s, record::amount(n, 0)),
-        Code::Move(m) => fills_motion(m, n),
+        Role::Data(s) => sizes::bytes_for(s, record::amount(n, 0)),
+        Role::Move(m) => fills_motion(m, n),
     }
 }
 
 impl Reach {
-    // In front of the first field.
+    // How far a layout has come in front of its first field.
     fn nothing() -> Reach
-        ensures { λ r. ⌜ r ≡ nothing ⌝ }
+        ensures { λ r. ⌜ r ≡ reachStart ⌝ }
     {
         Reach { slots: 0, end: 0 }
     }
 
-    // With one field more.
+    // How far a layout has come with one field more.
     fn with(self, f: Field) -> Reach
-        requires { ⌜ FitCode (f .code) × FitCount (f .count) × (self .slots ≤ maxLayout) × (self .end ≤ layoutReach) ⌝ }
-        ensures { λ r. ⌜ r ≡ with self f ⌝ }
+        requires { ⌜ FitRole (f .role) × FitCount (f .count) × (self .slots ≤ maxLayout) × (self .end ≤ codesReach) ⌝ }
+        ensures { λ r. ⌜ r ≡ reachWith self f ⌝ }
     {
-        let k = f.code;
+        let k = f.role;
         let n = f.count;
         Reach {
             slots: self.slots + slots_taken(k),
@@ -131,7 +133,7 @@ fn plain_count(n: Count) -> bool
 }
 
 fn plain_motion(m: Motion) -> bool
-    ensures { λ r. ⌜ r ≡ plainCode (Move m) ⌝ }
+    ensures { λ r. ⌜ r ≡ plainRole (Move m) ⌝ }
 {
     match m {
         Motion::Skip => true,
@@ -140,12 +142,12 @@ fn plain_motion(m: Motion) -> bool
     }
 }
 
-fn plain_code(k: Code) -> bool
-    ensures { λ r. ⌜ r ≡ plainCode k ⌝ }
+fn plain_role(k: Role) -> bool
+    ensures { λ r. ⌜ r ≡ plainRole k ⌝ }
 {
     match k {
-        Code::Data(_s) => true,
-        Code::Move(m) => plain_motion(m),
+        Role::Data(_s) => true,
+        Role::Move(m) => plain_motion(m),
     }
 }
 
@@ -161,52 +163,52 @@ fn shows_all(s: Shape, n: usize) -> bool
     }
 }
 
-fn lossless_code(k: Code, n: Count) -> bool
-    ensures { λ r. ⌜ r ≡ losslessCode k n ⌝ }
+fn lossless_role(k: Role, n: Count) -> bool
+    ensures { λ r. ⌜ r ≡ losslessRole k n ⌝ }
 {
     match k {
-        Code::Data(s) => shows_all(s, record::amount(n, 0)),
-        Code::Move(_m) => false,
+        Role::Data(s) => shows_all(s, record::amount(n, 0)),
+        Role::Move(_m) => false,
     }
 }
 
 fn plain_field(f: Field) -> bool
     ensures { λ r. ⌜ r ≡ plainField f ⌝ }
 {
-    let k = f.code;
+    let k = f.role;
     let n = f.count;
-    both(plain_code(k), plain_count(n))
+    both(plain_role(k), plain_count(n))
 }
 
 fn lossless_field(f: Field) -> bool
     ensures { λ r. ⌜ r ≡ losslessField f ⌝ }
 {
-    let k = f.code;
+    let k = f.role;
     let n = f.count;
-    both(lossless_code(k, n), plain_count(n))
+    both(lossless_role(k, n), plain_count(n))
 }
 
-// No more slots than a table may have.
+// Whether the fields take no more slots than a table may have.
 fn slots_fit(r: Reach) -> bool
-    ensures { λ b. ⌜ b ≡ slotsFit r ⌝ }
+    ensures { λ b. ⌜ b ≡ slotsInTable r ⌝ }
 {
     r.slots <= record::MAX_SLOTS
 }
 
-// An end within the longest record.
+// Whether the last field ends within the longest record.
 fn end_fits(r: Reach) -> bool
-    ensures { λ b. ⌜ b ≡ endFits r ⌝ }
+    ensures { λ b. ⌜ b ≡ endInRecord r ⌝ }
 {
     r.end <= record::MAX_RECORD
 }
 
 fn fits(r: Reach) -> bool
-    ensures { λ b. ⌜ b ≡ fits r ⌝ }
+    ensures { λ b. ⌜ b ≡ inLimits r ⌝ }
 {
     both(slots_fit(r), end_fits(r))
 }
 
-// Whether a field keeps a promise, where the layout has come so far with it.
+// Whether the field f keeps a promise, where the layout has come as far as r with it.
 fn kept_by(q: Promise, r: Reach, f: Field) -> bool
     ensures { λ b. ⌜ b ≡ keptBy q r f ⌝ }
 {
@@ -214,8 +216,8 @@ fn kept_by(q: Promise, r: Reach, f: Field) -> bool
         Promise::Grows => both(plain_field(f), fits(r)),
         Promise::Keeps => both(lossless_field(f), fits(r)),
         Promise::Joins => {
-            let k = f.code;
-            plain_code(k)
+            let k = f.role;
+            plain_role(k)
         }
         Promise::Plain => plain_field(f),
         Promise::Slots => slots_fit(r),
@@ -223,15 +225,15 @@ fn kept_by(q: Promise, r: Reach, f: Field) -> bool
     }
 }
 
-// How many fields at the front of the n words keep a promise.
-fn kept_front(words: &[u32], n: usize, q: Promise) -> usize
-    requires { ⌜ (n ≤ length (now words)) × (n ≤ maxLayout) ⌝ }
-    ensures { λ r. ⌜ r ≡ keptFront q nothing (decoded n (before words)) ⌝ }
+// How many fields at the front of the n codes keep a promise.
+fn kept_front(codes: &[u32], n: usize, q: Promise) -> usize
+    requires { ⌜ (n ≤ length (now codes)) × (n ≤ maxLayout) ⌝ }
+    ensures { λ r. ⌜ r ≡ keptFront q reachStart (decoded n (before codes)) ⌝ }
 {
     let mut r = Reach::nothing();
     let mut i: usize = 0;
     while i < n {
-        let f = layout::field_of(words[i]);
+        let f = layout::field_of(codes[i]);
         r = r.with(f);
         if !kept_by(q, r, f) {
             return i;
@@ -243,13 +245,13 @@ fn kept_front(words: &[u32], n: usize, q: Promise) -> usize
 
 // ---- fields that are the same
 
-// The type in a word: its number, and one number for all words whose type stands for `X`.
+// The type in a code: its number, and one number for all codes whose type stands for `X`.
 const BACK: u32 = 25;
 
-fn type_in(word: u32) -> u32
-    ensures { λ r. ⌜ r ≡ typeIn (fieldOf word .code) ⌝ }
+fn type_in(code: u32) -> u32
+    ensures { λ r. ⌜ r ≡ typeIn (fieldOf code .role) ⌝ }
 {
-    let d = word % layout::FLAG_UNIT;
+    let d = code % layout::FLAG_UNIT;
     if d <= layout::LAST_DATA {
         return d;
     }
@@ -262,7 +264,7 @@ fn type_in(word: u32) -> u32
     BACK
 }
 
-// Whether two words stand for the same field.
+// Whether two codes stand for the same field.
 fn same_field(v: u32, w: u32) -> bool
     ensures { λ r. ⌜ r ≡ sameField (fieldOf v) (fieldOf w) ⌝ }
 {
@@ -272,7 +274,7 @@ fn same_field(v: u32, w: u32) -> bool
     v / layout::FLAG_UNIT == w / layout::FLAG_UNIT
 }
 
-// How many fields at the front of the m old and the n new words are the same.
+// How many fields at the front of the m old and the n new codes are the same.
 fn same_front(old: &[u32], m: usize, new: &[u32], n: usize) -> usize
     requires { ⌜ (m ≤ length (now old)) × (n ≤ length (now new)) ⌝ }
     ensures { λ r. ⌜ r ≡ sameFront (decoded m (before old)) (decoded n (before new)) ⌝ }
@@ -312,12 +314,12 @@ fn place_of(text: &[u8], k: usize) -> usize
     at
 }
 
-// The place of the first field of a text that breaks a promise; the words are its fields.
-fn first_break(text: &[u8], words: &[u32], n: usize, q: Promise) -> u32
-    requires { ⌜ Holds (now text) n (now words) ⌝ }
+// The place of the first field of a text that breaks a promise; the codes are its fields.
+fn first_break(text: &[u8], codes: &[u32], n: usize, q: Promise) -> u32
+    requires { ⌜ Holds (now text) n (now codes) ⌝ }
     ensures { λ r. ⌜ BreaksAt (before text) q r ⌝ }
 {
-    let k = kept_front(words, n, q);
+    let k = kept_front(codes, n, q);
     if n <= k {
         return NOWHERE;
     }
@@ -361,15 +363,15 @@ impl Told {
     }
 }
 
-// Reads a layout into words: its fields, or the refusal that packing by it would give.
-fn read_layout(text: &[u8], words: &mut [u32]) -> Parsed
-    requires { ⌜ length (now words) ≡ maxLayout ⌝ }
-    ensures { λ r. ⌜ ReadAs (before text) r (after words) ⌝ }
+// Reads a layout into codes: its fields, or the refusal that packing by it would give.
+fn read_layout(text: &[u8], codes: &mut [u32]) -> Parsed
+    requires { ⌜ length (now codes) ≡ maxLayout ⌝ }
+    ensures { λ r. ⌜ ReadAs (before text) r (after codes) ⌝ }
 {
     if layout::MAX_LAYOUT < text.len() {
         return Parsed::Refused(Refusal::BadSize, 0);
     }
-    parser::parse(text, true, words)
+    parser::parse(text, true, codes)
 }
 
 // Says where a layout breaks each promise: 0 and three places, for growing at its end, for losing nothing when it is
@@ -379,14 +381,14 @@ fn read_layout(text: &[u8], words: &mut [u32]) -> Parsed
 pub fn promises(layout: &[u8]) -> Told
     ensures { λ r. ⌜ r ≡ promised (before layout) ⌝ }
 {
-    let mut words: [u32; layout::MAX_LAYOUT] = [0; layout::MAX_LAYOUT];
-    let p = read_layout(layout, &mut words);
+    let mut codes: [u32; layout::MAX_LAYOUT] = [0; layout::MAX_LAYOUT];
+    let p = read_layout(layout, &mut codes);
     match p {
         Parsed::Refused(why, place) => Told::refused(why, place as u32, 0),
         Parsed::Fields(n, _slots) => {
-            let grows = first_break(layout, &words, n, Promise::Grows);
-            let keeps = first_break(layout, &words, n, Promise::Keeps);
-            let joins = first_break(layout, &words, n, Promise::Joins);
+            let grows = first_break(layout, &codes, n, Promise::Grows);
+            let keeps = first_break(layout, &codes, n, Promise::Keeps);
+            let joins = first_break(layout, &codes, n, Promise::Joins);
             Told::accepted(grows, keeps, joins)
         }
     }
@@ -407,7 +409,7 @@ fn grown(old: &[u32], m: usize, text: &[u8], new: &[u32], n: usize) -> Told
     }
     let slots = first_break(text, new, n, Promise::Slots);
     if slots != NOWHERE {
-        return Told::refused(Refusal::WrongSlots, slots, 1);
+        return Told::refused(Refusal::BadSlots, slots, 1);
     }
     let room = first_break(text, new, n, Promise::Room);
     if room != NOWHERE {
@@ -416,16 +418,16 @@ fn grown(old: &[u32], m: usize, text: &[u8], new: &[u32], n: usize) -> Told
     Told::accepted(m as u32, (n - m) as u32, 0)
 }
 
-// The same, with the new text still to be read.
-fn extends_words(old: &[u32], m: usize, new: &[u8]) -> Told
+// What is answered of the old layout's fields and of the new text, which is still to be read.
+fn extends_codes(old: &[u32], m: usize, new: &[u8]) -> Told
     requires { ⌜ (m ≤ length (now old)) × (length (now old) ≤ maxLayout) ⌝ }
     ensures { λ r. ⌜ r ≡ extendedBy (decoded m (before old)) (before new) ⌝ }
 {
-    let mut words: [u32; layout::MAX_LAYOUT] = [0; layout::MAX_LAYOUT];
-    let p = read_layout(new, &mut words);
+    let mut codes: [u32; layout::MAX_LAYOUT] = [0; layout::MAX_LAYOUT];
+    let p = read_layout(new, &mut codes);
     match p {
         Parsed::Refused(why, place) => Told::refused(why, place as u32, 1),
-        Parsed::Fields(n, _slots) => grown(old, m, new, &words, n),
+        Parsed::Fields(n, _slots) => grown(old, m, new, &codes, n),
     }
 }
 
@@ -437,10 +439,10 @@ fn extends_words(old: &[u32], m: usize, new: &[u8]) -> Told
 pub fn extends(old: &[u8], new: &[u8]) -> Told
     ensures { λ r. ⌜ r ≡ extended (before old) (before new) ⌝ }
 {
-    let mut words: [u32; layout::MAX_LAYOUT] = [0; layout::MAX_LAYOUT];
-    let p = read_layout(old, &mut words);
+    let mut codes: [u32; layout::MAX_LAYOUT] = [0; layout::MAX_LAYOUT];
+    let p = read_layout(old, &mut codes);
     match p {
         Parsed::Refused(why, place) => Told::refused(why, place as u32, 0),
-        Parsed::Fields(m, _slots) => extends_words(&words, m, new),
+        Parsed::Fields(m, _slots) => extends_codes(&codes, m, new),
     }
 }

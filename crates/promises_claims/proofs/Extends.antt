@@ -1,5 +1,6 @@
--- No field differs just where the new fields are the old ones with others behind them, because the test of two fields holds just where they are equal and
--- every place lies in the text. With that `extends` asks what demand 3 asks of the layouts, and demand 3 is proved.
+-- No field differs just where the new fields are the old ones with others after them, because the test of two fields
+-- holds just where they are equal and every place lies in the text. With that `extends` asks what demand 3 asks of the
+-- layouts, and demand 3 is proved.
 use Prim.Native.Nat.{ℕ, _+_, _-_, _≤_}
 use native.Mathlib.Omega.{arith}
 use mathlib.Core.Path.{_≡_, refl, sym, ap, _∙_, subst}
@@ -9,7 +10,7 @@ use lib.ListN.{length, length-append, length-map}
 use lib.Dec.{T, eqb}
 use borrow.Author.Tests.{eqb-true}
 use Rattle.layout.specs.declared.Field.{Field}
-use Rattle.layout.specs.declared.Refusal.the-variants.{WrongSlots, NoRoom}
+use Rattle.layout.specs.declared.Refusal.the-variants.{BadSlots, NoRoom}
 use Rattle.layout.specs.Refusals.{if_then_else_, numberOf, Result, ok, refused}
 use Rattle.layout.specs.Layout.{maxLayout}
 use Rattle.layout.proofs.Laws.{ok-inj, no-number-zero}
@@ -22,14 +23,14 @@ use Rattle.promises.specs.declared.Promise.{Promise}
 use Rattle.promises.specs.declared.Promise.the-variants.{Plain, Slots, Room}
 use Rattle.promises.specs.declared.Told.{Told}
 use Rattle.promises.specs.Placed.{Placed, fieldsIn}
-use Rattle.promises.specs.Promises.{nothing, plainField, nowhere, firstBreak, sameField, firstDifference, told, layoutFields, inLayout, refusedNew, refusedAt, fieldsDiffer, notPlain, grown, extendedBy, extended}
+use Rattle.promises.specs.Promises.{reachStart, plainField, nowhere, firstBreak, sameField, firstDifference, told, layoutFields, inLayout, refusedNew, refusedAt, fieldsDiffer, notPlain, grown, extendedBy, extended}
 use Rattle.promises.proofs.Same.{same-equal, same-itself}
 use Rattle.promises_claims.specs.Claim.{Stand, SameFields, Accepted, Limited, Extension, layoutsOf, Extends, GrowsItself, GrowsBy}
 use Rattle.promises_claims.proofs.Kept.{true→T, allKeep, unbroken, slots-kept, room-kept, plain-kept}
 use Rattle.promises_claims.proofs.NotEmpty.{end-append, not-empty, spoken, speaks}
 use Rattle.promises_claims.proofs.Promises.{Found, found, Opened, opened, promises-hold}
 
--- ---- the old fields and others behind them
+-- ---- the old fields and others after them
 
 pub record Behind (fs gs : List Field) : Type 0 where
   pub others : List Field
@@ -88,7 +89,7 @@ passed fs new ps e z =
     let (alike, z₁) =
     no-place fieldsDiffer (firstDifference (length new) fs ps) _ (λ (k : fieldsDiffer ≡ 0). omega arith) z in
     let (plain, z₂) = no-place notPlain (firstBreak Plain ps) _ (λ (k : notPlain ≡ 0). omega arith) z₁ in
-    let (slots, z₃) = no-place (numberOf WrongSlots) (firstBreak Slots ps) _ (no-number-zero WrongSlots) z₂ in
+    let (slots, z₃) = no-place (numberOf BadSlots) (firstBreak Slots ps) _ (no-number-zero BadSlots) z₂ in
     let (room, z₄) = no-place (numberOf NoRoom) (firstBreak Room ps) _ (no-number-zero NoRoom) z₃ in
     record { placed = ps; whole = e; alike = alike; plain = plain; slots = slots; room = room }
 
@@ -110,7 +111,7 @@ module _ (old new : List ℕ) where
       let gs : List Field = fieldsIn (p .placed) in
       let w : Behind (fieldsIn os) gs =
       differ-behind new 0 (fieldsIn os) (p .placed) (b .short) (b .stand) (p .alike) in
-      let kept : (q : Promise) → firstBreak q (p .placed) ≡ nowhere → allKeep q nothing gs ≡ true =
+      let kept : (q : Promise) → firstBreak q (p .placed) ≡ nowhere → allKeep q reachStart gs ≡ true =
       λ q k. unbroken q new (p .placed) gs (b .short) (b .stand) refl .0 k in
       let plainly : T (plain gs) = true→T (plain gs) (plain-kept gs ∙ kept Plain (p .plain)) in
       let limits : Limited gs =
@@ -143,7 +144,7 @@ module _ (old new : List ℕ) where
       let g : Found new (e .fields ++ e .added) = found new (e .fields ++ e .added) (e .new-short) (e .new-fields) in
       let alike : firstDifference (length new) (e .fields) (g .placed) ≡ nowhere = behind-differ (length new) (e .fields) (e .added) (g .placed) (g .same) in
       let all : List Field = e .fields ++ e .added in
-      let none : (q : Promise) → allKeep q nothing all ≡ true → firstBreak q (g .placed) ≡ nowhere =
+      let none : (q : Promise) → allKeep q reachStart all ≡ true → firstBreak q (g .placed) ≡ nowhere =
       λ q k. unbroken q new (g .placed) all (e .new-short) (g .stand) (g .same) .1 k in
       let plainly : firstBreak Plain (g .placed) ≡ nowhere =
       none Plain (sym (plain-kept all) ∙ T→true (plain all) (e .is-plain)) in
@@ -192,7 +193,7 @@ extends-holds old new = record {
 pub same-fields : SameFields
 same-fields f g = (same-equal f g, λ e. rw e (same-itself g))
 
--- ---- a layout put behind another
+-- ---- a layout put after another
 
 all-append : (fs gs : List Field) → T (plain fs) → T (plain gs) → T (plain (fs ++ gs))
 unfolding plain

@@ -11,11 +11,10 @@ use lib.Dec.{T, leb}
 use borrow.Author.Tests.{le-leb, leb-true}
 use Rattle.layout.specs.declared.Field.{Field}
 use Rattle.layout.specs.Refusals.{if_then_else_}
-use Rattle.layout.specs.Layout.{maxLayout, takesSlot, toNat, slotCount}
-use Rattle.layout.specs.Words.{slotsTaken}
+use Rattle.layout.specs.Layout.{maxLayout, takesSlot, toNat, slotCount, slotsTaken}
 use Rattle.record.specs.Table.{maxSlots, maxRecord}
 use Rattle.record.proofs.Bytes.{and-true}
-use Rattle.runs.specs.Ends.{plainCode, fills, endOf}
+use Rattle.runs.specs.Ends.{plainRole, fills, endOf}
 use Rattle.runs.proofs.Calls.{T→true}
 use Rattle.evolution.specs.Claim.{plain}
 use Rattle.lossless.specs.Claim.{lossless}
@@ -24,7 +23,7 @@ use Rattle.promises.specs.declared.Promise.{Promise}
 use Rattle.promises.specs.declared.Promise.the-variants.{Grows, Keeps, Joins, Plain, Slots, Room}
 use Rattle.promises.specs.declared.Reach.{Reach}
 use Rattle.promises.specs.Placed.{Placed, fieldsIn}
-use Rattle.promises.specs.Promises.{nothing, with, plainField, losslessField, slotsFit, endFits, keptBy, nowhere, breakFrom, firstBreak}
+use Rattle.promises.specs.Promises.{reachStart, reachWith, plainField, losslessField, slotsInTable, endInRecord, keptBy, nowhere, breakFrom, firstBreak}
 use Rattle.promises_claims.specs.Claim.{_⇔_, Stand, Limited}
 
 pub true→T : (b : Bool) → b ≡ true → T b
@@ -37,7 +36,7 @@ and-both a b p q = rw (p, q)
 
 abbrev pub allKeep : Promise → Reach → List Field → Bool
 allKeep q r [] = true
-allKeep q r (f ∷ fs) = keptBy q (with r f) f && allKeep q (with r f) fs
+allKeep q r (f ∷ fs) = keptBy q (reachWith r f) f && allKeep q (reachWith r f) fs
 
 module _ (q : Promise) where
   break-kept : (text : List ℕ) (from : ℕ) (r : Reach) (ps : List Placed) → length text ≤ maxLayout → Stand text from ps
@@ -45,8 +44,8 @@ module _ (q : Promise) where
   unfolding breakFrom
   break-kept text from r [] h s e = refl
   break-kept text from r (p ∷ ps) h (n, here, later) e =
-      step (with r (p .what)) (keptBy q (with r (p .what)) (p .what)) e
-      (λ k. break-kept text _ (with r (p .what)) ps h later k)
+      step (reachWith r (p .what)) (keptBy q (reachWith r (p .what)) (p .what)) e
+      (λ k. break-kept text _ (reachWith r (p .what)) ps h later k)
     where
       step : (s : Reach) (t : Bool) → (if t then breakFrom q s ps else p .place) ≡ nowhere
           → (breakFrom q s ps ≡ nowhere → allKeep q s (fieldsIn ps) ≡ true) → (t && allKeep q s (fieldsIn ps)) ≡ true
@@ -57,7 +56,7 @@ module _ (q : Promise) where
   unfolding breakFrom
   kept-break r [] e = refl
   kept-break r (p ∷ ps) e =
-      step (with r (p .what)) (keptBy q (with r (p .what)) (p .what)) e (λ k. kept-break (with r (p .what)) ps k)
+      step (reachWith r (p .what)) (keptBy q (reachWith r (p .what)) (p .what)) e (λ k. kept-break (reachWith r (p .what)) ps k)
     where
       step : (s : Reach) (t : Bool) → (t && allKeep q s (fieldsIn ps)) ≡ true
           → (allKeep q s (fieldsIn ps) ≡ true → breakFrom q s ps ≡ nowhere)
@@ -66,9 +65,9 @@ module _ (q : Promise) where
       step s false k ih = absurd (true≢false (sym k))
 
   pub unbroken : (text : List ℕ) (ps : List Placed) (fs : List Field) → length text ≤ maxLayout → Stand text 0 ps
-      → fieldsIn ps ≡ fs → (firstBreak q ps ≡ nowhere) ⇔ (allKeep q nothing fs ≡ true)
+      → fieldsIn ps ≡ fs → (firstBreak q ps ≡ nowhere) ⇔ (allKeep q reachStart fs ≡ true)
   unfolding firstBreak
-  unbroken text ps fs h s e = (λ k. rw (← e) (break-kept text 0 nothing ps h s k), λ k. kept-break nothing ps (rw e k))
+  unbroken text ps fs h s e = (λ k. rw (← e) (break-kept text 0 reachStart ps h s k), λ k. kept-break reachStart ps (rw e k))
 
 -- ---- sums that stay within a limit
 
@@ -99,12 +98,12 @@ module _ (add : Field → ℕ) where
 -- the slots and the end of a layout are such sums
 
 abbrev fillsOf : Field → ℕ
-fillsOf f = fills (f .code) (f .count)
+fillsOf f = fills (f .role) (f .count)
 
 slots-sum : (fs : List Field) → slotCount fs ≡ sum slotsTaken fs
 unfolding slotCount
 slots-sum [] = refl
-slots-sum (f ∷ fs) = step (takesSlot (f .code)) (slots-sum fs)
+slots-sum (f ∷ fs) = step (takesSlot (f .role)) (slots-sum fs)
   where
     step : (t : Bool) → slotCount fs ≡ sum slotsTaken fs
         → (if t then suc (slotCount fs) else slotCount fs) ≡ toNat t + sum slotsTaken fs
@@ -118,24 +117,24 @@ end-sum (f ∷ fs) = rw (end-sum fs)
 
 all-slots : (r : Reach) (fs : List Field) → allKeep Slots r fs ≡ allWithin slotsTaken maxSlots (r .slots) fs
 all-slots r [] = refl
-all-slots r (f ∷ fs) = rw (all-slots (with r f) fs)
+all-slots r (f ∷ fs) = rw (all-slots (reachWith r f) fs)
 
 all-room : (r : Reach) (fs : List Field) → allKeep Room r fs ≡ allWithin fillsOf maxRecord (r .end) fs
 all-room r [] = refl
-all-room r (f ∷ fs) = rw (all-room (with r f) fs)
+all-room r (f ∷ fs) = rw (all-room (reachWith r f) fs)
 
-pub slots-kept : (fs : List Field) → (allKeep Slots nothing fs ≡ true) ⇔ (slotCount fs ≤ maxSlots)
+pub slots-kept : (fs : List Field) → (allKeep Slots reachStart fs ≡ true) ⇔ (slotCount fs ≤ maxSlots)
 slots-kept fs =
     let (there, back) = within-sum slotsTaken maxSlots 0 fs (omega arith) in (
-      λ k. omega (arith, slots-sum fs, there (sym (all-slots nothing fs) ∙ k)),
-      λ k. all-slots nothing fs ∙ back (omega (arith, slots-sum fs)),
+      λ k. omega (arith, slots-sum fs, there (sym (all-slots reachStart fs) ∙ k)),
+      λ k. all-slots reachStart fs ∙ back (omega (arith, slots-sum fs)),
     )
 
-pub room-kept : (fs : List Field) → (allKeep Room nothing fs ≡ true) ⇔ (endOf fs ≤ maxRecord)
+pub room-kept : (fs : List Field) → (allKeep Room reachStart fs ≡ true) ⇔ (endOf fs ≤ maxRecord)
 room-kept fs =
     let (there, back) = within-sum fillsOf maxRecord 0 fs (omega arith) in (
-      λ k. omega (arith, end-sum fs, there (sym (all-room nothing fs) ∙ k)),
-      λ k. all-room nothing fs ∙ back (omega (arith, end-sum fs)),
+      λ k. omega (arith, end-sum fs, there (sym (all-room reachStart fs) ∙ k)),
+      λ k. all-room reachStart fs ∙ back (omega (arith, end-sum fs)),
     )
 
 -- ---- what is asked of each field by itself
@@ -148,7 +147,7 @@ module _ (q : Promise) (own : Field → Bool) where
   own-kept : ((r : Reach) (f : Field) → keptBy q r f ≡ own f) → (r : Reach) (fs : List Field)
       → allKeep q r fs ≡ allOwn own fs
   own-kept e r [] = refl
-  own-kept e r (f ∷ fs) = rw (e (with r f) f, own-kept e (with r f) fs)
+  own-kept e r (f ∷ fs) = rw (e (reachWith r f) f, own-kept e (reachWith r f) fs)
 
   -- beside the limits
   sorted : (a b c x y z : Bool) → ((a && (b && c)) && (x && (y && z))) ≡ ((a && x) && ((b && y) && (c && z)))
@@ -160,26 +159,26 @@ module _ (q : Promise) (own : Field → Bool) where
   sorted true false c false y z = refl
   sorted false b c x y z = refl
 
-  all-kept : ((r : Reach) (f : Field) → keptBy q r f ≡ (own f && (slotsFit r && endFits r)))
+  all-kept : ((r : Reach) (f : Field) → keptBy q r f ≡ (own f && (slotsInTable r && endInRecord r)))
       → (r : Reach) (fs : List Field)
       → allKeep q r fs ≡ (allOwn own fs && (allKeep Slots r fs && allKeep Room r fs))
   all-kept e r [] = refl
   all-kept e r (f ∷ fs) =
-      rw (e (with r f) f, all-kept e (with r f) fs) (sorted (own f) (slotsFit (with r f)) (endFits (with r f))
-      (allOwn own fs) (allKeep Slots (with r f) fs) (allKeep Room (with r f) fs))
+      rw (e (reachWith r f) f, all-kept e (reachWith r f) fs) (sorted (own f) (slotsInTable (reachWith r f)) (endInRecord (reachWith r f))
+      (allOwn own fs) (allKeep Slots (reachWith r f) fs) (allKeep Room (reachWith r f) fs))
 
-  pub limited-kept : ((r : Reach) (f : Field) → keptBy q r f ≡ (own f && (slotsFit r && endFits r)))
+  pub limited-kept : ((r : Reach) (f : Field) → keptBy q r f ≡ (own f && (slotsInTable r && endInRecord r)))
       → (all : List Field → Bool) → ((fs : List Field) → all fs ≡ allOwn own fs)
-      → (fs : List Field) → (allKeep q nothing fs ≡ true) ⇔ (T (all fs) × Limited fs)
+      → (fs : List Field) → (allKeep q reachStart fs ≡ true) ⇔ (T (all fs) × Limited fs)
   limited-kept e all same fs = (
     λ k.
-        let (x, y) = and-true (allOwn own fs) _ (sym (all-kept e nothing fs) ∙ k) in
-        let (s, t) = and-true (allKeep Slots nothing fs) (allKeep Room nothing fs) y in
+        let (x, y) = and-true (allOwn own fs) _ (sym (all-kept e reachStart fs) ∙ k) in
+        let (s, t) = and-true (allKeep Slots reachStart fs) (allKeep Room reachStart fs) y in
         (true→T (all fs) (same fs ∙ x), record { slots = slots-kept fs .0 s; end = room-kept fs .0 t }),
     λ (t, l).
-        all-kept e nothing fs
+        all-kept e reachStart fs
         ∙ and-both (allOwn own fs) _ (sym (same fs) ∙ T→true (all fs) t)
-        (and-both (allKeep Slots nothing fs) _ (slots-kept fs .1 (l .slots)) (room-kept fs .1 (l .end))),
+        (and-both (allKeep Slots reachStart fs) _ (slots-kept fs .1 (l .slots)) (room-kept fs .1 (l .end))),
   )
 
 -- ---- the layouts of the theorems
@@ -194,19 +193,19 @@ unfolding lossless
 lossless-own [] = refl
 lossless-own (f ∷ fs) = rw (lossless-own fs)
 
-forward-own : (fs : List Field) → forward fs ≡ allOwn (λ f. plainCode (f .code)) fs
+forward-own : (fs : List Field) → forward fs ≡ allOwn (λ f. plainRole (f .role)) fs
 unfolding forward
 forward-own [] = refl
 forward-own (f ∷ fs) = rw (forward-own fs)
 
-pub grows-kept : (fs : List Field) → (allKeep Grows nothing fs ≡ true) ⇔ (T (plain fs) × Limited fs)
+pub grows-kept : (fs : List Field) → (allKeep Grows reachStart fs ≡ true) ⇔ (T (plain fs) × Limited fs)
 grows-kept = limited-kept Grows plainField (λ r f. refl) plain plain-own
 
-pub keeps-kept : (fs : List Field) → (allKeep Keeps nothing fs ≡ true) ⇔ (T (lossless fs) × Limited fs)
+pub keeps-kept : (fs : List Field) → (allKeep Keeps reachStart fs ≡ true) ⇔ (T (lossless fs) × Limited fs)
 keeps-kept = limited-kept Keeps losslessField (λ r f. refl) lossless lossless-own
 
-pub plain-kept : (fs : List Field) → plain fs ≡ allKeep Plain nothing fs
-plain-kept fs = plain-own fs ∙ sym (own-kept Plain plainField (λ r f. refl) nothing fs)
+pub plain-kept : (fs : List Field) → plain fs ≡ allKeep Plain reachStart fs
+plain-kept fs = plain-own fs ∙ sym (own-kept Plain plainField (λ r f. refl) reachStart fs)
 
-pub forward-kept : (fs : List Field) → forward fs ≡ allKeep Joins nothing fs
-forward-kept fs = forward-own fs ∙ sym (own-kept Joins (λ f. plainCode (f .code)) (λ r f. refl) nothing fs)
+pub forward-kept : (fs : List Field) → forward fs ≡ allKeep Joins reachStart fs
+forward-kept fs = forward-own fs ∙ sym (own-kept Joins (λ f. plainRole (f .role)) (λ r f. refl) reachStart fs)

@@ -10,8 +10,8 @@ use lib.ListN.{length, take, drop, replicate, length-append, length-take, length
 use lib.Seq.{length-take-le}
 use lib.Dec.{T, eqb, leb}
 use borrow.Author.Tests.{le-leb, leb-true}
-use Rattle.layout.specs.declared.Code.{Code}
-use Rattle.layout.specs.declared.Code.the-variants.{Data, Move}
+use Rattle.layout.specs.declared.Role.{Role}
+use Rattle.layout.specs.declared.Role.the-variants.{Data, Move}
 use Rattle.layout.specs.declared.Motion.the-variants.{Skip, Back, Goto}
 use Rattle.layout.specs.declared.Shape.{Shape}
 use Rattle.layout.specs.declared.Shape.the-variants.{Text, Digits, Integers, Reals}
@@ -20,7 +20,7 @@ use Rattle.layout.specs.declared.Count.the-variants.{Absent, Star, Times}
 use Rattle.layout.specs.declared.Field.{Field}
 use Rattle.layout.specs.Refusals.{if_then_else_, ok}
 use Rattle.layout.specs.Layout.{maxLayout, slotCount}
-use Rattle.layout.specs.Words.{FitCode}
+use Rattle.layout.specs.inside.Parsing.{FitRole}
 use Rattle.layout.proofs.Laws.{AllSound, packed-reads}
 use Rattle.layout.proofs.Decoded.{count-append}
 use Rattle.record.specs.declared.slots.Slot.{Slot}
@@ -34,15 +34,15 @@ use Rattle.record.proofs.Bounds.{product-small}
 use Rattle.record.proofs.Bytes.{All, all-take, all-drop, all-replicate, all-ordered, both}
 use Rattle.record.proofs.Sizes.{Sized, sized, sized-fits}
 use Rattle.record.proofs.Tables.{length-slots}
-use Rattle.runs.specs.Ends.{plainCode, plainCount, fills, endOf}
+use Rattle.runs.specs.Ends.{plainRole, plainCount, fills, endOf}
 use Rattle.runs.proofs.Calls.{T→true}
 use Rattle.runs.proofs.Joined.{ForwardFields}
 use Rattle.reading.proofs.measure.Room.{value-room}
 use Rattle.evolution.specs.Claim.{plain, Layouts, textOf, fieldsBy, recordBy, cutRecord, due}
 use Rattle.evolution.proofs.ReadsBack.{reads-back, values}
-use Rattle.lossless.specs.Claim.{losslessCode, lossless, Layout, areBytes, Archived}
+use Rattle.lossless.specs.Claim.{losslessRole, lossless, Layout, areBytes, Archived}
 use Rattle.promises.specs.Promises.{plainField, losslessField}
-use Rattle.promises_claims.specs.Claim.{Limited, EachRecord, Extension, Lent, layoutsOf, SomeReading, NotEmpty, Spoken}
+use Rattle.promises_claims.specs.Claim.{Limited, EachRecord, Extension, LentToPack, layoutsOf, SomeReading, NotEmpty, Spoken}
 use Rattle.promises_claims.proofs.Kept.{true→T, and-both}
 
 -- ---- runs of zeros
@@ -86,8 +86,8 @@ no-nan (x ∷ xs) h = rw (h .0, no-nan xs (h .1))
 
 -- ---- arguments
 
-abbrev made : Code → Bool → Count → Field
-made k u n = record { code = k; unsigned = u; count = n }
+abbrev made : Role → Bool → Count → Field
+made k u n = record { role = k; unsigned = u; count = n }
 
 abbrev kindFor : Shape → ℕ
 kindFor (Text pad) = string
@@ -105,20 +105,20 @@ lengthFor (Reals single big) n = amount n 0
 unfoldable argumentsFor : List Field → List ℕ
 argumentsFor [] = []
 argumentsFor (f ∷ fs) =
-    elim (f .code) [ Data s ↦ kindFor s ∷ 0 ∷ lengthFor s (f .count) ∷ 0 ∷ argumentsFor fs | Move m ↦ argumentsFor fs ]
+    elim (f .role) [ Data s ↦ kindFor s ∷ 0 ∷ lengthFor s (f .count) ∷ 0 ∷ argumentsFor fs | Move m ↦ argumentsFor fs ]
 
 arguments-length : (fs : List Field) → length (argumentsFor fs) ≡ slotWidth * slotCount fs
 unfolding argumentsFor slotCount
 arguments-length [] = refl
-arguments-length (f ∷ fs) = step (f .code) (f .unsigned) (f .count) (arguments-length fs)
+arguments-length (f ∷ fs) = step (f .role) (f .unsigned) (f .count) (arguments-length fs)
   where
-    step : (k : Code) (u : Bool) (n : Count) → length (argumentsFor fs) ≡ slotWidth * slotCount fs
+    step : (k : Role) (u : Bool) (n : Count) → length (argumentsFor fs) ≡ slotWidth * slotCount fs
         → length (argumentsFor (made k u n ∷ fs)) ≡ slotWidth * slotCount (made k u n ∷ fs)
     step (Data s) u n h = omega arith
     step (Move m) u n h = h
 
 -- no argument has more items than its field fills bytes
-length-few : (s : Shape) (n : Count) → FitCode (Data s) → lengthFor s n ≤ fills (Data s) n
+length-few : (s : Shape) (n : Count) → FitRole (Data s) → lengthFor s n ≤ fills (Data s) n
 unfolding fills
 length-few (Text pad) n h = omega arith
 length-few (Digits hex high) n h = omega arith
@@ -181,9 +181,9 @@ module _ (area : List ℕ) (are-zero : All Zero area) where
   unfolding argumentsFit argumentsFor slotsOf endOf
   all-served i [] sound h = refl
   all-served i (f ∷ fs) sound h =
-      step i (f .code) (f .unsigned) (f .count) (sound .0) h (λ j k. all-served j fs (sound .1) k)
+      step i (f .role) (f .unsigned) (f .count) (sound .0) h (λ j k. all-served j fs (sound .1) k)
     where
-      step : (i : ℕ) (k : Code) (u : Bool) (n : Count) → FitCode k → 8 * (fills k n + endOf fs) ≤ length area
+      step : (i : ℕ) (k : Role) (u : Bool) (n : Count) → FitRole k → 8 * (fills k n + endOf fs) ≤ length area
           → ((j : ℕ) → 8 * endOf fs ≤ length area → argumentsFit area j (slotsOf (argumentsFor fs)) fs ≡ ok tt)
           → argumentsFit area i (slotsOf (argumentsFor (made k u n ∷ fs))) (made k u n ∷ fs) ≡ ok tt
       step i (Data s) u n fit h ih = rw (serves s n i (omega (arith, length-few s n fit))) (ih (suc i) (omega arith))
@@ -236,7 +236,7 @@ module _ (old new : List ℕ) (e : Extension old new) where
   old-slots =
       length-take-le old-count slots (omega (arith, arguments-length all, count-append (e .fields) (e .added)))
 
-  pub lent : Lent e
+  pub lent : LentToPack e
   lent =
       let front : Limited (e .fields) = limited-front (e .fields) (e .added) (e .limited) in
       let served : 8 * endOf all ≤ length area = omega (arith, zeros-length (8 * maxRecord), e .limited .end) in
@@ -272,10 +272,10 @@ forward-room : (bs : List ℕ) (at : ℕ) (fs : List Field) → AllSound fs → 
 unfolding valuesFrom valueBytes join
 forward-room bs at [] sound forward = omega arith
 forward-room bs at (f ∷ fs) sound forward =
-    step at (f .code) (f .unsigned) (f .count) (sound .0) (forward .0)
+    step at (f .role) (f .unsigned) (f .count) (sound .0) (forward .0)
     (λ to. forward-room bs to fs (sound .1) (forward .1))
   where
-    step : (at : ℕ) (k : Code) (u : Bool) (n : Count) → FitCode k → T (plainCode k)
+    step : (at : ℕ) (k : Role) (u : Bool) (n : Count) → FitRole k → T (plainRole k)
         → ((to : ℕ) → length (valueBytes (valuesFrom bs to fs)) ≤ 8 * (length bs - to))
         → length (valueBytes (valuesFrom bs at (made k u n ∷ fs))) ≤ 8 * (length bs - at)
     step at (Data s) u n fit p ih =
@@ -293,16 +293,16 @@ unfolding plain
 plain-forward [] h = tt
 plain-forward (f ∷ fs) h =
     let (x, y) = both (plainField f) (plain fs) h in
-    (both (plainCode (f .code)) (plainCount (f .count)) x .0, plain-forward fs y)
+    (both (plainRole (f .role)) (plainCount (f .count)) x .0, plain-forward fs y)
 
 lossless-forward : (fs : List Field) → T (lossless fs) → ForwardFields fs
 unfolding lossless
 lossless-forward [] h = tt
 lossless-forward (f ∷ fs) h =
     let (x, y) = both (losslessField f) (lossless fs) h in
-    (one (f .code) (both (losslessCode (f .code) (f .count)) (plainCount (f .count)) x .0), lossless-forward fs y)
+    (one (f .role) (both (losslessRole (f .role) (f .count)) (plainCount (f .count)) x .0), lossless-forward fs y)
   where
-    one : (k : Code) → T (losslessCode k (f .count)) → T (plainCode k)
+    one : (k : Role) → T (losslessRole k (f .count)) → T (plainRole k)
     one (Data s) h = tt
     one (Move m) h = absurd h
 

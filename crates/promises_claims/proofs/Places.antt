@@ -1,5 +1,5 @@
 -- At each place stands its field: a step that is a field has read it there, and the text from there on is what is left
--- of it. What is read next lies behind the bytes that belong to the field.
+-- of it. What is read next lies after the bytes that belong to the field.
 use Prim.Native.Nat.{ℕ, zero, suc, _+_, _≤_, _<_}
 use native.Mathlib.Omega.{arith}
 use native.Mathlib.Nat.{lt-of-not-le}
@@ -10,7 +10,7 @@ use mathlib.Core.List.{List, [], _∷_}
 use lib.ListN.{length, getD, drop, drop-of-length-le}
 use lib.Seq.{drop-cons}
 use Rattle.layout.specs.Refusals.{Result, ok}
-use Rattle.layout.specs.Layout.{Step, space, field, bad, stepOf, extra}
+use Rattle.layout.specs.Layout.{Step, space, field, bad, stepOf, stepExtra}
 use Rattle.layout.proofs.Laws.{no-refusal, bound, ok-inj}
 use Rattle.promises.specs.Placed.{Placed, placedBefore, placedFrom, placedFields}
 use Rattle.promises.proofs.Places.{forgotten}
@@ -38,18 +38,18 @@ left text at c cs e = elim (decLe (length text) at) [
 stand-weaker : (text : List ℕ) (from at : ℕ) → at ≤ from → (ps : List Placed) → Stand text from ps → Stand text at ps
 stand-weaker text from at h [] s = tt
 stand-weaker text from at h (p ∷ ps) (n, here, later) =
-    (n, record { behind = omega (arith, here .behind); inside = here .inside; found = here .found }, later)
+    (n, record { after = omega (arith, here .after); inside = here .inside; found = here .found }, later)
 
 module _ (text : List ℕ) where
   stand-step : (at c : ℕ) (cs : List ℕ) (s : Step) (rest : Result (List Placed)) → Left text at c cs
       → stepOf true at c cs ≡ s
-      → ((qs : List Placed) → rest ≡ ok qs → Stand text (suc at + extra s) qs)
+      → ((qs : List Placed) → rest ≡ ok qs → Stand text (suc at + stepExtra s) qs)
       → (ps : List Placed) → placedBefore at s rest ≡ ok ps → Stand text at ps
   stand-step at c cs space rest l e ih ps k = stand-weaker text (suc at + 0) at (omega arith) ps (ih ps k)
   stand-step at c cs (field f n) rest l e ih ps k =
       let (qs, k₁, k₂) = bound rest (λ qs. ok (record { what = f; place = at } ∷ qs)) ps k in
       let here : StandsAt text at (record { what = f; place = at }) n =
-      record { behind = omega arith; inside = l .inside; found = rw (l .here, l .after) e } in
+      record { after = omega arith; inside = l .inside; found = rw (l .here, l .after) e } in
       let later : Stand text (at + 1 + n) qs = stand-weaker text (suc at + n) (at + 1 + n) (omega arith) qs (ih qs k₁) in
       subst (Stand text at) (ok-inj k₂) (n, here, later)
   stand-step at c cs (bad why place) rest l e ih ps k = no-refusal k
@@ -65,8 +65,8 @@ module _ (text : List ℕ) where
       let l : Left text at c cs = left text at c cs d in
       let s : Step = stepOf true at c cs in
       stand-weaker text at (at + 0) (omega arith) ps
-      (stand-step at c cs s (placedFrom (suc at) (extra s) cs) l refl
-      (λ qs k. stand-from cs (suc at) (extra s) (l .after) qs k) ps e)
+      (stand-step at c cs s (placedFrom (suc at) (stepExtra s) cs) l refl
+      (λ qs k. stand-from cs (suc at) (stepExtra s) (l .after) qs k) ps e)
 
   pub stands : (ps : List Placed) → placedFields text ≡ ok ps → Stand text 0 ps
   unfolding placedFields

@@ -19,11 +19,11 @@ use Rattle.evolution.specs.Claim.{plain}
 use Rattle.lossless.specs.Claim.{lossless, Layout, Archived}
 use Rattle.lossless.proofs.LosesNothing.{loses-nothing}
 use Rattle.joining.specs.Claim.{forward, Part}
-use Rattle.joining.proofs.Glues.{glues}
+use Rattle.joining.proofs.Joining.{joins}
 use Rattle.promises.specs.declared.Promise.{Promise}
 use Rattle.promises.specs.declared.Promise.the-variants.{Grows, Keeps, Joins}
 use Rattle.promises.specs.Placed.{Placed, fieldsIn, placedFields}
-use Rattle.promises.specs.Promises.{nothing, nowhere, firstBreak, told, layoutFields, inLayout, promised}
+use Rattle.promises.specs.Promises.{reachStart, nowhere, firstBreak, told, layoutFields, inLayout, promised}
 use Rattle.promises.proofs.Places.{Placing, placing, placed-fields}
 use Rattle.promises_claims.specs.Claim.{_⇔_, Stand, Accepted, Packing, Limited, KeepsAll, Archivable, Promises}
 use Rattle.promises_claims.proofs.Places.{stands}
@@ -69,7 +69,7 @@ module _ (layout : List ℕ) where
 
     -- what is told of a promise that all fields keep just where P holds
     exactly : (q : Promise) (P : Type 0) (n : ℕ) → n ≡ firstBreak q (f .placed)
-        → (allKeep q nothing (a .fields) ≡ true) ⇔ P → (n ≡ nowhere) ⇔ P
+        → (allKeep q reachStart (a .fields) ≡ true) ⇔ P → (n ≡ nowhere) ⇔ P
     exactly q P n e (there, back) =
         let (kept, unbroken) = unbroken q layout (f .placed) (a .fields) (a .short) (f .stand) (f .same) in
         (λ k. there (kept (sym e ∙ k)), λ p. e ∙ unbroken (back p))
@@ -151,5 +151,5 @@ promises-hold layout = record {
       let (l, is, short, limits) = form layout t in
       (l, is, loses-nothing l, each-record l (rw is short) limits);
   archives = (archivable layout, λ b. rw (b .is-text) at (archived layout (b .form) (b .one)));
-  glues = λ other area p q e k. glues area .two (part layout area p e) (part other area q k);
+  joined-packing = λ other area p q e k. joins area .two (part layout area p e) (part other area q k);
 }

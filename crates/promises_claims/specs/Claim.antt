@@ -17,7 +17,7 @@ use Rattle.record.specs.Packing.{argumentsFit, pack}
 use Rattle.runs.specs.Ends.{endOf, recordOf}
 use Rattle.evolution.specs.Claim.{plain, Layouts, recordBy, Reading, ReadsBack}
 use Rattle.lossless.specs.Claim.{lossless, Layout, areBytes, Archived, LosesNothing}
-use Rattle.joining.specs.Claim.{forward, glue, Gives}
+use Rattle.joining.specs.Claim.{forward, joinTemplates, Gives}
 use Rattle.promises.specs.Placed.{Placed, withoutPlaces, placedFields}
 use Rattle.promises.specs.Promises.{nowhere, sameField, told, promised, extended}
 
@@ -28,14 +28,14 @@ A ⇔ B = (A → B) × (B → A)
 
 -- ---- places
 
--- A field stands in a text at its place, which is `from` or behind it: there the layout reader finds this very field,
--- with n bytes behind its type character.
+-- A field stands in a text at its place, which is `from` or after it: there the layout reader finds this very field,
+-- with n bytes after its type character.
 pub record StandsAt (text : List ℕ) (from : ℕ) (p : Placed) (n : ℕ) : Type 0 where
-  pub behind : from ≤ p .place
+  pub after : from ≤ p .place
   pub inside : p .place < length text
   pub found : stepOf true (p .place) (getD text (p .place) 0) (drop (suc (p .place)) text) ≡ field (p .what) n
 
--- the fields stand in a text from the byte `from` on, each behind the end of the one before it; so their places rise
+-- the fields stand in a text from the byte `from` on, each after the end of the one before it; so their places rise
 abbrev pub Stand : List ℕ → ℕ → List Placed → Type 0
 Stand text from [] = Unit {0}
 Stand text from (p ∷ ps) = (n : ℕ) × StandsAt text from p n × Stand text (p .place + 1 + n) ps
@@ -68,7 +68,8 @@ pub record Packing (layout area : List ℕ) : Type 0 where
 abbrev pub resultBy : {layout area : List ℕ} → Packing layout area → List ℕ
 resultBy {layout} {area} p = recordOf (pack layout (p .slots) area (p .output))
 
--- the limits of the calls (01, Slot tables, sizes): no more slots than a table may have, an end within the longest record
+-- the limits of the calls (01, Slot tables, sizes): no more slots than a table may have, an end within the longest
+-- record
 pub record Limited (fs : List Field) : Type 0 where
   pub slots : slotCount fs ≤ maxSlots
   pub end : endOf fs ≤ maxRecord
@@ -80,19 +81,19 @@ MayGrow layout = (promised layout .answer .number ≡ 0) × (promised layout .an
 abbrev pub KeepsAll : List ℕ → Type 0
 KeepsAll layout = (promised layout .answer .number ≡ 0) × (promised layout .answer .second ≡ nowhere)
 
--- M-107 speaks of a layout: some record of it meets the premises ..
+-- M-107 speaks of a layout: some record of it meets the premises
 pub record Archivable (layout : List ℕ) : Type 0 where
   pub form : Layout
   pub is-text : form .text ≡ layout
   pub one : Archived form
 
--- .. and every run of bytes that its fields fill does
+-- every run of bytes that the fields of a layout fill meets the premises of M-107
 abbrev pub EachRecord : Layout → Type 0
 EachRecord l =
     (bs : List ℕ) → T (areBytes bs) → length bs ≡ endOf (l .fields) → (r : Archived l) × (r .bytes ≡ bs)
 
 pub record Promises (layout : List ℕ) : Type 0 where
-  -- the call accepts these layouts and no others
+  -- the call accepts the layouts that keep to their limit and that packing reads, and no others
   pub accepts : (promised layout .answer .number ≡ 0) ⇔ Accepted layout
   -- the three numbers say whether the layout is one of which a theorem speaks: demand 3, M-107, M-113
   pub grows : (a : Accepted layout)
@@ -100,15 +101,18 @@ pub record Promises (layout : List ℕ) : Type 0 where
   pub keeps : (a : Accepted layout)
       → (promised layout .answer .second ≡ nowhere) ⇔ (T (lossless (a .fields)) × Limited (a .fields))
   pub joins : (a : Accepted layout) → (promised layout .fourth ≡ nowhere) ⇔ T (forward (a .fields))
-  -- so where the second is told, reading by the layout loses nothing (02, M-107), whatever the record ..
+  -- where no place is told for losing nothing, reading by the layout loses nothing (02, M-107), whatever the record
   pub loses-nothing : KeepsAll layout → (l : Layout) × (l .text ≡ layout) × LosesNothing l × EachRecord l
-  -- .. and it is told of just those layouts of which M-107 speaks
+  -- no place is told for losing nothing of just those layouts of which M-107 speaks
   pub archives : KeepsAll layout ⇔ Archivable layout
-  -- Where the third is told of this layout and of another, packing by the two joined gives the two results joined
-  -- (02, M-113).
-  pub glues :
-      (other area : List ℕ) (p : Packing layout area) (q : Packing other area) → promised layout .fourth ≡ nowhere → promised other .fourth ≡ nowhere
-      → Gives area (glue (record { text = layout; slots = p .slots }) (record { text = other; slots = q .slots })) (resultBy p ++ resultBy q)
+  -- Where no place is told for being joined, of this layout and of another, packing by the two joined gives the two
+  -- results joined (02, M-113).
+  pub joined-packing :
+      (other area : List ℕ) (p : Packing layout area) (q : Packing other area) → promised layout .fourth ≡ nowhere
+      → promised other .fourth ≡ nowhere
+      → Gives area
+      (joinTemplates (record { text = layout; slots = p .slots }) (record { text = other; slots = q .slots }))
+      (resultBy p ++ resultBy q)
 
 -- ---- `extends`
 
@@ -124,8 +128,9 @@ pub record Extension (old new : List ℕ) : Type 0 where
   pub is-plain : T (plain (fields ++ added))
   pub limited : Limited (fields ++ added)
 
--- all else that it asks: the arguments, and the buffers of the two packings (the premises of `Layouts` in crates/evolution)
-pub record Lent {old new : List ℕ} (e : Extension old new) : Type 0 where
+-- all else that demand 3 asks: the arguments, and the buffers of the two packings (the premises of `Layouts` in
+-- crates/evolution)
+pub record LentToPack {old new : List ℕ} (e : Extension old new) : Type 0 where
   pub slots : List ℕ
   pub area : List ℕ
   pub oldOutput : List ℕ
@@ -137,7 +142,7 @@ pub record Lent {old new : List ℕ} (e : Extension old new) : Type 0 where
   pub new-room : endOf (e .fields ++ e .added) ≤ length newOutput
   pub old-room : endOf (e .fields) ≤ length oldOutput
 
-abbrev pub layoutsOf : {old new : List ℕ} (e : Extension old new) → Lent e → Layouts
+abbrev pub layoutsOf : {old new : List ℕ} (e : Extension old new) → LentToPack e → Layouts
 layoutsOf {old} {new} e a =
     record {
       old = old;
@@ -170,8 +175,8 @@ pub record SomeReading (l : Layouts) (packing layout : Bool) (k : ℕ) : Type 0 
 -- Demand 3 has something to say of two layouts: there are arguments and buffers; and whatever those are, either layout
 -- reads either record, wherever that is cut.
 pub record NotEmpty {old new : List ℕ} (e : Extension old new) : Type 0 where
-  pub lent : Lent e
-  pub readings : (a : Lent e) (packing layout : Bool) (k : ℕ) → k ≤ length (recordBy (layoutsOf e a) packing)
+  pub lent : LentToPack e
+  pub readings : (a : LentToPack e) (packing layout : Bool) (k : ℕ) → k ≤ length (recordBy (layoutsOf e a) packing)
       → SomeReading (layoutsOf e a) packing layout k
 
 -- demand 3 speaks of two layouts: its premises can be met with their texts
@@ -181,19 +186,21 @@ pub record Spoken (old new : List ℕ) : Type 0 where
   pub is-new : layouts .new ≡ new
 
 pub record Extends (old new : List ℕ) : Type 0 where
-  -- the call accepts two layouts just where the new one is the old one with fields added, plain and within the limits ..
+  -- the call accepts two layouts just where the new one is the old one with fields added, plain and within the limits
   pub accepts : (extended old new .answer .number ≡ 0) ⇔ Extension old new
-  -- .. and tells how many fields the old one has, and how many are added
+  -- of an extension the call tells how many fields the old layout has, and how many are added
   pub counts : (e : Extension old new) → extended old new ≡ told (length (e .fields)) (length (e .added)) 0
-  -- SO WHERE IT ACCEPTS, DEMAND 3 HOLDS: whatever the arguments and buffers, both packings and every reading keep it
-  pub keeps : extended old new .answer .number ≡ 0 → (e : Extension old new) × ((a : Lent e) → ReadsBack (layoutsOf e a))
-  -- AND IT SAYS SOMETHING: there are arguments, buffers and readings ..
+  -- WHERE THE CALL ACCEPTS, DEMAND 3 HOLDS: whatever the arguments and buffers, both packings and every reading keep it
+  pub keeps : extended old new .answer .number ≡ 0
+      → (e : Extension old new) × ((a : LentToPack e) → ReadsBack (layoutsOf e a))
+  -- DEMAND 3 THEN SAYS SOMETHING: there are arguments, buffers and readings
   pub not-empty : (e : Extension old new) → NotEmpty e
-  -- .. and of other layouts than these it says nothing
+  -- demand 3 speaks of just those layouts that the call accepts
   pub speaks : (extended old new .answer .number ≡ 0) ⇔ Spoken old new
-  -- what was added year after year was added
+  -- what extends an extension extends the first layout: the fields added each time are added up
   pub chain : (newer : List ℕ) → extended old new .answer .number ≡ 0 → extended new newer .answer .number ≡ 0
-      → extended old newer ≡ told (extended old new .answer .first) (extended old new .answer .second + extended new newer .answer .second) 0
+      → extended old newer
+      ≡ told (extended old new .answer .first) (extended old new .answer .second + extended new newer .answer .second) 0
 
 -- ---- both calls
 
@@ -201,7 +208,7 @@ pub record Extends (old new : List ℕ) : Type 0 where
 abbrev pub GrowsItself : Type 0
 GrowsItself = (layout : List ℕ) → MayGrow layout ⇔ (extended layout layout .answer .number ≡ 0)
 
--- A layout that may grow, and another one that may, put right behind it: where the two together keep to the limits, the
+-- A layout that may grow, and another one that may, put right after it: where the two together keep to the limits, the
 -- text of both extends the first, by the fields of the second. (`curlew_layout` tells the slots and the end of each.)
 abbrev pub GrowsBy : Type 0
 GrowsBy =

@@ -1,4 +1,5 @@
--- Worked examples of the two calls, computed from the definitions. All are one statement, proved in proofs/Examples.antt.
+-- Worked examples of the two calls, computed from the definitions. All are one statement, proved in
+-- proofs/Examples.antt.
 use Prim.Native.Nat.{ℕ, zero, suc}
 use Prim.Native.String.{String, [] as ε, _∷_ as _▸_}
 use mathlib.Core.Bool.{Bool, true, _&&_}
@@ -8,7 +9,7 @@ use Rattle.layout.specs.Quoted.{bytes}
 use Rattle.promises.specs.declared.Told.{Told}
 use Rattle.promises.specs.Promises.{nowhere, promised, extended}
 
--- one text behind another, and a text so many times
+-- one text after another; and a text n times
 infixr 20 _then_
 abbrev _then_ : String → String → String
 ε then t = t
@@ -46,7 +47,7 @@ examples =
     ∷ asks "a6 b3 Su" 0 nowhere 3 nowhere
     -- `x` may be joined and grow; its bytes are not shown
     ∷ asks "c x2 c" 0 nowhere 2 nowhere
-    -- a star may be joined; the place is the type character's, behind the spaces and before the flag
+    -- a star may be joined; the place is the type character's, after the spaces and before the flag
     ∷ asks "c  su*" 0 3 3 nowhere
     -- a count of 0, then an `X`
     ∷ asks "c0 X c" 0 0 0 3

@@ -1,1 +1,2 @@
-// What the answers of `promises` and `extends` have to do with the three theorems: the claim is in specs/, its proof in proofs/. No code.
+// What the answers of `promises` and `extends` have to do with the three theorems: the claim is in specs/, its proof in
+// proofs/. No code.

@@ -13,7 +13,7 @@ use Rattle.record.specs.Packing.{refusal}
 use Rattle.record.specs.Reading.{reads, ReadAll, readAll}
 use Rattle.record.proofs.ByFields.{read-fields}
 use Rattle.reader.proofs.checking.Calls.{Fit}
-use Rattle.reader.specs.passes.{Ready, readWords}
+use Rattle.reader.specs.inside.passes.{ReadReady, readCodes}
 use Rattle.reader.proofs.passes.Whole as whole
 
 module _ (layout bs slots area : List ℕ) (mark : ℕ) where
@@ -23,9 +23,9 @@ module _ (layout bs slots area : List ℕ) (mark : ℕ) where
   read-refused e q = whole.fields-refused (length layout) (fieldsOf false layout) bs slots area mark e q ∙ sym (read-fields layout bs slots area mark)
 
   module _ (sizes : Fit (length layout) (length slots) (length bs) (length area) mark) {n taken : ℕ} {ws : List ℕ} (l : Learnt (fieldsOf false layout) n taken ws) where
-    -- a reading by the fields of the words is the reading by the layout
-    pub words-read : {e : ReadAll} → e ≡ readWords n taken ws bs slots area mark → e ≡ readAll layout bs slots area mark
-    words-read q = whole.fields-read (length layout) (fieldsOf false layout) bs slots area mark sizes l q ∙ sym (read-fields layout bs slots area mark)
+    -- a reading by the fields of the codes is the reading by the layout
+    pub codes-read : {e : ReadAll} → e ≡ readCodes n taken ws bs slots area mark → e ≡ readAll layout bs slots area mark
+    codes-read q = whole.fields-read (length layout) (fieldsOf false layout) bs slots area mark sizes l q ∙ sym (read-fields layout bs slots area mark)
 
-    pub ready : Ready n taken ws bs slots area mark
+    pub ready : ReadReady n taken ws bs slots area mark
     ready = whole.ready (length layout) (fieldsOf false layout) bs slots area mark sizes l

@@ -16,8 +16,8 @@ use Rattle.record.proofs.Stores.{length-storeAt, store-none, store-next}
 use Rattle.record.proofs.Readings.{length-slot-numbers}
 use Rattle.record.specs.declared.ReadAnswer.{ReadAnswer}
 use Rattle.reading.proofs.measure.Run.{value-bytes-append, value-bytes-one}
-use Rattle.reading.specs.put.{PutRoom, PutAs}
-use Rattle.reading.specs.Tables.{TableRoom}
+use Rattle.reading.specs.inside.put.{PutRoom, PutAs}
+use Rattle.reading.specs.inside.Tables.{TableRoom}
 use Rattle.reading.proofs.positions.Turns.{Ran, Ended, ran-start, Found}
 
 -- the numbers of slots, of values one after the other

@@ -1,4 +1,5 @@
-// The second pass of a reading over the fields: the values go into the area, and what the slots say of them into the table.
+// The second pass of a reading over the fields: the values go into the area, and what the slots say of them into the
+// table.
 ghost use mathlib.Core.Path.{_≡_};
 ghost use Prim.Native.Nat.{_≤_};
 ghost use lib.ListN.{length};
@@ -6,20 +7,20 @@ ghost use Rattle.layout.specs.Layout.{maxLayout};
 ghost use Rattle.layout.specs.Lent.{before, after};
 ghost use Rattle.record.specs.Table.{maxSlots, maxRecord, maxArea};
 ghost use Rattle.record.specs.Packing.{accepted};
-ghost use Rattle.reading.specs.measure.Run.{valuesOf};
-ghost use Rattle.reading.specs.Tables.{putAll, TableRoom};
+ghost use Rattle.reading.specs.inside.Run.{valuesOf};
+ghost use Rattle.reading.specs.inside.Tables.{putAll, TableRoom};
 use record::Answer;
 use record::Cursor;
 use record::ReadAnswer;
 use slot_table::sizes;
 
-// Where a field begins and how many items it has.
+// How many items a field has, and where the cursor is after it.
 mod positions;
-// Its value.
+// The value of a field.
 pub mod value;
 // The first pass: how much of the area the values take.
 pub mod measure;
-// One value put into the table.
+// One value put into the area, and its slot set.
 mod put;
 
 fn answer(set: usize, place: usize, steps: usize) -> ReadAnswer
@@ -33,36 +34,37 @@ fn answer(set: usize, place: usize, steps: usize) -> ReadAnswer
 }
 
 pub fn fill(
-    words: &[u32],
+    codes: &[u32],
     n: usize,
     bytes: &[u8],
     slots: &mut [u32],
     area: &mut [u8],
     mark: usize,
 ) -> ReadAnswer
-    requires { ⌜ (n ≤ length (now words)) × (length (now words) ≤ maxLayout) × (length (now bytes) ≤ maxRecord) ⌝ }
-    requires { ⌜ TableRoom (valuesOf n (now words) (now bytes)) (now slots) (now area) mark ⌝ }
-    ensures { λ r. ⌜ record { answer = r; slots = after slots; area = after area } ≡ putAll n (before words) (before bytes) (before slots) (before area) mark ⌝ }
+    requires { ⌜ (n ≤ length (now codes)) × (length (now codes) ≤ maxLayout) × (length (now bytes) ≤ maxRecord) ⌝ }
+    requires { ⌜ TableRoom (valuesOf n (now codes) (now bytes)) (now slots) (now area) mark ⌝ }
+    ensures { λ r. ⌜ record { answer = r; slots = after slots; area = after area }
+        ≡ putAll n (before codes) (before bytes) (before slots) (before area) mark ⌝ }
 {
     let mut c = Cursor::new(bytes.len());
     let mut set: usize = 0;
     let mut place = mark;
     let mut i: usize = 0;
     while i < n {
-        let word = words[i];
-        let d = word % layout::FLAG_UNIT;
+        let code = codes[i];
+        let d = code % layout::FLAG_UNIT;
         i += 1;
         if layout::LAST_DATA < d {
-            c = positions::moved_by(word, c);
+            c = positions::moved_by(code, c);
         } else {
             let at = c.at;
             let left = c.end - at;
-            let items = positions::items(d, word / layout::COUNT_UNIT, left);
+            let items = positions::items(d, code / layout::COUNT_UNIT, left);
             let need = sizes::bytes_numbered(d, items);
             if left < need {
                 return answer(set, place, i);
             }
-            let u = word / layout::FLAG_UNIT % 2 == 1;
+            let u = code / layout::FLAG_UNIT % 2 == 1;
             c = c.load(need);
             place = put::put(slots, set, area, place, bytes, at, d, u, items);
             set += 1;

@@ -1,17 +1,19 @@
-// One field of a run over a record, by the numbers of its word: how many items it has, and the cursor that a move hands back.
+// One field of a run over a record, by the numbers of its code: how many items it has, and the cursor that a move hands
+// back.
 ghost use mathlib.Core.Path.{_≡_};
 ghost use Prim.Native.Nat.{_≤_, _<_};
-ghost use Rattle.layout.specs.Words.{lastData, FitCount, shapeNumbered, countFrom, fieldOf};
+ghost use Rattle.layout.specs.Codes.{lastData, countFrom, fieldOf};
+ghost use Rattle.layout.specs.inside.Parsing.{FitCount, shapeNumbered};
 ghost use Rattle.record.specs.Table.{maxRecord};
 ghost use Rattle.record.specs.Geometry.{itemsIn, itemsOf};
-ghost use Rattle.record.specs.Cursor.{movedInside};
-ghost use Rattle.reading.specs.positions.{movedBy};
-use layout::Code;
+ghost use Rattle.record.specs.inside.Cursor.{movedInside};
+ghost use Rattle.reading.specs.inside.positions.{movedBy};
 use layout::Count;
 use layout::Motion;
+use layout::Role;
 use record::Cursor;
 
-// The items of type d that so many bytes hold.
+// The items of type d that `left` bytes hold.
 fn items_in(d: u32, left: usize) -> usize
     requires { ⌜ (left ≤ maxRecord) × (d ≤ lastData) ⌝ }
     ensures { λ r. ⌜ r ≡ itemsIn (shapeNumbered d) left ⌝ }
@@ -29,7 +31,7 @@ fn items_in(d: u32, left: usize) -> usize
     }
 }
 
-// The items of a field of type d, whose count has the number n, where so many bytes are left.
+// The items of a field of type d, whose count has the number n, where `left` bytes are left.
 pub fn items(d: u32, n: u32, left: usize) -> usize
     requires { ⌜ (left ≤ maxRecord) × (d ≤ lastData) ⌝ }
     ensures { λ r. ⌜ (r ≡ itemsOf (shapeNumbered d) (countFrom n) left) × (r < 4294967296) ⌝ }
@@ -40,7 +42,7 @@ pub fn items(d: u32, n: u32, left: usize) -> usize
     if n == 0 { 1 } else { n as usize - 2 }
 }
 
-// `x X @`
+// The cursor after `x X @`.
 fn moved(c: Cursor, m: Motion, n: Count) -> Cursor
     requires { ⌜ (c .at ≤ c .end) × (c .end ≤ maxRecord) × FitCount n ⌝ }
     ensures { λ r. ⌜ r ≡ movedInside c m n ⌝ }
@@ -52,15 +54,15 @@ fn moved(c: Cursor, m: Motion, n: Count) -> Cursor
     }
 }
 
-// The cursor after the field of a word, where that is a move.
-pub fn moved_by(word: u32, c: Cursor) -> Cursor
+// The cursor after the field of a code, where that is a move.
+pub fn moved_by(code: u32, c: Cursor) -> Cursor
     requires { ⌜ (c .at ≤ c .end) × (c .end ≤ maxRecord) ⌝ }
-    ensures { λ r. ⌜ r ≡ movedBy c (fieldOf word .code) (fieldOf word .count) ⌝ }
+    ensures { λ r. ⌜ r ≡ movedBy c (fieldOf code .role) (fieldOf code .count) ⌝ }
 {
-    let f = layout::field_of(word);
-    let k = f.code;
+    let f = layout::field_of(code);
+    let k = f.role;
     let n = f.count;
-    let Code::Move(m) = k else {
+    let Role::Move(m) = k else {
         return c;
     };
     moved(c, m, n)

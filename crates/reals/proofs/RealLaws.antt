@@ -1,4 +1,5 @@
--- Laws of reals: a single's four bytes in either order, a double's eight as a number, and many doubles of which none is a NaN.
+-- Laws of reals: a single's four bytes in either order, a double's eight as a number, and many doubles of which none is
+-- a NaN.
 use Prim.Native.Nat.{ℕ, suc, _+_, _-_, _*_, _/_, _%_, _^_, _≤_, _<_}
 use native.Mathlib.Nat.{add-zero, mod-lt, div-add-mod', div-div-eq-div-mul, pow-suc}
 use native.Mathlib.Omega.{arith}

@@ -1,4 +1,2 @@
--- What contracts between the functions of this crate cite.
-pub mod store
--- What contracts between the functions of this crate cite.
-pub mod load
+-- What the loops over reals promise each other.
+pub mod inside

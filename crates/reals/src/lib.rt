@@ -1,5 +1,5 @@
-// `r R q Q`: reals. The area has a double of eight bytes for each, the highest byte first. Here are a double of the area as a number, whether one of
-// many is a NaN, and the four bytes of a single in the order of a field.
+// `r R q Q`: reals. The area has a double of eight bytes for each, the highest byte first. Here are a double of the
+// area as a number, whether one of many is a NaN, and the four bytes of a single in the order of a field.
 ghost use mathlib.Core.Path.{_≡_};
 ghost use mathlib.Core.List.{reverse};
 ghost use Prim.Native.Nat.{_+_, _*_, _≤_, _<_};

@@ -1,12 +1,13 @@
-// Reals, `r R q Q`, read. Of a field of `q Q` the area gets the bytes, the highest first; of one of `r R` those of each single's double.
+// Reals, `r R q Q`, read. Of a field of `q Q` the area gets the bytes, the highest first; of one of `r R` those of each
+// single's double.
 ghost use mathlib.Core.Path.{_≡_};
 ghost use mathlib.Core.Bool.{Bool, true};
 ghost use Prim.Native.Nat.{_+_, _*_, _≤_};
 ghost use lib.ListN.{length};
 ghost use Rattle.layout.specs.Lent.{before, after};
-ghost use Rattle.layout.specs.Words.{realSize};
+ghost use Rattle.layout.specs.Layout.{realSize};
 ghost use Rattle.record.specs.Bytes.{part, storeAt, number, ordered};
-ghost use Rattle.reals.specs.load.{doubleBytes, realsAt};
+ghost use Rattle.reals.specs.inside.load.{doubleBytes, realsAt};
 use super::DOUBLE;
 use super::SINGLE;
 use byte_runs::big_endian;

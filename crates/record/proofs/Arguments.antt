@@ -1,5 +1,5 @@
--- Laws of the arguments of a packing. An argument that serves its field does so under any slot number, so joined slots serve joined fields:
--- each field has the slot that it had.
+-- Laws of the arguments of a packing. An argument that serves its field does so under any slot number, so joined slots
+-- serve joined fields: each field has the slot that it had.
 use Prim.Native.Nat.{ℕ, suc}
 use native.Mathlib.Nat.{suc-ne-zero}
 use native.Mathlib.Omega.{arith}
@@ -8,12 +8,12 @@ use mathlib.Core.Bool.{Bool, not}
 use mathlib.Core.List.{List, [], _∷_, _++_}
 use lib.ListN.{length, drop}
 use lib.Dec.{eqb}
-use Rattle.layout.specs.declared.Code.{Code}
-use Rattle.layout.specs.declared.Code.the-variants.{Data, Move}
+use Rattle.layout.specs.declared.Role.{Role}
+use Rattle.layout.specs.declared.Role.the-variants.{Data, Move}
 use Rattle.layout.specs.declared.Shape.{Shape}
 use Rattle.layout.specs.declared.Count.{Count}
 use Rattle.layout.specs.declared.Field.{Field}
-use Rattle.layout.specs.declared.Refusal.the-variants.{NotSet, BadSlot, WrongKind, WrongAmount, BadDigit, BadReal}
+use Rattle.layout.specs.declared.Refusal.the-variants.{NotSet, BadSlot, WrongKind, BadList, BadDigit, BadReal}
 use Rattle.layout.specs.Refusals.{ok, _>>=_}
 use Rattle.layout.specs.Layout.{slotCount}
 use Rattle.layout.proofs.Laws.{bound, still, still-last}
@@ -23,8 +23,8 @@ use Rattle.record.specs.Slots.{isInside}
 use Rattle.record.specs.Geometry.{amount}
 use Rattle.record.specs.Packing.{kindFits, amountFits, digitsFit, realsFit, Filled, filled, nextSlot, argumentFits, argumentsFit}
 
-abbrev made : Code → Bool → Count → Field
-made k u n = record { code = k; unsigned = u; count = n }
+abbrev made : Role → Bool → Count → Field
+made k u n = record { role = k; unsigned = u; count = n }
 
 module _ (area : List ℕ) where
   fits-at : (s : Shape) (n : Count) (i j : ℕ) (a : Slot) → argumentFits area s n i a ≡ ok tt → argumentFits area s n j a ≡ ok tt
@@ -33,12 +33,12 @@ module _ (area : List ℕ) where
       still (not (eqb (a .kind) unset)) NotSet i j _ _
       (still (isInside a (length area)) BadSlot i j _ _
       (still (kindFits s (a .kind)) WrongKind i j _ _
-      (still (amountFits s n (a .len)) WrongAmount i j _ _
+      (still (amountFits s n (a .len)) BadList i j _ _
       (still (digitsFit s (amount n (a .len)) (shown area a .items)) BadDigit i j _ _
       (still-last (realsFit s (amount n (a .len)) (shown area a .items)) BadReal i j)))))
 
   from-step : (fs : List Field) → ((i j : ℕ) (ts : List Slot) → argumentsFit area i ts fs ≡ ok tt → argumentsFit area j ts fs ≡ ok tt)
-      → (i j : ℕ) (ts : List Slot) (k : Code) (u : Bool) (n : Count) → argumentsFit area i ts (made k u n ∷ fs) ≡ ok tt → argumentsFit area j ts (made k u n ∷ fs) ≡ ok tt
+      → (i j : ℕ) (ts : List Slot) (k : Role) (u : Bool) (n : Count) → argumentsFit area i ts (made k u n ∷ fs) ≡ ok tt → argumentsFit area j ts (made k u n ∷ fs) ≡ ok tt
   unfolding argumentsFit
   from-step fs ih i j ts (Data s) u n e =
       let (x, e₁, e₂) = bound (argumentFits area s n i (nextSlot ts)) (λ _. argumentsFit area (suc i) (drop 1 ts) fs) tt e in
@@ -48,7 +48,7 @@ module _ (area : List ℕ) where
   fits-from : (fs : List Field) (i j : ℕ) (ts : List Slot) → argumentsFit area i ts fs ≡ ok tt → argumentsFit area j ts fs ≡ ok tt
   unfolding argumentsFit
   fits-from [] i j ts e = refl
-  fits-from (f ∷ fs) i j ts e = from-step fs (λ i j ts e. fits-from fs i j ts e) i j ts (f .code) (f .unsigned) (f .count) e
+  fits-from (f ∷ fs) i j ts e = from-step fs (λ i j ts e. fits-from fs i j ts e) i j ts (f .role) (f .unsigned) (f .count) e
 
   -- ---- slots and fields joined
 
@@ -57,7 +57,7 @@ module _ (area : List ℕ) where
     Joins fs = (i : ℕ) (ts : List Slot) → length ts ≡ slotCount fs → argumentsFit area i ts fs ≡ ok tt
         → (argumentsFit area i (ts ++ us) (fs ++ gs) ≡ ok tt) × (filled area (ts ++ us) (fs ++ gs) ≡ filled area ts fs ++ filled area us gs)
 
-    join-step : (fs : List Field) → Joins fs → (k : Code) (u : Bool) (n : Count) → Joins (made k u n ∷ fs)
+    join-step : (fs : List Field) → Joins fs → (k : Role) (u : Bool) (n : Count) → Joins (made k u n ∷ fs)
     unfolding argumentsFit filled slotCount
     join-step fs ih (Data s) u n i [] l e = absurd (suc-ne-zero _ (sym l))
     join-step fs ih (Data s) u n i (t ∷ ts) l e =
@@ -76,7 +76,7 @@ module _ (area : List ℕ) where
             → (argumentsFit area i (ts ++ us) gs ≡ ok tt) × (filled area (ts ++ us) gs ≡ filled area us gs)
         none i [] l e = (second i, refl)
         none i (t ∷ ts) l e = absurd (suc-ne-zero _ l)
-    joins-from (f ∷ fs) = join-step fs (joins-from fs) (f .code) (f .unsigned) (f .count)
+    joins-from (f ∷ fs) = join-step fs (joins-from fs) (f .role) (f .unsigned) (f .count)
 
   pub slots-join : (ts us : List Slot) (fs gs : List Field) → length ts ≡ slotCount fs → argumentsFit area 0 ts fs ≡ ok tt → argumentsFit area 0 us gs ≡ ok tt
       → (argumentsFit area 0 (ts ++ us) (fs ++ gs) ≡ ok tt) × (filled area (ts ++ us) (fs ++ gs) ≡ filled area ts fs ++ filled area us gs)

@@ -7,14 +7,17 @@ use mathlib.Core.Bool.{Bool, true, false}
 use lib.Dec.{eqb}
 use lib.Pow.{pow-mono}
 use borrow.Author.Tests.{le-leb, lt-leb}
-use Rattle.layout.specs.declared.Code.the-variants.{Data}
+use Rattle.layout.specs.declared.Role.the-variants.{Data}
 use Rattle.layout.specs.declared.Shape.{Shape}
 use Rattle.layout.specs.declared.Shape.the-variants.{Text, Digits, Integers, Reals}
 use Rattle.layout.specs.Refusals.{if_then_else_}
-use Rattle.layout.specs.Words.{lastDigits, lastIntegers, lastData, realSize, sizeNumbered, shapeNumbered, FitCode}
+use Rattle.layout.specs.Codes.{lastDigits, lastIntegers, lastData}
+use Rattle.layout.specs.inside.Parsing.{sizeNumbered, shapeNumbered, FitRole}
+use Rattle.layout.specs.Layout.{realSize}
 use Rattle.layout.proofs.Numbered.{shape-integers, shape-reals}
 use Rattle.record.specs.Bytes.{ceilDiv}
-use Rattle.record.specs.Geometry.{perByte, bytesFor, itemsIn, itemsLimit, wordLimit}
+use Rattle.record.specs.Geometry.{perByte, bytesFor, itemsIn}
+use Rattle.record.specs.inside.Bounds.{itemsLimit, u64Limit}
 use Rattle.record.specs.Table.{itemSize}
 use Rattle.record.proofs.Fields.{split}
 
@@ -30,7 +33,7 @@ real-small true = omega arith
 real-small false = omega arith
 
 -- an item fills at most eight bytes
-pub bytes-small : (s : Shape) (n : ℕ) → FitCode (Data s) → bytesFor s n ≤ n * 8
+pub bytes-small : (s : Shape) (n : ℕ) → FitRole (Data s) → bytesFor s n ≤ n * 8
 bytes-small (Text pad) n h = omega arith
 bytes-small (Digits true high) n h = omega arith
 bytes-small (Digits false high) n h = omega arith
@@ -38,7 +41,7 @@ bytes-small (Integers w big) n h = product-small n w n 8 (omega arith) (h .1)
 bytes-small (Reals true big) n h = omega arith
 bytes-small (Reals false big) n h = omega arith
 
--- so many bytes hold no more than eight times as many digits
+-- m bytes hold no more than eight times as many digits
 pub few-digits : (hex : Bool) (n m : ℕ) → ceilDiv n (perByte hex) ≤ m → n ≤ m * 8
 few-digits true n m h = omega arith
 few-digits false n m h = omega arith
@@ -64,7 +67,7 @@ sized-items d left l h =
     (λ k. rw (shape-reals d k h, lt-leb d lastIntegers k))
 
 -- items of 2 ^ k bytes each, by a shift that does not wrap
-pub shifted-bytes : (n k w : ℕ) → 2 ^ k ≡ w → k ≤ 3 → n < itemsLimit → n * 2 ^ k % wordLimit ≡ n * w
+pub shifted-bytes : (n k w : ℕ) → 2 ^ k ≡ w → k ≤ 3 → n < itemsLimit → n * 2 ^ k % u64Limit ≡ n * w
 shifted-bytes n k w p l h =
     let small : 2 ^ k ≤ 2 ^ 3 = pow-mono l in
     let m : n * w ≤ itemsLimit * 8 = product-small n w itemsLimit 8 (omega arith) (rw (← p) small) in

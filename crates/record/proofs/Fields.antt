@@ -9,10 +9,11 @@ use mathlib.Core.List.{List}
 use lib.ListN.{length, take, length-map}
 use lib.Seq.{length-take-le}
 use lib.Dec.{T}
+use Rattle.layout.specs.declared.Role.the-variants.{Data}
 use Rattle.layout.specs.declared.Shape.{Shape}
 use Rattle.layout.specs.declared.Shape.the-variants.{Text, Digits, Integers, Reals}
-use Rattle.layout.specs.declared.Code.the-variants.{Data}
-use Rattle.layout.specs.Words.{realSize, FitCode}
+use Rattle.layout.specs.inside.Parsing.{FitRole}
+use Rattle.layout.specs.Layout.{realSize}
 use Rattle.real.specs.Narrowing.{singleOf}
 use Rattle.record.specs.Bytes.{digits, number, ordered, pieces}
 use Rattle.record.specs.Geometry.{bytesFor}
@@ -59,7 +60,7 @@ length-stored (Integers w big) n xs h = length-integers w big n xs h
 length-stored (Reals single big) n xs h = length-integers (realSize single) big n (patterns single xs) (rw (length-patterns single xs) h)
 
 -- a field that fills bytes needs at least one
-pub fills-some : (s : Shape) (n : ℕ) → FitCode (Data s) → 0 < n → 0 < bytesFor s n
+pub fills-some : (s : Shape) (n : ℕ) → FitRole (Data s) → 0 < n → 0 < bytesFor s n
 fills-some (Text pad) n h k = k
 fills-some (Digits true high) n h k = omega arith
 fills-some (Digits false high) n h k = omega arith

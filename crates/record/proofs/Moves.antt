@@ -1,22 +1,23 @@
--- What code that packs in place goes by: the cursor stays within what is reached, the length is the highest position, and a store in
--- the lent buffer is a store of the run.
+-- What code that packs in place goes by: the cursor stays within what is reached, the length is the highest position,
+-- and a store in the lent buffer is a store of the run.
 use Prim.Native.Nat.{ℕ, _+_, _-_, _≤_, _<_, max}
 use native.Mathlib.Omega.{arith}
 use mathlib.Core.Path.{_≡_, sym, ap, _∙_}
 use mathlib.Core.List.{List, _++_, append-nil, append-assoc}
 use lib.ListN.{length, take, drop, replicate, length-append, length-replicate, length-take, length-drop, drop-of-length-le}
 use lib.Seq.{take-append-le, drop-append-le, drop-append-add, drop-drop}
-use Rattle.layout.specs.declared.Code.{Code}
-use Rattle.layout.specs.declared.Code.the-variants.{Data, Move}
+use Rattle.layout.specs.declared.Role.{Role}
+use Rattle.layout.specs.declared.Role.the-variants.{Data, Move}
 use Rattle.layout.specs.declared.Motion.the-variants.{Skip, Back, Goto}
 use Rattle.layout.specs.declared.Count.{Count}
 use Rattle.layout.specs.declared.Count.the-variants.{Absent, Star, Times}
-use Rattle.layout.specs.Words.{FitCount}
+use Rattle.layout.specs.inside.Parsing.{FitCount}
 use Rattle.record.specs.Geometry.{gotoIn, amount}
-use Rattle.record.specs.Packing.{cursorOf, stored, Run, store, packOne, goto}
+use Rattle.record.specs.Packing.{stored, Run, store, packOne, goto}
+use Rattle.record.specs.inside.Cursor.{cursorOf}
 use Rattle.record.proofs.Fields.{split}
 
--- a count that a word holds asks for few more than there are
+-- a count that a code holds asks for few more than there are
 pub amount-small : (n : Count) (all : ℕ) → FitCount n → amount n all < 8388608 + all
 amount-small Absent all h = omega arith
 amount-small Star all h = omega arith
@@ -35,7 +36,7 @@ goto-within : (r : Run) (n : Count) → Within (goto r n)
 goto-within r n = rw (length-append, length-replicate) (omega arith)
 
 -- the cursor is never past the bytes reached
-pub pack-within : (r : Run) (k : Code) (n : Count) (xs : List ℕ) → Within r → Within (packOne r k n xs)
+pub pack-within : (r : Run) (k : Role) (n : Count) (xs : List ℕ) → Within r → Within (packOne r k n xs)
 unfolding packOne
 pack-within r (Data s) n xs h = store-within r (stored s (amount n (length xs)) xs) h
 pack-within r (Move Skip) n xs h = store-within r (replicate (amount n 0) 0) h
@@ -43,7 +44,7 @@ pack-within r (Move Back) n xs h = omega arith
 pack-within r (Move Goto) n xs h = goto-within r n
 
 -- the result is as long as the highest position
-pub pack-length : (r : Run) (k : Code) (n : Count) (xs : List ℕ) → Within r → length (packOne r k n xs .out) ≡ max (length (r .out)) (packOne r k n xs .at)
+pub pack-length : (r : Run) (k : Role) (n : Count) (xs : List ℕ) → Within r → length (packOne r k n xs .out) ≡ max (length (r .out)) (packOne r k n xs .at)
 unfolding packOne
 pack-length r (Data s) n xs h = length-store r (stored s (amount n (length xs)) xs) h
 pack-length r (Move Skip) n xs h = length-store r (replicate (amount n 0) 0) h

@@ -1,4 +1,5 @@
--- Numbers as bytes, the highest first: one number, byte by byte, in both directions; then many, one after the other. All laws are over the width w.
+-- Numbers as bytes, the highest first: one number, byte by byte, in both directions; then many, one after the other.
+-- All laws are over the width w.
 use Prim.Native.Nat.{ℕ, zero, suc, _+_, _-_, _*_, _/_, _%_, _^_, _≤_, _<_}
 use native.Mathlib.Nat.{add-zero, sub-self, zero-mul, suc-mul, add-comm, pow-zero, pow-suc, div-one, div-div-eq-div-mul, not-suc-le-zero, le-of-suc-le-suc, lt-of-lt-of-le, pow-le-pow-right, mod-eq-of-lt}
 use native.Mathlib.Omega.{arith}

@@ -1,4 +1,5 @@
--- A reading looks at the number of the slots that it is lent, and not at what they hold: it sets the first of them, and the others stay.
+-- A reading looks at the number of the slots that it is lent, and not at what they hold: it sets the first of them, and
+-- the others stay.
 use Prim.Native.Nat.{ℕ, suc, _+_, _-_, _*_, _/_, _≤_}
 use native.Mathlib.Nat.{zero-add, mul-comm}
 use native.Mathlib.Omega.{arith}
@@ -9,8 +10,8 @@ use lib.Dec.{eqb, leb}
 use lib.ListN.{length, take, drop}
 use lib.Seq.{take-at, drop-at}
 use borrow.Author.Tests.{ne-eqb, leb-true}
-use Rattle.layout.specs.declared.Code.{Code}
-use Rattle.layout.specs.declared.Code.the-variants.{Data, Move}
+use Rattle.layout.specs.declared.Role.{Role}
+use Rattle.layout.specs.declared.Role.the-variants.{Data, Move}
 use Rattle.layout.specs.declared.Count.{Count}
 use Rattle.layout.specs.declared.Field.{Field}
 use Rattle.layout.specs.declared.Refusal.the-variants.{NoRoom}
@@ -32,8 +33,8 @@ few-if : (t : Bool) (v : Value) (vs : List Value) (k : ℕ) → length vs ≤ k 
 few-if true v vs k h = omega arith
 few-if false v vs k h = omega arith
 
-few-step : (bs : List ℕ) (at : ℕ) (k : Code) (u : Bool) (n : Count) (fs : List Field) → ((to : ℕ) → length (valuesFrom bs to fs) ≤ slotCount fs)
-    → length (valuesFrom bs at (record { code = k; unsigned = u; count = n } ∷ fs)) ≤ slotCount (record { code = k; unsigned = u; count = n } ∷ fs)
+few-step : (bs : List ℕ) (at : ℕ) (k : Role) (u : Bool) (n : Count) (fs : List Field) → ((to : ℕ) → length (valuesFrom bs to fs) ≤ slotCount fs)
+    → length (valuesFrom bs at (record { role = k; unsigned = u; count = n } ∷ fs)) ≤ slotCount (record { role = k; unsigned = u; count = n } ∷ fs)
 unfolding valuesFrom slotCount
 few-step bs at (Data s) u n fs h =
     let left = length bs - at in
@@ -45,7 +46,7 @@ few-step bs at (Move m) u n fs h = h (movedIn (length bs) m n at)
 pub values-few : (bs : List ℕ) (at : ℕ) (fs : List Field) → length (valuesFrom bs at fs) ≤ slotCount fs
 unfolding valuesFrom slotCount
 values-few bs at [] = omega arith
-values-few bs at (f ∷ fs) = few-step bs at (f .code) (f .unsigned) (f .count) fs (λ to. values-few bs to fs)
+values-few bs at (f ∷ fs) = few-step bs at (f .role) (f .unsigned) (f .count) fs (λ to. values-few bs to fs)
 
 -- ---- a reading sets no more slots than it is lent, nor than a call may be lent
 
@@ -110,7 +111,7 @@ module _ (xs area : List ℕ) (mark : ℕ) (at : List ℕ) where
   effect-few (ok vs) h z = h vs refl
   effect-few (refused why place) h z = no-number-zero why z
 
--- ---- by fields that stand in a run of so many bytes or numbers
+-- ---- by fields that stand in a run of `size` bytes or numbers
 
 module _ (size : ℕ) (o : Result (List Field)) (bs area : List ℕ) (mark : ℕ) (xs : List ℕ) where
   -- any slots will do in the place of ys, if they are as many

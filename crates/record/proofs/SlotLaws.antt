@@ -9,7 +9,8 @@ use Rattle.record.proofs.Tables.{drop-slots}
 use Rattle.record.specs.declared.slots.Slot.{Slot}
 use Rattle.record.specs.Table.{slotsOf, slotWidth}
 use Rattle.record.specs.Packing.{nextSlot}
-use Rattle.record.specs.Slots.{slotAt, slotSet}
+use Rattle.record.specs.Slots.{slotAt}
+use Rattle.record.specs.inside.Slots.{slotSet}
 
 -- the number at i + j, and those after it
 here : (ns : List ℕ) (i j : ℕ) → i + j < length ns → drop (i + j) ns ≡ getD ns (i + j) 0 ∷ drop (i + suc j) ns

@@ -6,12 +6,12 @@ use mathlib.Core.Bool.{Bool, true, false}
 use mathlib.Core.List.{List, [], _∷_}
 use lib.ListN.{length}
 use lib.Dec.{leb}
-use Rattle.layout.specs.declared.Code.{Code}
-use Rattle.layout.specs.declared.Code.the-variants.{Data, Move}
+use Rattle.layout.specs.declared.Role.{Role}
+use Rattle.layout.specs.declared.Role.the-variants.{Data, Move}
 use Rattle.layout.specs.declared.Count.{Count}
 use Rattle.layout.specs.declared.Field.{Field}
 use Rattle.layout.specs.Refusals.{if_then_else_, Result, ok, refused, _>>=_}
-use Rattle.layout.specs.Layout.{Step, space, field, bad, stepOf, extra, before, fieldsFrom, fieldsOf}
+use Rattle.layout.specs.Layout.{Step, space, field, bad, stepOf, stepExtra, stepThen, fieldsFrom, fieldsOf}
 use Rattle.layout.proofs.Laws.{bound, no-refusal, ok-inj}
 use Rattle.record.specs.Geometry.{bytesFor, itemsOf, movedIn}
 use Rattle.record.specs.Table.{Value}
@@ -19,7 +19,7 @@ use Rattle.record.specs.Reading.{stepsFrom, reads, stepsOf, readSteps, S
 
 -- ---- fields
 
-few-before : (s : Step) (r : Result (List Field)) (m : ℕ) → ((gs : List Field) → r ≡ ok gs → length gs ≤ m) → (fs : List Field) → before s r ≡ ok fs → length fs ≤ suc m
+few-before : (s : Step) (r : Result (List Field)) (m : ℕ) → ((gs : List Field) → r ≡ ok gs → length gs ≤ m) → (fs : List Field) → stepThen s r ≡ ok fs → length fs ≤ suc m
 few-before space r m h fs e = omega (arith, h fs e)
 few-before (field f n) r m h fs e =
     let (gs, is, same) = bound r (λ gs. ok (f ∷ gs)) fs e in
@@ -32,11 +32,11 @@ few-from packing at n [] fs e = subst (λ (fs : List Field). length fs ≤ 0) (o
 few-from packing at (suc n) (c ∷ cs) fs e = omega (arith, few-from packing (suc at) n cs fs e)
 few-from packing at zero (c ∷ cs) fs e =
     let s : Step = stepOf packing at c cs in
-    few-before s (fieldsFrom packing (suc at) (extra s) cs) (length cs) (λ gs is. few-from packing (suc at) (extra s) cs gs is) fs e
+    few-before s (fieldsFrom packing (suc at) (stepExtra s) cs) (length cs) (λ gs is. few-from packing (suc at) (stepExtra s) cs gs is) fs e
 
 -- ---- steps
 
-steps-step : (size at : ℕ) (k : Code) (u : Bool) (n : Count) (fs : List Field) → ((to : ℕ) → stepsFrom size to fs ≤ length fs) → stepsFrom size at (record { code = k; unsigned = u; count = n } ∷ fs) ≤ suc (length fs)
+steps-step : (size at : ℕ) (k : Role) (u : Bool) (n : Count) (fs : List Field) → ((to : ℕ) → stepsFrom size to fs ≤ length fs) → stepsFrom size at (record { role = k; unsigned = u; count = n } ∷ fs) ≤ suc (length fs)
 unfolding stepsFrom
 steps-step size at (Data s) u n fs h = go (leb (bytesFor s (itemsOf s n (size - at))) (size - at)) (h (at + bytesFor s (itemsOf s n (size - at))))
   where
@@ -48,7 +48,7 @@ steps-step size at (Move m) u n fs h = omega (arith, h (movedIn size m n at))
 steps-few : (size at : ℕ) (fs : List Field) → stepsFrom size at fs ≤ length fs
 unfolding stepsFrom
 steps-few size at [] = omega arith
-steps-few size at (f ∷ fs) = steps-step size at (f .code) (f .unsigned) (f .count) fs (λ to. steps-few size to fs)
+steps-few size at (f ∷ fs) = steps-step size at (f .role) (f .unsigned) (f .count) fs (λ to. steps-few size to fs)
 
 pub steps-within : StepsWithin
 unfolding readSteps fieldsOf

@@ -1,4 +1,5 @@
--- Laws of `storeAt`, and what a loop keeps that stores a run: byte by byte (`Put`), some a turn (`Front`), or one piece a turn (`Wrote`).
+-- Laws of `storeAt`, and what a loop keeps that stores a run: byte by byte (`Put`), some a turn (`Front`), or one piece
+-- a turn (`Wrote`).
 use mathlib.Core.Path.{_≡_, refl, sym, ap, _∙_}
 use mathlib.Core.List.{List, [], _∷_, _++_, reverse, reverse-cons, append-assoc, append-nil}
 use mathlib.Core.Logic.{⊎-elim}

@@ -1,4 +1,4 @@
--- Laws of slot tables: the slots are the numbers, so many to a slot; and what the kinds say of each other.
+-- Laws of slot tables: the slots are the numbers, `slotWidth` to a slot; and what the kinds say of each other.
 use Prim.Native.Nat.{ℕ, zero, suc, _+_, _*_, _/_, _%_, _≤_, _<_}
 use native.Mathlib.Nat.{eq-or-lt-of-le}
 use native.Mathlib.Omega.{arith}

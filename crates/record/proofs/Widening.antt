@@ -47,7 +47,7 @@ number-below b (d ∷ ds) h =
     let small : d < b = h .0 in
     rw pow-succ' (omega (arith, mul-le-mul-left b (number-below b ds (h .1))))
 
--- reading: the byte that fills an item ceilDiv to eight bytes
+-- reading: the byte that fills an item up to eight bytes
 unfoldable pub filler : ℕ → Bool → List ℕ → ℕ
 filler w unsigned ds = if unsigned || ltb (2 * number 256 ds) (256 ^ w) then 0 else 255
 

@@ -38,7 +38,8 @@ unfoldable pub number : ℕ → List ℕ → ℕ
 number b [] = 0
 number b (d ∷ ds) = d + b * number b ds
 
--- digits that stand lowest first, put highest first where `high` says so; and back
+-- digits turned round (true), from lowest first to highest first or from highest first to lowest first; or as they are
+-- (false)
 abbrev pub ordered : Bool → List ℕ → List ℕ
 ordered true ds = reverse ds
 ordered false ds = ds

@@ -4,18 +4,17 @@ use mathlib.Core.Bool.{Bool, true, false, _&&_}
 use mathlib.Core.List.{List}
 use lib.ListN.{length}
 use lib.Dec.{eqb, leb}
-use Rattle.layout.specs.declared.Motion.{Motion}
-use Rattle.layout.specs.declared.Motion.the-variants.{Skip, Back, Goto}
 use Rattle.layout.specs.declared.Shape.{Shape}
 use Rattle.layout.specs.declared.Shape.the-variants.{Text, Digits, Integers, Reals}
+use Rattle.layout.specs.declared.Motion.{Motion}
+use Rattle.layout.specs.declared.Motion.the-variants.{Skip, Back, Goto}
 use Rattle.layout.specs.declared.Count.{Count}
 use Rattle.layout.specs.declared.Count.the-variants.{Absent, Star, Times}
-use Rattle.layout.specs.Layout.{maxLayout}
-use Rattle.layout.specs.Words.{realSize}
+use Rattle.layout.specs.Layout.{maxLayout, realSize}
 use Rattle.record.specs.Bytes.{ceilDiv}
-use Rattle.record.specs.Table.{slotWidth, numberLimit, maxSlots, maxRecord, maxArea}
+use Rattle.record.specs.Table.{slotWidth, maxSlots, maxRecord, maxArea}
 
--- how many a count asks for where there are so many in all: 1 without a count (`@` is refused without one), all for `*`
+-- how many a count asks for where there are `all` in all: 1 without a count (`@` is refused without one), all for `*`
 abbrev pub amount : Count → ℕ → ℕ
 amount Absent all = 1
 amount Star all = all
@@ -32,31 +31,24 @@ abbrev pub perByte : Bool → ℕ
 perByte true = 2
 perByte false = 8
 
--- the bytes that n items of a field fill (01, Packing): eight binary or two hex digits to a byte, the last of which may be spare
+-- the bytes that n items of a field fill (01, Packing): eight binary or two hex digits to a byte, the last of which may
+-- be spare
 abbrev pub bytesFor : Shape → ℕ → ℕ
 bytesFor (Text pad) n = n
 bytesFor (Digits hex high) n = ceilDiv n (perByte hex)
 bytesFor (Integers w big) n = n * w
 bytesFor (Reals single big) n = n * realSize single
 
--- the items that so many bytes hold (01, Reading, `*`): all digits, and of integers and reals the whole ones
+-- the items that `left` bytes hold (01, Reading, `*`): all digits, and of integers and reals the whole ones
 abbrev pub itemsIn : Shape → ℕ → ℕ
 itemsIn (Text pad) left = left
 itemsIn (Digits hex high) left = left * perByte hex
 itemsIn (Integers w big) left = left / w
 itemsIn (Reals single big) left = left / realSize single
 
--- the items of a field where so many bytes are left
+-- the items of a field where `left` bytes are left
 abbrev pub itemsOf : Shape → Count → ℕ → ℕ
 itemsOf s n left = amount n (itemsIn s left)
-
--- Code counts items below this bound: no limit of 01, but above each count and each length that a slot can say, and far below `wordLimit`,
--- what a number of 64 bits holds.
-abbrev pub itemsLimit : ℕ
-itemsLimit = 2 * numberLimit
-
-abbrev pub wordLimit : ℕ
-wordLimit = 18446744073709551616
 
 -- ---- moves of the cursor
 
@@ -76,7 +68,7 @@ gotoIn highest n = amount n highest
 
 -- ---- what is lent keeps to its size, by lengths; where this does not hold, a call is refused with 1
 
--- layout, and record or output buffer
+-- the layout, and the record or the output buffer
 abbrev pub recordFits : ℕ → ℕ → Bool
 recordFits layout bytes = leb layout maxLayout && leb bytes maxRecord
 

@@ -3,7 +3,7 @@ pub mod Bytes
 pub mod Table
 pub mod Slots
 pub mod Geometry
-pub mod Cursor
 pub mod Packing
 pub mod Reading
 pub mod Order
+pub mod inside

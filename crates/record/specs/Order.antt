@@ -1,5 +1,6 @@
--- The order of the refusals (document 01, Numbers that come back): calls with two faults, each answered by the one whose check comes first. A slot is
--- written out as its four numbers: kind, start, length, position. All are one statement, `InOrder`, proved in proofs/Answered.antt.
+-- The order of the refusals (document 01, Numbers that come back): calls with two faults, each answered by the one
+-- whose check comes first. A slot is written out as its four numbers: kind, start, length, position. All are one
+-- statement, `InOrder`, proved in proofs/Answered.antt.
 use Prim.Native.Nat.{ℕ}
 use Prim.Native.String.{String}
 use mathlib.Core.Bool.{Bool, true, _&&_}
@@ -22,7 +23,8 @@ refusedBy a number place = eqb (a .number) number && eqb (a .first) place && eqb
 
 pub answered : Twofold → Bool
 unfolding pack read
-answered (packing layout slots area room number place) = refusedBy (pack (bytes layout) slots area (replicate room 0) .answer) number place
+answered (packing layout slots area room number place) =
+    refusedBy (pack (bytes layout) slots area (replicate room 0) .answer) number place
 answered (reading layout bs n size mark number place) =
     refusedBy (read (bytes layout) bs (replicate n 9) (replicate size 0) mark .answer) number place
 
@@ -68,6 +70,6 @@ order =
     ∷ reading "a" (65 ∷ []) 0 0 0 5 0
     ∷ []
 
--- THEY ARE IN ORDER
+-- ALL CALLS ARE ANSWERED IN ORDER
 abbrev pub InOrder : Type 0
 InOrder = T (allAnswered order)

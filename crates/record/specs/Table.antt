@@ -1,4 +1,4 @@
--- Slot tables (document 01, Slot tables): a run of slots, so many numbers to each, and a value area of bytes.
+-- Slot tables (document 01, Slot tables): a run of slots, `slotWidth` numbers to each, and a value area of bytes.
 use Prim.Native.Nat.{ℕ, _+_}
 use mathlib.Core.Bool.{Bool, _||_}
 use mathlib.Core.List.{List, [], _∷_, map}
@@ -13,7 +13,7 @@ use Rattle.record.specs.Bytes.{join, bigEndian, bigEndianIn}
 abbrev pub maxSlots : ℕ
 maxSlots = 64
 
--- the bytes of a record, and of the packer's output buffer
+-- the most bytes of a record, and of the packer's output buffer
 abbrev pub maxRecord : ℕ
 maxRecord = 32768
 
@@ -69,9 +69,9 @@ slotsOf (k ∷ s ∷ n ∷ p ∷ rest) = record { kind = k; start = s; len = n; 
 
 -- ---- values
 
--- What a set slot shows. Of kind 1 the items are the bytes of a string. Of kinds 2 and 3 each item is an integer, as the number below
--- 2 ^ 64 that its eight bytes make: a negative one is its two's complement. Of kind 4 each item is a double, by the number that its eight
--- bytes make (the crate `real`).
+-- What a set slot shows. Of kind 1 the items are the bytes of a string. Of kinds 2 and 3 each item is an integer, as
+-- the number below 2 ^ 64 that its eight bytes make: a negative one is its two's complement. Of kind 4 each item is a
+-- double, by the number that its eight bytes make (the crate `real`).
 pub record Value : Type 0 where
   pub kind : ℕ
   pub items : List ℕ
@@ -104,11 +104,13 @@ shown area s =
 
 -- ---- values put into a table: one after the other in the area, from the place `start` on, without gaps
 
--- each with the position at which its field began, the next of `at` (02, M-110)
+-- the numbers of the slots of values, each with the position at which its field began, the next of `at` (02, M-110)
 unfoldable pub slotNumbers : ℕ → List ℕ → List Value → List ℕ
 unfolding areaBytes
 slotNumbers start at [] = []
-slotNumbers start at (v ∷ vs) = v .kind ∷ start ∷ length (v .items) ∷ getD at 0 noPosition ∷ slotNumbers (start + length (areaBytes v)) (drop 1 at) vs
+slotNumbers start at (v ∷ vs) =
+    v .kind ∷ start ∷ length (v .items) ∷ getD at 0 noPosition
+    ∷ slotNumbers (start + length (areaBytes v)) (drop 1 at) vs
 
 unfoldable pub valueBytes : List Value → List ℕ
 unfolding areaBytes join

@@ -2,11 +2,12 @@
 ghost use mathlib.Core.Path.{_≡_};
 ghost use Prim.Native.Nat.{_+_, _≤_, _<_, min, max};
 ghost use Rattle.layout.specs.Refusals.{lineOf, numberOf};
-ghost use Rattle.layout.specs.Words.{FitCount};
+ghost use Rattle.layout.specs.inside.Parsing.{FitCount};
 ghost use Rattle.layout.specs.declared.Motion.the-variants.{Skip, Back, Goto};
-ghost use Rattle.record.specs.Geometry.{amount, wordLimit};
+ghost use Rattle.record.specs.Geometry.{amount};
+ghost use Rattle.record.specs.inside.Bounds.{u64Limit};
 ghost use Rattle.record.specs.Table.{numberLimit};
-ghost use Rattle.record.specs.Cursor.{past, moved, over, movedInside};
+ghost use Rattle.record.specs.inside.Cursor.{past, moved, over, movedInside};
 ghost use Rattle.record.specs.Packing.{accepted, refusal};
 use layout::Count;
 use layout::Refusal;
@@ -35,7 +36,8 @@ pub struct Answer {
     pub second: u32,
 }
 
-// What a reading answers: the three numbers, and its steps, the fields that it went through, up to one that had too few bytes and with it.
+// What a reading answers: the three numbers, and its steps, the fields that it went through, up to one that had too few
+// bytes and with it.
 pub struct ReadAnswer {
     pub answer: Answer,
     pub steps: u32,
@@ -47,14 +49,14 @@ fn line_of(why: Refusal) -> u8
 {
     match why {
         Refusal::BadSize => 0,
-        Refusal::UnknownType => 1,
-        Refusal::CountTooLarge => 2,
-        Refusal::CountMisused => 3,
-        Refusal::WrongSlots => 4,
+        Refusal::BadType => 1,
+        Refusal::BadCount => 2,
+        Refusal::BadMove => 3,
+        Refusal::BadSlots => 4,
         Refusal::NotSet => 5,
         Refusal::BadSlot => 6,
         Refusal::WrongKind => 7,
-        Refusal::WrongAmount => 8,
+        Refusal::BadList => 8,
         Refusal::BadDigit => 9,
         Refusal::NoRoom => 10,
         Refusal::BadSheet => 11,
@@ -65,7 +67,7 @@ fn line_of(why: Refusal) -> u8
     }
 }
 
-// Its number.
+// The number of a refusal.
 fn number_of(why: Refusal) -> u32
     ensures { λ r. ⌜ r ≡ numberOf why ⌝ }
 {
@@ -114,7 +116,7 @@ fn most(a: usize, b: usize) -> usize
     if a < b { b } else { a }
 }
 
-// How many a count asks for where there are so many in all.
+// How many a count asks for where there are `all` in all.
 pub fn amount(n: Count, all: usize) -> usize
     ensures { λ r. ⌜ r ≡ amount n all ⌝ }
 {
@@ -126,16 +128,16 @@ pub fn amount(n: Count, all: usize) -> usize
 }
 
 impl Cursor {
-    // At the start of a record that has so many bytes; for packing none.
+    // At the start of a record of `size` bytes; for packing 0.
     pub fn new(size: usize) -> Cursor
         ensures { λ r. ⌜ r ≡ record { at = 0; end = size } ⌝ }
     {
         Cursor { at: 0, end: size }
     }
 
-    // Past so many bytes that are stored here.
+    // Past `bytes` bytes that are stored here.
     pub fn store(self, bytes: usize) -> Cursor
-        requires { ⌜ self .at + bytes < wordLimit ⌝ }
+        requires { ⌜ self .at + bytes < u64Limit ⌝ }
         ensures { λ r. ⌜ r ≡ past self bytes ⌝ }
     {
         let at = self.at + bytes;
@@ -145,9 +147,9 @@ impl Cursor {
         }
     }
 
-    // Past so many bytes that are read here.
+    // Past `bytes` bytes that are read here.
     pub fn load(self, bytes: usize) -> Cursor
-        requires { ⌜ self .at + bytes < wordLimit ⌝ }
+        requires { ⌜ self .at + bytes < u64Limit ⌝ }
         ensures { λ r. ⌜ r ≡ over self bytes ⌝ }
     {
         Cursor {
@@ -156,7 +158,7 @@ impl Cursor {
         }
     }
 
-    // `X`: in packing and in reading.
+    // `X` in packing and in reading: back, and no further than to the start.
     pub fn back(self, n: Count) -> Cursor
         ensures { λ r. ⌜ r ≡ moved self Back n ⌝ }
     {

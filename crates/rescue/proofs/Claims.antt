@@ -16,22 +16,22 @@ use Rattle.record.specs.Table.{slotsOf, slotWidth, maxSlots}
 use Rattle.record.specs.Geometry.{tableFits}
 use Rattle.record.specs.Reading.{Read}
 use Rattle.record.proofs.Tables.{slots-take, length-slots}
-use Rattle.sheet.specs.Entries.{Entry, bodyBytes, valueBytes, entriesIn}
-use Rattle.sheet.specs.Sheet.{widthOf, versionFor, headerSize, maxSheet, sheetBytes, entryOf, entriesOf, slotFits, slotsFit, slotNumbers, versionOf, versionKnown, widthIn, entriesAt, putInto, read, write}
+use Rattle.sheet.specs.Entries.{Entry, bodyBytes, entryValues, entriesIn}
+use Rattle.sheet.specs.Sheet.{widthOf, versionFor, headerSize, maxSheet, sheetBytes, entryOf, entriesOf, slotWritable, slotsWritable, entriesNumbers, versionOf, versionKnown, widthIn, entriesAt, putEntries, readSheet, writeSheet}
 use Rattle.sheet.specs.Claims.{seen, sheetOf, Stored}
-use Rattle.sheet.specs.Steps.{lentFits, tableSheet}
+use Rattle.sheet.specs.inside.Steps.{sheetLentFits, tableSheet}
 use Rattle.sheet.proofs.Entries.{AllSound}
 use Rattle.sheet.proofs.Tables.{slots-sound, same-seen, length-slot-numbers, front-few}
 use Rattle.sheet.proofs.Calls.{lengths, lent, Wrote, wrote, wrote-short, write-done, header-there, ReadIt, read-it, read-put}
 use Rattle.sheet.proofs.Claims.{put-entries, put-fit, length-entries, true-is, version-known, sheet-is, table-kept}
-use Rattle.rescue.specs.fill.Rescue.{keptIn, droppedOf, filledUp, saved, Outcome, keeping, rescue}
-use Rattle.rescue.specs.Claims.{allKept, SoundRead, WrittenSaved, setBy, RescuedSaved, entriesFor, CutStored, SavesFront, CutSaved}
+use Rattle.rescue.specs.Rescue.{keptIn, droppedOf, filledUp, saved, Outcome, keeping, rescue}
+use Rattle.rescue.specs.Claims.{allKept, SoundRead, WrittenSaved, slotsSetBy, RescuedSaved, entriesFor, CutStored, SavesFront, CutSaved}
 use Rattle.rescue.proofs.fill.Calls.{rescue-put, rescued-it}
 use Rattle.rescue.proofs.fill.Filled.{filled-area, filled-front, filled-slots, filled-none, length-filled}
 use Rattle.rescue.proofs.Cuts.{wholeBy, whole-few, cut-entries, cut-exactly}
 
--- a table has at most so many slots
-few-legs : (slots area sheet mark legs : ℕ) → lentFits slots area sheet mark ≡ true → legs ≤ slots / slotWidth → lentFits slots area sheet mark && leb legs maxSlots ≡ true
+-- no more legs than slots are no more legs than a table may have
+few-legs : (slots area sheet mark legs : ℕ) → sheetLentFits slots area sheet mark ≡ true → legs ≤ slots / slotWidth → sheetLentFits slots area sheet mark && leb legs maxSlots ≡ true
 few-legs slots area sheet mark legs sizes h = rw (sizes, le-leb legs maxSlots (omega (arith, lent slots area sheet mark sizes .lengths .table)))
 
 -- ---- a sound sheet
@@ -42,16 +42,16 @@ module _ (sheet slots area : List ℕ) (mark : ℕ) (got : ReadIt sheet slots ar
   none-dropped = rw (le-leb (headerSize (widthIn sheet)) (length sheet) (header-there (widthIn sheet) sheet (got .opened .header)), got .whole) (omega arith)
 
   -- the entries of the sheet are all kept
-  all-kept : keeping sheet (length (entriesAt (widthIn sheet) sheet)) slots area mark (entriesAt (widthIn sheet) sheet) ≡ allKept (putInto slots area mark (entriesAt (widthIn sheet) sheet))
-  unfolding putInto
+  all-kept : keeping sheet (length (entriesAt (widthIn sheet) sheet)) slots area mark (entriesAt (widthIn sheet) sheet) ≡ allKept (putEntries slots area mark (entriesAt (widthIn sheet) sheet))
+  unfolding putEntries
   all-kept = let none : length (entriesAt (widthIn sheet) sheet) - length (entriesAt (widthIn sheet) sheet) ≡ 0 = omega arith in rw (filled-none (entriesAt (widthIn sheet) sheet), none-dropped, none)
 
 pub sound-read : SoundRead
-unfolding putInto keptIn
+unfolding putEntries keptIn
 sound-read sheet slots area mark h =
     let got : ReadIt sheet slots area mark = read-it sheet slots area mark h in
     let es : List Entry = entriesAt (widthIn sheet) sheet in
-    let is : read sheet slots area mark ≡ putInto slots area mark es = sym (read-put sheet slots area mark (got .opened) (got .whole) (got .needed) (got .rows) (got .room)) in
+    let is : readSheet sheet slots area mark ≡ putEntries slots area mark es = sym (read-put sheet slots area mark (got .opened) (got .whole) (got .needed) (got .rows) (got .room)) in
     let kept : keptIn (widthIn sheet) (length es) sheet ≡ es = take-length es in
     let sizes = few-legs (length slots) (length area) (length sheet) mark (length es) (got .opened .sizes) (omega (arith, got .rows, length-slots slots)) in
     let done : keeping sheet (length es) slots area mark (keptIn (widthIn sheet) (length es) sheet) ≡ rescue sheet (length es) slots area mark =
@@ -61,32 +61,32 @@ sound-read sheet slots area mark h =
 -- ---- a sheet that was written
 
 pub written-saved : WrittenSaved
-unfolding putInto
+unfolding putEntries
 written-saved slots area buffer table values mark s =
-    let sheet : List ℕ = sheetOf (write slots area buffer) in
+    let sheet : List ℕ = sheetOf (writeSheet slots area buffer) in
     let k = table-kept slots area buffer table values mark s in
-    let r : Read = read sheet table values mark in
+    let r : Read = readSheet sheet table values mark in
     let as-read : rescue sheet (length (slotsOf slots)) table values mark ≡ record { answer = saved (length (slotsOf slots)) 0 0; slots = r .slots; area = r .area } =
     rw (k .count) at (sound-read sheet table values mark (ap (λ (r : Read). r .answer .number) (k .effect))) in
     record { answer = ap (λ (o : Outcome). o .answer) as-read; shows = rw as-read (k .shows) }
 
 -- a rescue leaves as many slots as there are legs
 set-legs : (sheet : List ℕ) (legs : ℕ) (slots area : List ℕ) (mark : ℕ) → rescue sheet legs slots area mark .answer .number ≡ 0
-    → length (slotsOf (setBy legs (rescue sheet legs slots area mark))) ≡ legs
+    → length (slotsOf (slotsSetBy legs (rescue sheet legs slots area mark))) ≡ legs
 unfolding keptIn
 set-legs sheet legs slots area mark h =
     let p = rescued-it sheet legs slots area mark h in
     let es : List Entry = keptIn (widthIn sheet) legs sheet in
     let few : length es ≤ legs = rw length-take (omega arith) in
     let done = rescue-put sheet legs slots area mark (p .sizes) (p .versions) (p .rows) (p .room) in
-    let is : setBy legs (rescue sheet legs slots area mark) ≡ slotNumbers mark (filledUp legs es) = ap (setBy legs) (sym done) ∙ filled-slots legs es slots area mark few in
-    let long : length (setBy legs (rescue sheet legs slots area mark)) ≡ slotWidth * legs = ap length is ∙ length-slot-numbers mark (filledUp legs es) ∙ rw (length-filled legs es few) in
-    omega (arith, length-slots (setBy legs (rescue sheet legs slots area mark)), long)
+    let is : slotsSetBy legs (rescue sheet legs slots area mark) ≡ entriesNumbers mark (filledUp legs es) = ap (slotsSetBy legs) (sym done) ∙ filled-slots legs es slots area mark few in
+    let long : length (slotsSetBy legs (rescue sheet legs slots area mark)) ≡ slotWidth * legs = ap length is ∙ length-slot-numbers mark (filledUp legs es) ∙ rw (length-filled legs es few) in
+    omega (arith, length-slots (slotsSetBy legs (rescue sheet legs slots area mark)), long)
 
 pub rescued-saved : RescuedSaved
 rescued-saved sheet legs slots area mark buffer table values mark′ a =
     let o : Outcome = rescue sheet legs slots area mark in
-    rw (set-legs sheet legs slots area mark (a .rescuing)) at (written-saved (setBy legs o) (o .area) buffer table values mark′ (a .stored))
+    rw (set-legs sheet legs slots area mark (a .rescuing)) at (written-saved (slotsSetBy legs o) (o .area) buffer table values mark′ (a .stored))
 
 -- ---- a written sheet, cut
 
@@ -95,12 +95,12 @@ sound-take zero es s = tt
 sound-take (suc m) [] s = tt
 sound-take (suc m) (e ∷ es) s = (s .0, sound-take m es (s .1))
 
-fits-take : (area : List ℕ) (i m : ℕ) (ts : List Slot) → slotsFit area i ts ≡ ok tt → slotsFit area i (take m ts) ≡ ok tt
-unfolding slotsFit
+fits-take : (area : List ℕ) (i m : ℕ) (ts : List Slot) → slotsWritable area i ts ≡ ok tt → slotsWritable area i (take m ts) ≡ ok tt
+unfolding slotsWritable
 fits-take area i zero ts h = refl
 fits-take area i (suc m) [] h = refl
 fits-take area i (suc m) (t ∷ ts) h =
-    let d = demanded (slotFits (length area) t) BadSlot i (λ _. slotsFit area (suc i) ts) tt h in
+    let d = demanded (slotWritable (length area) t) BadSlot i (λ _. slotsWritable area (suc i) ts) tt h in
     rw (d .0) (fits-take area (suc i) m ts (d .1))
 
 entries-take : (area : List ℕ) (m : ℕ) (ts : List Slot) → entriesOf area (take m ts) ≡ take m (entriesOf area ts)
@@ -161,10 +161,10 @@ module _ {slots area buffer table values : List ℕ} {mark : ℕ} {k : ℕ} (s :
   n = length (slotsOf slots)
 
   cut : List ℕ
-  cut = take k (sheetOf (write slots area buffer))
+  cut = take k (sheetOf (writeSheet slots area buffer))
 
   -- the sheet is that of the table
-  sheet-whole : sheetOf (write slots area buffer) ≡ tableSheet slots area
+  sheet-whole : sheetOf (writeSheet slots area buffer) ≡ tableSheet slots area
   sheet-whole =
       ap sheetOf (sym (write-done slots area buffer (passed .sizes) (passed .fits) (passed .room)))
       ∙ take-append-seam (tableSheet slots area) (drop (length (tableSheet slots area)) buffer)
@@ -181,16 +181,16 @@ module _ {slots area buffer table values : List ℕ} {mark : ℕ} {k : ℕ} (s :
       ∙ ap (take n) (cut-entries (widthOf v) v es sound short k)
       ∙ take-all n front (omega (arith, front-long, few, length-entries area slots))
 
-  sizes : lentFits (length table) (length values) (length cut) mark ≡ true
+  sizes : sheetLentFits (length table) (length values) (length cut) mark ≡ true
   unfolding cut
   sizes =
-      let sheet : List ℕ = sheetOf (write slots area buffer) in
+      let sheet : List ℕ = sheetOf (writeSheet slots area buffer) in
       let start : mark ≤ length values = omega (arith, s .room) in
       let small : length sheet ≤ maxSheet = rw sheet-whole (omega (arith, passed .room, lengths (length slots) (length area) (length buffer) (passed .sizes) .size)) in
       let short : length (take k sheet) ≤ maxSheet = rw length-take (omega arith) in
       rw (true-is (tableFits (length table) (length values)) (s .sizes), le-leb (length (take k sheet)) maxSheet short, le-leb mark (length values) start)
 
-  room : mark + length (valueBytes front) ≤ length values
+  room : mark + length (entryValues front) ≤ length values
   unfolding front m es v wholeBy
   room = s .room
 
@@ -204,18 +204,18 @@ module _ {slots area buffer table values : List ℕ} {mark : ℕ} {k : ℕ} (s :
   cut-shows : map (seen (rescue cut n table values mark .area)) (take m (slotsOf (rescue cut n table values mark .slots))) ≡ map (seen area) (take m (slotsOf slots))
   unfolding front es
   cut-shows =
-      let r : Read = putInto table values mark front in
-      let f : Read = putInto table values mark (filledUp n front) in
-      let set : take m (slotsOf (f .slots)) ≡ slotsOf (slotNumbers mark front) =
+      let r : Read = putEntries table values mark front in
+      let f : Read = putEntries table values mark (filledUp n front) in
+      let set : take m (slotsOf (f .slots)) ≡ slotsOf (entriesNumbers mark front) =
       sym (slots-take m (f .slots)) ∙ ap slotsOf (ap (λ (i : ℕ). take (slotWidth * i) (f .slots)) (sym front-long) ∙ filled-front n front table values mark) in
       let same : f .area ≡ r .area = filled-area n front table values mark in
       rw (cut-effect, set, same)
-      (same-seen (r .area) area (slotsOf (slotNumbers mark front)) (take m (slotsOf slots))
+      (same-seen (r .area) area (slotsOf (entriesNumbers mark front)) (take m (slotsOf slots))
       (put-fit table values mark front front-sound room)
       (fits-take area 0 m (slotsOf slots) (passed .fits))
       (put-entries table values mark front front-sound room ∙ sym (entries-take area m (slotsOf slots))))
 
-  saves-front : SavesFront slots area table values mark k (take k (sheetOf (write slots area buffer)))
+  saves-front : SavesFront slots area table values mark k (take k (sheetOf (writeSheet slots area buffer)))
   unfolding m front es n cut v wholeBy
   saves-front =
       record {

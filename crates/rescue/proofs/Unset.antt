@@ -1,4 +1,5 @@
--- A rescue looks at the number of the slots that it is lent, and not at what they hold: it sets one for each leg, and the others stay.
+-- A rescue looks at the number of the slots that it is lent, and not at what they hold: it sets one for each leg, and
+-- the others stay.
 use Prim.Native.Nat.{ℕ, _*_, _≤_}
 use native.Mathlib.Omega.{arith}
 use mathlib.Core.Path.{_≡_, refl, sym, ap, _∙_}
@@ -12,10 +13,10 @@ use Rattle.record.specs.Bytes.{storeAt}
 use Rattle.record.specs.Table.{slotWidth}
 use Rattle.record.proofs.Tables.{length-slots}
 use Rattle.sheet.specs.Entries.{Entry}
-use Rattle.sheet.specs.Sheet.{widthIn, putInto}
+use Rattle.sheet.specs.Sheet.{widthIn, putEntries}
 use Rattle.sheet.proofs.Unset.{set-over}
 use Rattle.rescue.specs.declared.fill.Rescued.{Rescued}
-use Rattle.rescue.specs.fill.Rescue.{keptIn, filledUp, Outcome, keeping, rescues, rescueEffect, rescue}
+use Rattle.rescue.specs.Rescue.{keptIn, filledUp, Outcome, keeping, rescues, rescueEffect, rescue}
 use Rattle.rescue.proofs.fill.Calls.{rescue-put, rescued-it}
 use Rattle.rescue.proofs.fill.Filled.{length-filled}
 
@@ -41,10 +42,10 @@ module _ (sheet : List ℕ) (legs : ℕ) (area : List ℕ) (mark : ℕ) (xs : Li
 
   module _ (ys : List ℕ) where
     keeping-over : (es : List Entry) → length es ≤ legs → keeping sheet legs ys area mark es ≡ over legs ys (keeping sheet legs xs area mark es)
-    unfolding putInto
+    unfolding putEntries
     keeping-over es few =
-        let put : List ℕ = putInto xs area mark (filledUp legs es) .slots in
-        let set : putInto ys area mark (filledUp legs es) .slots ≡ storeAt ys 0 (take (legs * slotWidth) put) =
+        let put : List ℕ = putEntries xs area mark (filledUp legs es) .slots in
+        let set : putEntries ys area mark (filledUp legs es) .slots ≡ storeAt ys 0 (take (legs * slotWidth) put) =
         set-over xs ys area mark (filledUp legs es) ∙ ap (λ (n : ℕ). storeAt ys 0 (take (n * slotWidth) put)) (length-filled legs es few) in
         ap (λ (s : List ℕ). record { answer = keeping sheet legs ys area mark es .answer; slots = s; area = keeping sheet legs ys area mark es .area }) set
 

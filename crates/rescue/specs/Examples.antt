@@ -5,25 +5,26 @@ use mathlib.Core.List.{List, [], _∷_, _++_}
 use lib.ListN.{length, take, replicate}
 use Rattle.layout.specs.Quoted.{bytes}
 use Rattle.record.specs.Table.{slotWidth}
-use Rattle.sheet.specs.Examples.{same, unset, okSheet, okArea, set, unsetSlots}
-use Rattle.rescue.specs.fill.Rescue.{Outcome, rescue}
+use Rattle.sheet.specs.Examples.{same, notSet, okSheet, okArea, set, unsetSlots}
+use Rattle.rescue.specs.Rescue.{Outcome, rescue}
 
 -- ---- how an example is written
 
 pub data Example : Type 0 where
-  -- sheet, legs, how many slots are lent, bytes of the area, mark; entries kept, bytes dropped, the numbers of the slots up to `legs`, and the bytes put into the area
+  -- sheet, legs, how many slots are lent, bytes of the area, mark; entries kept, bytes dropped, the numbers of the
+  -- slots up to `legs`, and the bytes put into the area
   rescuing : List ℕ → ℕ → ℕ → ℕ → ℕ → ℕ → ℕ → List ℕ → List ℕ → Example
   -- sheet, legs, how many slots are lent, bytes of the area, mark; the answer's number
   notRescued : List ℕ → ℕ → ℕ → ℕ → ℕ → ℕ → Example
 
--- ---- what it says
+-- ---- what an example says
 
 leaves : Outcome → List ℕ → List ℕ → List ℕ → Bool
 unfolding same
 leaves o answer slots area =
     same (o .answer .number ∷ o .answer .first ∷ o .answer .second ∷ o .answer .third ∷ []) answer && same (o .slots) slots && same (o .area) area
 
--- an area is lent full of bytes 170, a table full of numbers 9
+-- the call does what an example says; an area is lent full of bytes 170, a table full of numbers 9
 pub holds : Example → Bool
 unfolding leaves rescue unsetSlots
 holds (rescuing sheet legs n size mark kept dropped table values) =
@@ -42,7 +43,7 @@ all (e ∷ es) = holds e && all es
 -- ---- the list
 
 unfoldable pub examples : List Example
-unfolding okSheet okArea unset set unsetSlots
+unfolding okSheet okArea notSet set unsetSlots
 examples =
     -- M-100's own sheet, whole, and cut inside its last, its second and its first entry
     rescuing okSheet 3 4 20 5 3 0 (set 0 0 0 (set 1 5 2 (set 2 7 1 []))) okArea
@@ -79,5 +80,5 @@ examples =
     ∷ rescuing (2 ∷ 0 ∷ 0 ∷ 0 ∷ 0 ∷ []) 2 3 20 5 0 0 [] []
     ∷ rescuing (2 ∷ 0 ∷ 0 ∷ 0 ∷ []) 2 3 20 5 0 4 [] []
     -- 64 legs, and a sheet of 65 entries
-    ∷ rescuing (1 ∷ 0 ∷ 195 ∷ unset 65) 64 64 0 0 64 3 (unsetSlots 64) []
+    ∷ rescuing (1 ∷ 0 ∷ 195 ∷ notSet 65) 64 64 0 0 64 3 (unsetSlots 64) []
     ∷ []

@@ -1,4 +1,5 @@
--- What a rescue of a damaged sheet (document 02, M-109; module `fill` defines it) gives: Examples computes worked ones; Claims states what is kept.
-pub mod Examples
+-- Rescuing a damaged sheet (02, M-109): the definition, what is claimed of it, worked examples.
+pub mod Rescue
 pub mod Claims
-pub mod fill
+pub mod Examples
+pub mod inside

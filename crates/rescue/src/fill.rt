@@ -1,5 +1,6 @@
-// What a rescue (crate rescue) does once sizes, version and slots are found good: what is whole at the front of a damaged sheet goes into the
-// table, and the slots after it are blanked. The first pass measures what is kept, the second writes. So a refusal writes nothing.
+// What a rescue (crate rescue) does once sizes, version and slots are found good: what is whole at the front of a
+// damaged sheet goes into the table, and the slots after it are cleared. The first pass measures what is kept, the
+// second writes. So a refusal writes nothing.
 ghost use mathlib.Core.Path.{_≡_};
 ghost use Prim.Native.Nat.{_*_, _≤_, _<_};
 ghost use lib.ListN.{length};
@@ -7,12 +8,13 @@ ghost use Rattle.layout.specs.Lent.{before, after};
 ghost use Rattle.record.specs.Bytes.{storeAt};
 ghost use Rattle.record.specs.Table.{slotWidth, maxSlots, integerSize};
 ghost use Rattle.sheet.specs.Sheet.{widthIn, headerSize, maxSheet};
-ghost use Rattle.rescue.specs.fill.Rescue.{saved, refusal, rescue};
-ghost use Rattle.rescue.specs.fill.Steps.{Ready, blanks, Blankable};
+ghost use Rattle.rescue.specs.Rescue.{saved, rescueRefused, rescue};
+ghost use Rattle.rescue.specs.inside.Steps.{RescueReady, clearedNumbers, Clearable};
 use layout::Refusal;
 use record::Answer;
 
-// What a rescue answers: 0, entries kept, slots blanked and bytes dropped; or the number of a refusal, its place, 0 and 0.
+// What a rescue answers: 0, entries kept, slots cleared and bytes dropped; or the number of a refusal, its place, 0 and
+// 0.
 pub struct Rescued {
     pub number: u32,
     pub first: u32,
@@ -22,7 +24,7 @@ pub struct Rescued {
 
 impl Rescued {
     pub fn refused(why: Refusal) -> Rescued
-        ensures { λ r. ⌜ r ≡ refusal why 0 ⌝ }
+        ensures { λ r. ⌜ r ≡ rescueRefused why 0 ⌝ }
     {
         let a = Answer::refused(why, 0);
         Rescued {
@@ -33,23 +35,23 @@ impl Rescued {
         }
     }
 
-    fn saved(kept: usize, blanked: usize, dropped: usize) -> Rescued
-        requires { ⌜ (kept ≤ maxSlots) × (blanked ≤ maxSlots) × (dropped ≤ maxSheet) ⌝ }
-        ensures { λ r. ⌜ r ≡ saved kept blanked dropped ⌝ }
+    fn saved(kept: usize, cleared: usize, dropped: usize) -> Rescued
+        requires { ⌜ (kept ≤ maxSlots) × (cleared ≤ maxSlots) × (dropped ≤ maxSheet) ⌝ }
+        ensures { λ r. ⌜ r ≡ saved kept cleared dropped ⌝ }
     {
         Rescued {
             number: 0,
             first: kept as u32,
-            second: blanked as u32,
+            second: cleared as u32,
             third: dropped as u32,
         }
     }
 }
 
-// Blanks n slots from number k on.
-fn blank(slots: &mut [u32], k: usize, n: usize)
-    requires { ⌜ Blankable (now slots) k n ⌝ }
-    ensures { λ _. ⌜ after slots ≡ storeAt (before slots) (slotWidth * k) (blanks n) ⌝ }
+// Clears n slots from number k on.
+fn clear(slots: &mut [u32], k: usize, n: usize)
+    requires { ⌜ Clearable (now slots) k n ⌝ }
+    ensures { λ _. ⌜ after slots ≡ storeAt (before slots) (slotWidth * k) (clearedNumbers n) ⌝ }
 {
     let mut i: usize = 0;
     while i < n {
@@ -58,7 +60,7 @@ fn blank(slots: &mut [u32], k: usize, n: usize)
     }
 }
 
-// A sheet without a whole header: nothing is kept, and all is dropped.
+// Rescues a sheet without a whole header: nothing is kept, and all is dropped.
 pub fn rescue_nothing(
     sheet: &[u8],
     legs: usize,
@@ -66,14 +68,16 @@ pub fn rescue_nothing(
     area: &mut [u8],
     mark: usize,
 ) -> Rescued
-    requires { ⌜ Ready (now sheet) legs (now slots) (now area) mark × (length (now sheet) < headerSize (widthIn (now sheet))) ⌝ }
-    ensures { λ r. ⌜ record { answer = r; slots = after slots; area = after area } ≡ rescue (before sheet) legs (before slots) (before area) mark ⌝ }
+    requires { ⌜ RescueReady (now sheet) legs (now slots) (now area) mark
+        × (length (now sheet) < headerSize (widthIn (now sheet))) ⌝ }
+    ensures { λ r. ⌜ record { answer = r; slots = after slots; area = after area }
+        ≡ rescue (before sheet) legs (before slots) (before area) mark ⌝ }
 {
-    blank(slots, 0, legs);
+    clear(slots, 0, legs);
     Rescued::saved(0, legs, sheet.len())
 }
 
-// A sheet with a header, whatever that says; w is the width of its lengths.
+// Rescues a sheet with a whole header, whatever that says; w is the width of its lengths.
 pub fn rescue_entries(
     sheet: &[u8],
     w: usize,
@@ -82,14 +86,16 @@ pub fn rescue_entries(
     area: &mut [u8],
     mark: usize,
 ) -> Rescued
-    requires { ⌜ Ready (now sheet) legs (now slots) (now area) mark × (w ≡ widthIn (now sheet)) × (w ≤ integerSize) × (headerSize w ≤ length (now sheet)) ⌝ }
-    ensures { λ r. ⌜ record { answer = r; slots = after slots; area = after area } ≡ rescue (before sheet) legs (before slots) (before area) mark ⌝ }
+    requires { ⌜ RescueReady (now sheet) legs (now slots) (now area) mark × (w ≡ widthIn (now sheet))
+        × (w ≤ integerSize) × (headerSize w ≤ length (now sheet)) ⌝ }
+    ensures { λ r. ⌜ record { answer = r; slots = after slots; area = after area }
+        ≡ rescue (before sheet) legs (before slots) (before area) mark ⌝ }
 {
     let x = sheet_read::check::measure(sheet, w, legs);
     if area.len() - mark < x.values {
         return Rescued::refused(Refusal::NoRoom);
     }
     sheet_read::fill::fill(sheet, w, x.entries, slots, area, mark);
-    blank(slots, x.entries, legs - x.entries);
+    clear(slots, x.entries, legs - x.entries);
     Rescued::saved(x.entries, legs - x.entries, sheet.len() - x.end)
 }

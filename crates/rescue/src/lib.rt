@@ -1,23 +1,23 @@
-// Rescuing a damaged sheet (document 02, M-109 and M-111): what is whole at its front goes into the table, and the slots after it are blanked.
-// Here are the tests before that; rescue_fill does it.
+// Rescuing a damaged sheet (document 02, M-109 and M-111): what is whole at its front goes into the table, and the
+// slots after it are cleared. Here are the tests before that; `fill` does it.
 ghost use mathlib.Core.Path.{_≡_};
 ghost use Prim.Native.Nat.{_+_, _≤_};
 ghost use lib.ListN.{length};
 ghost use lib.Dec.{leb};
 ghost use Rattle.layout.specs.Lent.{before, after};
 ghost use Rattle.record.specs.Table.{integerSize};
-ghost use Rattle.rescue.specs.fill.Rescue.{rescue};
-ghost use Rattle.rescue.specs.fill.Steps.{sizesFit};
+ghost use Rattle.rescue.specs.Rescue.{rescue};
+ghost use Rattle.rescue.specs.inside.Steps.{rescueSizesFit};
 use fill::Rescued;
 use layout::Refusal;
 use sheet::lengths;
 
-// Entry by entry.
+// The entries put in, one after the other.
 pub mod fill;
 
-// Not number 1, by the lengths.
+// Number 1 is not given, by the lengths.
 fn sizes_fit(slots: usize, area: usize, sheet: usize, mark: usize, legs: usize) -> bool
-    ensures { λ r. ⌜ r ≡ sizesFit slots area sheet mark legs ⌝ }
+    ensures { λ r. ⌜ r ≡ rescueSizesFit slots area sheet mark legs ⌝ }
 {
     if !sheet::lent_fits(slots, area, sheet, mark) {
         return false;
@@ -33,10 +33,12 @@ fn has_header(sheet: &[u8], w: usize) -> bool
     w + 1 <= sheet.len()
 }
 
-// Keeps the whole entries at the front of a sheet, at most as many as there are legs: sets their slots, puts their values into the area from
-// the mark on, and blanks the other slots up to the number of legs. A refusal changes nothing.
+// Keeps the whole entries at the front of a sheet, at most as many as there are legs: sets their slots, puts their
+// values into the area from the mark on, and clears the other slots up to the number of legs. A refusal changes
+// nothing.
 pub fn rescue(sheet: &[u8], legs: usize, slots: &mut [u32], area: &mut [u8], mark: usize) -> Rescued
-    ensures { λ r. ⌜ record { answer = r; slots = after slots; area = after area } ≡ rescue (before sheet) legs (before slots) (before area) mark ⌝ }
+    ensures { λ r. ⌜ record { answer = r; slots = after slots; area = after area }
+        ≡ rescue (before sheet) legs (before slots) (before area) mark ⌝ }
 {
     if !sizes_fit(slots.len(), area.len(), sheet.len(), mark, legs) {
         return Rescued::refused(Refusal::BadSize);
@@ -46,7 +48,7 @@ pub fn rescue(sheet: &[u8], legs: usize, slots: &mut [u32], area: &mut [u8], mar
         return Rescued::refused(Refusal::BadVersion);
     }
     if slots.len() / record::SLOT_WIDTH < legs {
-        return Rescued::refused(Refusal::WrongSlots);
+        return Rescued::refused(Refusal::BadSlots);
     }
     let w = lengths::width_of(v);
     if !has_header(sheet, w) {

@@ -1,4 +1,5 @@
--- A call that passes each test, in the order of its definition, is accepted with its result; and what is accepted has passed each test.
+-- A call that passes each test, in the order of its definition, is accepted with its result; and what is accepted has
+-- passed each test.
 use Prim.Native.Nat.{ℕ, _+_, _≤_}
 use mathlib.Core.Path.{_≡_, refl, ap, _∙_}
 use mathlib.Core.Bool.{Bool, true, false, _&&_}
@@ -9,7 +10,7 @@ use lib.Dec.{T, leb, eqb}
 use borrow.Author.Tests.{le-leb, eq-eqb, leb-true, eqb-true}
 use Rattle.layout.specs.declared.Field.{Field}
 use Rattle.layout.specs.Layout.{fieldsOf, slotCount}
-use Rattle.layout.specs.declared.Refusal.the-variants.{BadSize, WrongSlots, NoRoom}
+use Rattle.layout.specs.declared.Refusal.the-variants.{BadSize, BadSlots, NoRoom}
 use Rattle.layout.specs.Refusals.{Result, ok, refused}
 use Rattle.layout.proofs.Laws.{bound, demanded, ok-inj, no-number-zero}
 use Rattle.record.specs.Table.{slotsOf, valueBytes}
@@ -67,7 +68,7 @@ module _ (text slots area output : List ℕ) where
   packs-passed bs e =
       let (sizes, e₁) = demanded (sizesFit text slots output area) BadSize 0 _ bs e in
       let (fs, fields, e₂) = bound (fieldsOf true text) _ bs e₁ in
-      let (count, e₃) = demanded (eqb (length (slotsOf slots)) (slotCount fs)) WrongSlots 0 _ bs e₂ in
+      let (count, e₃) = demanded (eqb (length (slotsOf slots)) (slotCount fs)) BadSlots 0 _ bs e₂ in
       (fs, finishes fs bs fields sizes (eqb-true _ _ count) e₃)
 
 -- an accepted call has a result

@@ -1,5 +1,5 @@
--- The recursions over the fields make the same turns: each goes on from the same place, and stops at the same field. So each is a part of the run, field by
--- field; of the positions a table takes no more than there are values.
+-- The recursions over the fields make the same turns: each goes on from the same place, and stops at the same field. So
+-- each is a part of the run, field by field; of the positions a table takes no more than there are values.
 use Prim.Native.Nat.{ℕ, suc, _+_, _-_, _≤_, _<_}
 use mathlib.Core.Path.{_≡_, refl, sym, ap}
 use mathlib.Core.Bool.{Bool, true, false, _&&_}
@@ -8,8 +8,8 @@ use lib.ListN.{length}
 use lib.Seq.{getD-take}
 use lib.Dec.{leb}
 use borrow.Author.Tests.{le-leb, lt-leb}
-use Rattle.layout.specs.declared.Code.{Code}
-use Rattle.layout.specs.declared.Code.the-variants.{Data, Move}
+use Rattle.layout.specs.declared.Role.{Role}
+use Rattle.layout.specs.declared.Role.the-variants.{Data, Move}
 use Rattle.layout.specs.declared.Count.{Count}
 use Rattle.layout.specs.declared.Field.{Field}
 use Rattle.layout.specs.declared.Refusal.{Refusal}
@@ -25,7 +25,7 @@ use Rattle.runs.proofs.Shown.{put-same}
 -- ---- the parts
 
 module _ (bs : List ℕ) (fs : List Field) (ih : (to : ℕ) → PartsOf bs to fs) (at : ℕ) where
-  parts-step : (k : Code) (u : Bool) (n : Count) → PartsOf bs at (record { code = k; unsigned = u; count = n } ∷ fs)
+  parts-step : (k : Role) (u : Bool) (n : Count) → PartsOf bs at (record { role = k; unsigned = u; count = n } ∷ fs)
   unfolding valuesFrom positionsFrom stepsFrom run
   parts-step (Data s) u n =
       let left : ℕ = length bs - at in
@@ -54,7 +54,7 @@ module _ (bs : List ℕ) (fs : List Field) (ih : (to : ℕ) → PartsOf bs to fs
 pub one-run : OneRun
 unfolding valuesFrom positionsFrom stepsFrom run
 one-run bs at [] = record { values = refl; positions = refl; steps = refl; pairs = refl }
-one-run bs at (f ∷ fs) = parts-step bs fs (λ to. one-run bs to fs) at (f .code) (f .unsigned) (f .count)
+one-run bs at (f ∷ fs) = parts-step bs fs (λ to. one-run bs to fs) at (f .role) (f .unsigned) (f .count)
 
 -- ---- the call
 

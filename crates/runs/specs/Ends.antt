@@ -4,8 +4,8 @@ use mathlib.Core.Bool.{Bool, true, false}
 use mathlib.Core.List.{List, [], _∷_}
 use lib.ListN.{take}
 use lib.Dec.{leb}
-use Rattle.layout.specs.declared.Code.{Code}
-use Rattle.layout.specs.declared.Code.the-variants.{Data, Move}
+use Rattle.layout.specs.declared.Role.{Role}
+use Rattle.layout.specs.declared.Role.the-variants.{Data, Move}
 use Rattle.layout.specs.declared.Motion.the-variants.{Skip, Back, Goto}
 use Rattle.layout.specs.declared.Count.{Count}
 use Rattle.layout.specs.declared.Count.the-variants.{Absent, Star, Times}
@@ -20,15 +20,17 @@ plainCount Absent = true
 plainCount Star = false
 plainCount (Times n) = leb 1 n
 
-abbrev pub plainCode : Code → Bool
-plainCode (Data s) = true
-plainCode (Move Skip) = true
-plainCode (Move Back) = false
-plainCode (Move Goto) = false
+abbrev pub plainRole : Role → Bool
+plainRole (Data s) = true
+plainRole (Move Skip) = true
+plainRole (Move Back) = false
+plainRole (Move Goto) = false
 
--- ---- the end of a field: how far packing has come after it; `x` fills bytes too
+-- ---- the end of a field: how far packing has come after it, which is what it and the fields before it fill; `x` fills
+-- bytes too
 
-unfoldable pub fills : Code → Count → ℕ
+-- the bytes that a field without a star fills; `X` and `@` fill none
+unfoldable pub fills : Role → Count → ℕ
 fills (Data s) n = bytesFor s (amount n 0)
 fills (Move Skip) n = amount n 0
 fills (Move Back) n = 0
@@ -38,7 +40,7 @@ fills (Move Goto) n = 0
 unfoldable pub endOf : List Field → ℕ
 unfolding fills
 endOf [] = 0
-endOf (f ∷ fs) = fills (f .code) (f .count) + endOf fs
+endOf (f ∷ fs) = fills (f .role) (f .count) + endOf fs
 
 -- ---- the record
 

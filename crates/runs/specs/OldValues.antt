@@ -13,11 +13,11 @@ use Rattle.record.specs.Reading.{Read, read}
 abbrev pub slotsSet : Read → ℕ
 slotsSet r = if eqb (r .answer .number) 0 then r .answer .first else 0
 
--- slot number i was lent with a table, and the reading left r
+-- what stays of slot number i of a table, where the reading left r
 pub record Old (slots area : List ℕ) (mark i : ℕ) (r : Read) : Type 0 where
-  -- its four numbers are as they were ..
+  -- the slot's four numbers are as they were
   pub slot : slotAt (r .slots) i ≡ slotAt slots i
-  -- .. and where its value ends at or before the mark, it shows in the area that is left what it showed in the one lent
+  -- where the slot's value ends at or before the mark, it shows in the area that is left what it showed in the one lent
   pub value : valueEnd (slotAt slots i) ≤ mark → shown (r .area) (slotAt (r .slots) i) ≡ shown area (slotAt slots i)
 
 -- A SLOT THAT A READING LEAVES ALONE goes on showing its value, if that ends at or before the mark.

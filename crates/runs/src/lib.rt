@@ -1,1 +1,2 @@
-// Runs over the fields of a layout, where they end and what they store: definitions and laws that the theorems share, and no code.
+// Runs over the fields of a layout, where they end and what they store: definitions and laws that the theorems share,
+// and no code.

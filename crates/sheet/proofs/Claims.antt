@@ -1,4 +1,5 @@
--- The two claims: a table keeps its values on the way to a sheet and back, and a sheet its bytes on the way to a table and back.
+-- The two claims: a table keeps its values on the way to a sheet and back, and a sheet its bytes on the way to a table
+-- and back.
 use Prim.Native.Nat.{ℕ, suc, _+_, _*_, _^_, _≤_, _<_}
 use native.Mathlib.Omega.{arith}
 use mathlib.Core.Path.{_≡_, refl, sym, ap, _∙_, subst}
@@ -16,10 +17,10 @@ use Rattle.record.specs.Reading.{Read}
 use Rattle.record.proofs.Bytes.{All, all-below, all-drop, and-true}
 use Rattle.record.proofs.Stores.{length-storeAt}
 use Rattle.record.proofs.Tables.{slots-take, length-slots}
-use Rattle.sheet.specs.Entries.{Entry, bodyBytes, valueBytes}
-use Rattle.sheet.specs.Sheet.{version1, version2, widthOf, headerSize, sheetBytes, fitsVersion1, versionFor, maxSheet, entriesOf, slotsFit, slotNumbers, entriesEnd, write, versionOf, versionKnown, widthIn, headerFits, versionNeeded, putInto, read, entriesAt}
+use Rattle.sheet.specs.Entries.{Entry, bodyBytes, entryValues}
+use Rattle.sheet.specs.Sheet.{version1, version2, widthOf, headerSize, sheetBytes, fitsVersion1, versionFor, maxSheet, entriesOf, slotsWritable, entriesNumbers, entriesEnd, writeSheet, versionOf, versionKnown, widthIn, headerFits, versionNeeded, putEntries, readSheet, entriesAt}
 use Rattle.sheet.specs.Claims.{seen, sheetOf, Stored, KeepsValues, TableKept, rewritten, SheetKept}
-use Rattle.sheet.specs.Steps.{tableSheet, Opened}
+use Rattle.sheet.specs.inside.Steps.{tableSheet, SheetOpened}
 use Rattle.sheet.proofs.Entries.{AllSound, number-small, length-here, entries-sound}
 use Rattle.sheet.proofs.Tables.{slots-sound, same-seen, length-slot-numbers, entries-put, put-fits}
 use Rattle.sheet.proofs.Sheets.{length-sheet, sheet-version, sheet-header, sheet-entries, sheet-back}
@@ -27,25 +28,25 @@ use Rattle.sheet.proofs.Calls.{Lengths, lengths, lengths-fit, lent, Wro
 
 -- ---- what entries leave that are put into a table
 
-module _ (slots area : List ℕ) (mark : ℕ) (es : List Entry) (sound : AllSound es) (room : mark + length (valueBytes es) ≤ length area) where
+module _ (slots area : List ℕ) (mark : ℕ) (es : List Entry) (sound : AllSound es) (room : mark + length (entryValues es) ≤ length area) where
   -- the slots that were set
-  pub put-slots : take (slotWidth * length es) (putInto slots area mark es .slots) ≡ slotNumbers mark es
-  unfolding putInto
-  put-slots = take-at (slotNumbers mark es) (drop (slotWidth * length es) slots) (slotWidth * length es) (length-slot-numbers mark es)
+  pub put-slots : take (slotWidth * length es) (putEntries slots area mark es .slots) ≡ entriesNumbers mark es
+  unfolding putEntries
+  put-slots = take-at (entriesNumbers mark es) (drop (slotWidth * length es) slots) (slotWidth * length es) (length-slot-numbers mark es)
 
-  pub put-area : length (putInto slots area mark es .area) ≡ length area
-  unfolding putInto
-  put-area = length-storeAt area mark (valueBytes es) room
+  pub put-area : length (putEntries slots area mark es .area) ≡ length area
+  unfolding putEntries
+  put-area = length-storeAt area mark (entryValues es) room
 
-  pub put-entries : entriesOf (putInto slots area mark es .area) (slotsOf (slotNumbers mark es)) ≡ es
-  unfolding putInto
+  pub put-entries : entriesOf (putEntries slots area mark es .area) (slotsOf (entriesNumbers mark es)) ≡ es
+  unfolding putEntries
   put-entries =
-      let after : List ℕ = drop (mark + length (valueBytes es)) area in
-      entries-put (storeAt area mark (valueBytes es)) after mark es sound
-      (ap (drop mark) (append-assoc (take mark area) (valueBytes es) after) ∙ drop-at (take mark area) (valueBytes es ++ after) mark (length-take-le mark area (omega arith)))
+      let after : List ℕ = drop (mark + length (entryValues es)) area in
+      entries-put (storeAt area mark (entryValues es)) after mark es sound
+      (ap (drop mark) (append-assoc (take mark area) (entryValues es) after) ∙ drop-at (take mark area) (entryValues es ++ after) mark (length-take-le mark area (omega arith)))
 
-  pub put-fit : slotsFit (putInto slots area mark es .area) 0 (slotsOf (slotNumbers mark es)) ≡ ok tt
-  put-fit = put-fits (putInto slots area mark es .area) mark 0 es sound (rw put-area room)
+  pub put-fit : slotsWritable (putEntries slots area mark es .area) 0 (slotsOf (entriesNumbers mark es)) ≡ ok tt
+  put-fit = put-fits (putEntries slots area mark es .area) mark 0 es sound (rw put-area room)
 
 -- ---- table to sheet and back
 
@@ -86,7 +87,7 @@ module _ {slots area buffer table values : List ℕ} {mark : ℕ} (s : Stored sl
   sheet = tableSheet slots area
 
   -- the sheet is that of the table
-  pub sheet-is : sheetOf (write slots area buffer) ≡ tableSheet slots area
+  pub sheet-is : sheetOf (writeSheet slots area buffer) ≡ tableSheet slots area
   sheet-is =
       let bs : List ℕ = tableSheet slots area in
       rw (← write-done slots area buffer (passed .sizes) (passed .fits) (passed .room)) (take-at bs _ (length bs) refl)
@@ -107,7 +108,7 @@ module _ {slots area buffer table values : List ℕ} {mark : ℕ} (s : Stored sl
   unfolding es v sheet
   found = rw width (sheet-entries v (widthOf v) es short sound)
 
-  opened : Opened sheet table values mark
+  opened : SheetOpened sheet table values mark
   unfolding es v sheet
   opened =
       let small : length (tableSheet slots area) ≤ maxSheet = omega (arith, passed .room, lengths (length slots) (length area) (length buffer) (passed .sizes) .size) in
@@ -118,28 +119,28 @@ module _ {slots area buffer table values : List ℕ} {mark : ℕ} (s : Stored sl
         header = rw width (sheet-header v (widthOf v) es short);
       }
 
-  effect : read (sheetOf (write slots area buffer)) table values mark ≡ putInto table values mark es
+  effect : readSheet (sheetOf (writeSheet slots area buffer)) table values mark ≡ putEntries table values mark es
   unfolding es v sheet
   effect =
       let bs : List ℕ = tableSheet slots area in
       let whole : entriesEnd (widthIn bs) (entriesAt (widthIn bs) bs) ≡ length bs = rw (found, width) (sym (length-sheet v (widthOf v) es)) in
       let needed : versionNeeded (versionOf bs) (entriesAt (widthIn bs) bs) ≡ true = rw (found, sheet-version v (widthOf v) es) (version-needed es) in
       let rows : length (entriesAt (widthIn bs) bs) ≤ length (slotsOf table) = rw (found, length-entries) (s .enough-slots) in
-      let room : mark + length (valueBytes (entriesAt (widthIn bs) bs)) ≤ length values = rw found (s .room) in
-      ap (λ (b : List ℕ). read b table values mark) sheet-is ∙ sym (read-put bs table values mark opened whole needed rows room) ∙ ap (putInto table values mark) found
+      let room : mark + length (entryValues (entriesAt (widthIn bs) bs)) ≤ length values = rw found (s .room) in
+      ap (λ (b : List ℕ). readSheet b table values mark) sheet-is ∙ sym (read-put bs table values mark opened whole needed rows room) ∙ ap (putEntries table values mark) found
 
-  shows : map (seen (putInto table values mark es .area)) (take (length (slotsOf slots)) (slotsOf (putInto table values mark es .slots))) ≡ map (seen area) (slotsOf slots)
+  shows : map (seen (putEntries table values mark es .area)) (take (length (slotsOf slots)) (slotsOf (putEntries table values mark es .slots))) ≡ map (seen area) (slotsOf slots)
   unfolding es
   shows =
-      let r : Read = putInto table values mark es in
+      let r : Read = putEntries table values mark es in
       let n : length es ≡ length (slotsOf slots) = length-entries area slots in
-      let set : take (length (slotsOf slots)) (slotsOf (r .slots)) ≡ slotsOf (slotNumbers mark es) =
+      let set : take (length (slotsOf slots)) (slotsOf (r .slots)) ≡ slotsOf (entriesNumbers mark es) =
       rw (← n, ← slots-take (length es) (r .slots), put-slots table values mark es sound (s .room)) in
       rw set
-      (same-seen (r .area) area (slotsOf (slotNumbers mark es)) (slotsOf slots) (put-fit table values mark es sound (s .room)) (passed .fits) (put-entries table values mark es sound (s .room)))
+      (same-seen (r .area) area (slotsOf (entriesNumbers mark es)) (slotsOf slots) (put-fit table values mark es sound (s .room)) (passed .fits) (put-entries table values mark es sound (s .room)))
 
-  keeps : KeepsValues slots area table values mark (putInto table values mark es)
-  unfolding es putInto
+  keeps : KeepsValues slots area table values mark (putEntries table values mark es)
+  unfolding es putEntries
   keeps = record { effect = refl; count = length-entries area slots; shows = shows }
 
 pub table-kept : TableKept
@@ -181,16 +182,16 @@ module _ {sheet slots area : List ℕ} {mark : ℕ} (all : All (λ d. d < 256) s
       go false false p q h k = let z : _≡_ {A = ℕ} 0 1 = cc in absurd (omega arith)
 
 pub sheet-kept : SheetKept
-unfolding putInto held
+unfolding putEntries held
 sheet-kept sheet slots area mark buffer l =
     let got : ReadIt sheet slots area mark = read-it sheet slots area mark (l .reading) in
     let all : All (λ d. d < 256) sheet = all-below sheet (l .bytes) in
     let es : List Entry = entriesAt (widthIn sheet) sheet in
-    let r : Read = putInto slots area mark es in
+    let r : Read = putEntries slots area mark es in
     let sound : AllSound es = entries-sound (widthIn sheet) _ in
     let bounds = lent (length slots) (length area) (length sheet) mark (got .opened .sizes) .lengths in
-    let is : read sheet slots area mark ≡ r = sym (read-put sheet slots area mark (got .opened) (got .whole) (got .needed) (got .rows) (got .room)) in
-    let ns : List ℕ = slotNumbers mark es in
+    let is : readSheet sheet slots area mark ≡ r = sym (read-put sheet slots area mark (got .opened) (got .whole) (got .needed) (got .rows) (got .room)) in
+    let ns : List ℕ = entriesNumbers mark es in
     let set : take (slotWidth * length es) (r .slots) ≡ ns = put-slots slots area mark es sound (got .room) in
     let entries : entriesOf (r .area) (slotsOf ns) ≡ es = put-entries slots area mark es sound (got .room) in
     let version : versionFor es ≡ versionOf sheet = same-version all got in
@@ -201,4 +202,4 @@ sheet-kept sheet slots area mark buffer l =
     let fit : Lengths (length ns) (length (r .area)) (length buffer) =
     record { table = omega (arith, got .rows, length-slots slots, bounds .table); rows = omega arith; limit = omega (arith, bounds .limit); size = l .size } in
     let done = write-done ns (r .area) buffer (lengths-fit _ _ _ fit) (put-fit slots area mark es sound (got .room)) (rw same (l .room)) in
-    ap (λ (x : Read). rewritten x buffer) is ∙ ap (λ (n : List ℕ). write n (r .area) buffer) set ∙ sym done ∙ rw same
+    ap (λ (x : Read). rewritten x buffer) is ∙ ap (λ (n : List ℕ). writeSheet n (r .area) buffer) set ∙ sym done ∙ rw same

@@ -13,8 +13,8 @@ use Rattle.layout.specs.Refusals.{if_then_else_}
 use Rattle.record.specs.Bytes.{join}
 use Rattle.record.specs.Table.{slotsOf}
 use Rattle.sheet.specs.Entries.{Entry, entryBytes, bodyBytes}
-use Rattle.sheet.specs.Sheet.{version1, version2, widthOf, fitsVersion1, entriesOf, write, versionOf}
-use Rattle.sheet.specs.Steps.{tableSheet, versionOfTable}
+use Rattle.sheet.specs.Sheet.{version1, version2, widthOf, fitsVersion1, entriesOf, writeSheet, versionOf}
+use Rattle.sheet.specs.inside.Steps.{tableSheet, versionOfTable}
 use Rattle.sheet.specs.Claims.{sheetOf, maxLength1, lengthsFor, allFit, FittingRule, WrittenVersion}
 use Rattle.sheet.proofs.Entries.{length-entry}
 use Rattle.sheet.proofs.Sheets.{sheet-version}
@@ -43,5 +43,5 @@ pub written-version : WrittenVersion
 written-version slots area buffer h =
     let p = wrote slots area buffer h in
     let es : List Entry = entriesOf area (slotsOf slots) in
-    let sheet : sheetOf (write slots area buffer) ≡ tableSheet slots area = ap sheetOf (sym (write-done slots area buffer (p .sizes) (p .fits) (p .room))) ∙ take-append-seam (tableSheet slots area) (drop (length (tableSheet slots area)) buffer) in
+    let sheet : sheetOf (writeSheet slots area buffer) ≡ tableSheet slots area = ap sheetOf (sym (write-done slots area buffer (p .sizes) (p .fits) (p .room))) ∙ take-append-seam (tableSheet slots area) (drop (length (tableSheet slots area)) buffer) in
     ap versionOf sheet ∙ sheet-version (versionOfTable slots area) (widthOf (versionOfTable slots area)) es ∙ ap (λ (b : Bool). if b then version1 else version2) (fitting-rule es)

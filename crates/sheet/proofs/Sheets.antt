@@ -1,4 +1,5 @@
--- Laws of whole sheets over the version and the width of a length: a sheet that was written is sound, and a sound sheet is that of its entries.
+-- Laws of whole sheets over the version and the width of a length: a sheet that was written is sound, and a sound sheet
+-- is that of its entries.
 use Prim.Native.Nat.{ℕ, suc, _+_, _*_, _^_, _≤_, _<_}
 use native.Mathlib.Nat.{suc-mul}
 use native.Mathlib.Omega.{arith}
@@ -12,7 +13,7 @@ use lib.Seq.{drop-at, drop-length}
 use Rattle.record.specs.Bytes.{join, numberBytes, numberAt}
 use Rattle.record.proofs.Bytes.{All, all-drop, and-true}
 use Rattle.record.proofs.NumberLaws.{length-numberBytes}
-use Rattle.sheet.specs.Entries.{Entry, entryBytes, bodyBytes, valueBytes, entriesIn}
+use Rattle.sheet.specs.Entries.{Entry, entryBytes, bodyBytes, entryValues, entriesIn}
 use Rattle.sheet.specs.Sheet.{headerSize, sheetBytes, versionOf, headerFits, entriesEnd}
 use Rattle.sheet.proofs.Entries.{AllSound, number-in, bytes-in, length-entry, entries-in, body-back}
 
@@ -21,12 +22,12 @@ unfolding sheetBytes
 sheet-version v w es = refl
 
 -- entries take their values, and for each a length and a kind
-pub length-body : (w : ℕ) (es : List Entry) → length (bodyBytes w es) ≡ length es * headerSize w + length (valueBytes es)
-unfolding bodyBytes valueBytes join
+pub length-body : (w : ℕ) (es : List Entry) → length (bodyBytes w es) ≡ length es * headerSize w + length (entryValues es)
+unfolding bodyBytes entryValues join
 length-body w [] = omega arith
 length-body w (e ∷ es) =
     let a : length (entryBytes w e ++ bodyBytes w es) ≡ length (entryBytes w e) + length (bodyBytes w es) = length-append (entryBytes w e) (bodyBytes w es) in
-    let b : length (e .value ++ valueBytes es) ≡ length (e .value) + length (valueBytes es) = length-append (e .value) (valueBytes es) in
+    let b : length (e .value ++ entryValues es) ≡ length (e .value) + length (entryValues es) = length-append (e .value) (entryValues es) in
     rw suc-mul (omega (arith, a, b, length-entry w e, length-body w es))
 
 module _ (v w : ℕ) (es : List Entry) where

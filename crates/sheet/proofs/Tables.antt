@@ -18,8 +18,8 @@ use Rattle.record.specs.Slots.{valueEnd}
 use Rattle.record.specs.Table.{maxKind, slotsOf, slotWidth, noPosition, itemSize, Value, integersIn, shown}
 use Rattle.record.proofs.Bytes.{and-true, drop-take}
 use Rattle.record.proofs.Stores.{length-part, store-store}
-use Rattle.sheet.specs.Entries.{Entry, wholeItems, valueBytes}
-use Rattle.sheet.specs.Sheet.{valueSize, entryOf, entriesOf, slotFits, slotsFit, slotNumbers}
+use Rattle.sheet.specs.Entries.{Entry, wholeItems, entryValues}
+use Rattle.sheet.specs.Sheet.{valueSize, entryOf, entriesOf, slotWritable, slotsWritable, entriesNumbers}
 use Rattle.sheet.specs.Claims.{seen}
 use Rattle.sheet.proofs.Entries.{Sound, AllSound}
 
@@ -44,7 +44,7 @@ size-whole kind len = go (eqb kind 0) (eqb kind 1)
 
 -- ---- a slot as an entry
 
-module _ (area : List ℕ) (s : Slot) (fits : slotFits (length area) s ≡ true) where
+module _ (area : List ℕ) (s : Slot) (fits : slotWritable (length area) s ≡ true) where
   pub slot-kind : s .kind ≤ maxKind
   slot-kind = go (eqb (s .kind) 0) refl fits
     where
@@ -69,11 +69,11 @@ module _ (area : List ℕ) (s : Slot) (fits : slotFits (length area) s ≡ true)
   unfolding entryOf
   slot-sound = record { kind = slot-kind; whole = rw length-value (size-whole (s .kind) (s .len)) }
 
-pub slots-sound : (area : List ℕ) (i : ℕ) (ts : List Slot) → slotsFit area i ts ≡ ok tt → AllSound (entriesOf area ts)
-unfolding slotsFit entriesOf
+pub slots-sound : (area : List ℕ) (i : ℕ) (ts : List Slot) → slotsWritable area i ts ≡ ok tt → AllSound (entriesOf area ts)
+unfolding slotsWritable entriesOf
 slots-sound area i [] h = tt
 slots-sound area i (t ∷ ts) h =
-    let d = demanded (slotFits (length area) t) BadSlot i (λ _. slotsFit area (suc i) ts) tt h in
+    let d = demanded (slotWritable (length area) t) BadSlot i (λ _. slotsWritable area (suc i) ts) tt h in
     (slot-sound area t (d .0), slots-sound area (suc i) ts (d .1))
 
 -- ---- what an entry shows
@@ -92,7 +92,7 @@ pieces-take k (suc n) l =
 valueIn : Entry → Value
 valueIn e = record { kind = e .kind; items = if eqb (e .kind) 1 then e .value else integersIn (length (e .value) / 8) (e .value) }
 
-seen-entry : (area : List ℕ) (s : Slot) → slotFits (length area) s ≡ true → seen area s ≡ valueIn (entryOf area s)
+seen-entry : (area : List ℕ) (s : Slot) → slotWritable (length area) s ≡ true → seen area s ≡ valueIn (entryOf area s)
 unfolding seen shown valueIn entryOf bigEndianIn pieces
 seen-entry area s fits = go (eqb (s .kind) 0) (eqb (s .kind) 1) refl refl (slot-inside area s fits)
   where
@@ -114,21 +114,21 @@ seen-entry area s fits = go (eqb (s .kind) 0) (eqb (s .kind) 1) refl refl (slot-
         rw (long, count, pieces-take 8 (s .len) bs)
 
 -- slots that are the same entries show the same values
-seen-entries : (area : List ℕ) (i : ℕ) (ts : List Slot) → slotsFit area i ts ≡ ok tt → map (seen area) ts ≡ map valueIn (entriesOf area ts)
-unfolding slotsFit entriesOf
+seen-entries : (area : List ℕ) (i : ℕ) (ts : List Slot) → slotsWritable area i ts ≡ ok tt → map (seen area) ts ≡ map valueIn (entriesOf area ts)
+unfolding slotsWritable entriesOf
 seen-entries area i [] h = refl
 seen-entries area i (t ∷ ts) h =
-    let d = demanded (slotFits (length area) t) BadSlot i (λ _. slotsFit area (suc i) ts) tt h in
+    let d = demanded (slotWritable (length area) t) BadSlot i (λ _. slotsWritable area (suc i) ts) tt h in
     ap₂ (λ (v : Value) (vs : List Value). v ∷ vs) (seen-entry area t (d .0)) (seen-entries area (suc i) ts (d .1))
 
-pub same-seen : (area₁ area₂ : List ℕ) (ts₁ ts₂ : List Slot) → slotsFit area₁ 0 ts₁ ≡ ok tt → slotsFit area₂ 0 ts₂ ≡ ok tt
+pub same-seen : (area₁ area₂ : List ℕ) (ts₁ ts₂ : List Slot) → slotsWritable area₁ 0 ts₁ ≡ ok tt → slotsWritable area₂ 0 ts₂ ≡ ok tt
     → entriesOf area₁ ts₁ ≡ entriesOf area₂ ts₂ → map (seen area₁) ts₁ ≡ map (seen area₂) ts₂
 same-seen area₁ area₂ ts₁ ts₂ h k e = seen-entries area₁ 0 ts₁ h ∙ ap (map valueIn) e ∙ sym (seen-entries area₂ 0 ts₂ k)
 
 -- ---- entries put into a table
 
-pub length-slot-numbers : (start : ℕ) (es : List Entry) → length (slotNumbers start es) ≡ slotWidth * length es
-unfolding slotNumbers
+pub length-slot-numbers : (start : ℕ) (es : List Entry) → length (entriesNumbers start es) ≡ slotWidth * length es
+unfolding entriesNumbers
 length-slot-numbers start [] = refl
 length-slot-numbers start (e ∷ es) = omega (arith, length-slot-numbers (start + length (e .value)) es)
 
@@ -153,7 +153,7 @@ module _ (start : ℕ) (e : Entry) (sound : Sound e) where
       go true k = let z : length (e .value) ≡ 0 = eqb-true (length (e .value)) 0 k in rw z (no-bytes (e .value) z)
       go false k = rw h (take-at (e .value) rest (length (e .value)) refl)
 
-  put-fit : (area : List ℕ) → start + length (e .value) ≤ length area → slotFits (length area) (slotFor start e) ≡ true
+  put-fit : (area : List ℕ) → start + length (e .value) ≤ length area → slotWritable (length area) (slotFor start e) ≡ true
   unfolding slotFor
   put-fit area h = go (eqb (e .kind) 0) slot-size
     where
@@ -162,20 +162,20 @@ module _ (start : ℕ) (e : Entry) (sound : Sound e) where
       go true k = refl
       go false k = rw (k, le-leb (e .kind) maxKind (sound .kind), le-leb (start + length (e .value)) (length area) h)
 
-pub entries-put : (area rest : List ℕ) (start : ℕ) (es : List Entry) → AllSound es → drop start area ≡ valueBytes es ++ rest → entriesOf area (slotsOf (slotNumbers start es)) ≡ es
-unfolding entriesOf slotsOf slotNumbers valueBytes join slotFor
+pub entries-put : (area rest : List ℕ) (start : ℕ) (es : List Entry) → AllSound es → drop start area ≡ entryValues es ++ rest → entriesOf area (slotsOf (entriesNumbers start es)) ≡ es
+unfolding entriesOf slotsOf entriesNumbers entryValues join slotFor
 entries-put area rest start [] s h = refl
 entries-put area rest start (e ∷ es) s h =
-    let tail : List ℕ = valueBytes es ++ rest in
-    let here : drop start area ≡ e .value ++ tail = h ∙ append-assoc (e .value) (valueBytes es) rest in
+    let tail : List ℕ = entryValues es ++ rest in
+    let here : drop start area ≡ e .value ++ tail = h ∙ append-assoc (e .value) (entryValues es) rest in
     let later : drop (start + length (e .value)) area ≡ tail = sym (drop-drop (length (e .value)) start area) ∙ ap (drop (length (e .value))) here ∙ drop-at (e .value) tail (length (e .value)) refl in
     ap₂ (λ (x : Entry) (xs : List Entry). x ∷ xs) (put-entry start e (s .0) area tail here) (entries-put area rest (start + length (e .value)) es (s .1) later)
 
-pub put-fits : (area : List ℕ) (start i : ℕ) (es : List Entry) → AllSound es → start + length (valueBytes es) ≤ length area → slotsFit area i (slotsOf (slotNumbers start es)) ≡ ok tt
-unfolding slotsFit slotsOf slotNumbers valueBytes join slotFor
+pub put-fits : (area : List ℕ) (start i : ℕ) (es : List Entry) → AllSound es → start + length (entryValues es) ≤ length area → slotsWritable area i (slotsOf (entriesNumbers start es)) ≡ ok tt
+unfolding slotsWritable slotsOf entriesNumbers entryValues join slotFor
 put-fits area start i [] s h = refl
 put-fits area start i (e ∷ es) s h =
-    let sum : length (e .value ++ valueBytes es) ≡ length (e .value) + length (valueBytes es) = length-append (e .value) (valueBytes es) in
+    let sum : length (e .value ++ entryValues es) ≡ length (e .value) + length (entryValues es) = length-append (e .value) (entryValues es) in
     rw (put-fit start e (s .0) area (omega (arith, h))) (put-fits area (start + length (e .value)) (suc i) es (s .1) (omega (arith, h)))
 
 -- ---- runs one after the other
@@ -184,15 +184,15 @@ put-fits area start i (e ∷ es) s h =
 pub store-next : (d : List ℕ) (at : ℕ) (s t : List ℕ) (to : ℕ) → to ≡ at + length s → at + length s + length t ≤ length d → storeAt (storeAt d at s) to t ≡ storeAt d at (s ++ t)
 store-next d at s t to e h = rw e (store-store d at s t h)
 
-pub values-append : (es fs : List Entry) → valueBytes (es ++ fs) ≡ valueBytes es ++ valueBytes fs
-unfolding valueBytes join
+pub values-append : (es fs : List Entry) → entryValues (es ++ fs) ≡ entryValues es ++ entryValues fs
+unfolding entryValues join
 values-append [] fs = refl
-values-append (d ∷ es) fs = ap (λ (r : List ℕ). d .value ++ r) (values-append es fs) ∙ sym (append-assoc (d .value) (valueBytes es) (valueBytes fs))
+values-append (d ∷ es) fs = ap (λ (r : List ℕ). d .value ++ r) (values-append es fs) ∙ sym (append-assoc (d .value) (entryValues es) (entryValues fs))
 
 -- the entries so far take no more than all of them
-pub front-few : (es fs all : List Entry) → es ++ fs ≡ all → (length es ≤ length all) × (length (valueBytes es) ≤ length (valueBytes all))
+pub front-few : (es fs all : List Entry) → es ++ fs ≡ all → (length es ≤ length all) × (length (entryValues es) ≤ length (entryValues all))
 front-few es fs all e =
     let l : length es + length fs ≡ length all = sym (length-append es fs) ∙ ap length e in
-    let b : length (valueBytes es) + length (valueBytes fs) ≡ length (valueBytes all) =
-    sym (length-append (valueBytes es) (valueBytes fs)) ∙ ap length (sym (values-append es fs)) ∙ ap (λ (x : List Entry). length (valueBytes x)) e in
+    let b : length (entryValues es) + length (entryValues fs) ≡ length (entryValues all) =
+    sym (length-append (entryValues es) (entryValues fs)) ∙ ap length (sym (values-append es fs)) ∙ ap (λ (x : List Entry). length (entryValues x)) e in
     (omega arith, omega arith)

@@ -16,11 +16,11 @@ pub record Entry : Type 0 where
   pub kind : ℕ
   pub value : List ℕ
 
--- so many bytes are a value of the kind: none where nothing is set, else whole items
+-- n bytes are a value of the kind: none where nothing is set, else whole items
 abbrev pub wholeItems : ℕ → ℕ → Bool
 wholeItems kind n = if eqb kind unset then eqb n 0 else eqb (n % itemSize kind) 0
 
--- an entry: how long the rest of it is, its kind byte, its bytes
+-- the bytes of an entry: how long the rest of it is, its kind byte, its value
 unfoldable pub entryBytes : ℕ → Entry → List ℕ
 unfolding numberBytes
 entryBytes w e = numberBytes w (suc (length (e .value))) ++ (e .kind ∷ e .value)
@@ -30,13 +30,14 @@ unfoldable pub bodyBytes : ℕ → List Entry → List ℕ
 unfolding entryBytes join
 bodyBytes w es = join (map (entryBytes w) es)
 
-unfoldable pub valueBytes : List Entry → List ℕ
+unfoldable pub entryValues : List Entry → List ℕ
 unfolding join
-valueBytes es = join (map (λ (e : Entry). e .value) es)
+entryValues es = join (map (λ (e : Entry). e .value) es)
 
 -- ---- entries in a run of bytes
 
--- bs begins with a whole entry: its length is there, is not 0 and is no more than what remains; the kind is known and has whole items
+-- bs begins with a whole entry: its length is there, is not 0 and is no more than what remains; the kind is known and
+-- has whole items
 unfoldable pub beginsEntry : ℕ → List ℕ → Bool
 unfolding numberAt
 beginsEntry w bs =
@@ -44,7 +45,7 @@ beginsEntry w bs =
     let kind = getD bs w 0 in
     leb w (length bs) && leb 1 n && leb n (length bs - w) && leb kind maxKind && wholeItems kind (n - 1)
 
--- that entry
+-- the entry that bs begins with
 unfoldable pub entryIn : ℕ → List ℕ → Entry
 unfolding numberAt
 entryIn w bs = record { kind = getD bs w 0; value = part bs (suc w) (numberAt w bs 0 - 1) }

@@ -1,4 +1,5 @@
--- Tables, areas and sheets that worked examples are written with: those of sheets (module `sheet_claims::examples`) and of rescues.
+-- Tables, areas and sheets that worked examples are written with: those of sheets (crate `sheet_claims`) and of
+-- rescues.
 use Prim.Native.Nat.{ℕ, zero, suc}
 use mathlib.Core.Bool.{Bool, true, false, _&&_}
 use mathlib.Core.List.{List, [], _∷_, _++_}
@@ -9,7 +10,8 @@ use Rattle.record.specs.Table.{noPosition}
 
 -- ---- the example of 02
 
--- a slot that is not set, a string and an integer, with positions that no sheet keeps; the area has "OK" and the eight bytes of -2
+-- a slot that is not set, a string and an integer, with positions that no sheet keeps; the area has "OK" and the eight
+-- bytes of -2
 unfoldable pub okTable : List ℕ
 okTable = 0 ∷ 7 ∷ 5 ∷ 3 ∷ 1 ∷ 0 ∷ 2 ∷ 4096 ∷ 2 ∷ 2 ∷ 1 ∷ noPosition ∷ []
 
@@ -24,12 +26,12 @@ okSheet =
     ∷ 0x00 ∷ 0x09 ∷ 0x02 ∷ 0xff ∷ 0xff ∷ 0xff ∷ 0xff ∷ 0xff ∷ 0xff ∷ 0xff ∷ 0xfe
     ∷ []
 
--- ---- others
+-- ---- other tables and sheets
 
 -- n entries that are not set
-unfoldable pub unset : ℕ → List ℕ
-unset zero = []
-unset (suc n) = 0 ∷ 1 ∷ 0 ∷ unset n
+unfoldable pub notSet : ℕ → List ℕ
+notSet zero = []
+notSet (suc n) = 0 ∷ 1 ∷ 0 ∷ notSet n
 
 -- a slot of a sheet, before others; n slots that are not set
 unfoldable pub set : ℕ → ℕ → ℕ → List ℕ → List ℕ
@@ -40,7 +42,7 @@ unfolding set
 unsetSlots zero = []
 unsetSlots (suc n) = set 0 0 0 (unsetSlots n)
 
--- one string of 65,533 bytes
+-- the sheet of one string of 65,533 bytes
 unfoldable pub longSheet : List ℕ
 longSheet = 2 ∷ 0 ∷ 1 ∷ 0 ∷ 2 ∷ 0 ∷ 0 ∷ 255 ∷ 254 ∷ 1 ∷ replicate 65533 65
 

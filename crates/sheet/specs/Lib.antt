@@ -1,7 +1,7 @@
--- Sheets (document 02, M-100): a table of slots as a run of bytes. Read Entries, then Sheet; Claims states what is kept on the way to a
--- sheet and back. Examples has what worked examples are written with (module `sheet_claims::examples`). Steps has what the functions of the code promise each other.
+-- Sheets (02, M-100): a table of slots as a run of bytes. Read Entries, then Sheet; Claims states what is kept on the
+-- way to a sheet and back. Examples has what worked examples are written with (the crate `sheet_claims`).
 pub mod Entries
 pub mod Sheet
-pub mod Examples
 pub mod Claims
-pub mod Steps
+pub mod Examples
+pub mod inside

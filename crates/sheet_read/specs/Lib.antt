@@ -1,6 +1,2 @@
--- What the functions of the reader promise each other.
-pub mod Steps
--- What the functions of the check promise.
-pub mod check
--- What the functions of the writing promise each other.
-pub mod fill
+-- What the functions that read a sheet promise each other. The definition stands in the crate `sheet`.
+pub mod inside

@@ -1,5 +1,6 @@
-// Whether a sheet is whole, and what it needs (document 02, M-100 and M-111): the tests of version and header, and the pass over the entries that
-// measures them, of which at most so many are taken. Nothing is written. w is the width of a length.
+// Whether a sheet is whole, and what it needs (document 02, M-100 and M-111): the tests of version and header, and the
+// pass over the entries that measures them, of which at most `most` are taken. Nothing is written. w is the width of a
+// length.
 ghost use mathlib.Core.Path.{_≡_};
 ghost use Prim.Native.Nat.{_+_, _≤_};
 ghost use lib.ListN.{length, drop};
@@ -7,7 +8,7 @@ ghost use Rattle.layout.specs.Lent.{before};
 ghost use Rattle.record.specs.Table.{integerSize};
 ghost use Rattle.sheet.specs.Entries.{wholeItems, beginsEntry};
 ghost use Rattle.sheet.specs.Sheet.{headerSize, maxSheet, versionOf, versionKnown, headerFits};
-ghost use Rattle.sheet_read.specs.check.{neededBy, frontOf, entryDue, ExtentOf};
+ghost use Rattle.sheet_read.specs.inside.check.{neededBy, frontOf, entryDue, ExtentOf};
 use sheet::lengths;
 
 // The version of a sheet.
@@ -20,7 +21,7 @@ pub fn version_of(sheet: &[u8]) -> u8
     sheet[0]
 }
 
-// Not number 13.
+// The version is known; else number 13.
 pub fn version_known(v: u8) -> bool
     ensures { λ r. ⌜ r ≡ versionKnown v ⌝ }
 {
@@ -30,7 +31,7 @@ pub fn version_known(v: u8) -> bool
     v == lengths::VERSION_2
 }
 
-// The fitting rule, by the entries and the bytes of their values.
+// The fitting rule, by the number of entries and of the bytes of their values.
 pub fn version_needed(v: u8, entries: usize, values: usize) -> bool
     requires { ⌜ entries + values ≤ maxSheet ⌝ }
     ensures { λ r. ⌜ r ≡ neededBy v entries values ⌝ }
@@ -53,14 +54,14 @@ pub fn header_fits(sheet: &[u8], w: usize) -> bool
     lengths::length_at(sheet, 1, w) == size - (w + 1)
 }
 
-// So many bytes are a value of the kind.
+// n bytes are a value of the kind.
 fn whole_items(kind: u8, n: usize) -> bool
     ensures { λ r. ⌜ r ≡ wholeItems kind n ⌝ }
 {
-    if kind == 0 {
+    if kind as u32 == record::slots::UNSET {
         return n == 0;
     }
-    n % slot_table::item_size(kind as usize) == 0
+    n % slot_table::item_size(kind as u32) == 0
 }
 
 // A whole entry stands at a place.
@@ -80,20 +81,20 @@ fn is_entry(sheet: &[u8], at: usize, w: usize) -> bool
         return false;
     }
     let kind = sheet[at + w];
-    if record::slots::MAX_KIND < kind as usize {
+    if record::slots::MAX_KIND < kind as u32 {
         return false;
     }
     whole_items(kind, n - 1)
 }
 
 // The whole entries of a sheet: how many, the bytes of their values, and where they end.
-pub struct Extent {
+pub struct SheetExtent {
     pub entries: usize,
     pub values: usize,
     pub end: usize,
 }
 
-// One more entry is due after so many, and stands whole at a place.
+// One more entry is due after `done`, and stands whole at a place.
 fn entry_due(sheet: &[u8], at: usize, w: usize, done: usize, most: usize) -> bool
     requires { ⌜ (w ≤ integerSize) × (at ≤ length (now sheet)) ⌝ }
     ensures { λ r. ⌜ r ≡ entryDue w (before sheet) at done most ⌝ }
@@ -104,8 +105,8 @@ fn entry_due(sheet: &[u8], at: usize, w: usize, done: usize, most: usize) -> boo
     is_entry(sheet, at, w)
 }
 
-// The first pass over the entries, at most so many. Nothing is written.
-pub fn measure(sheet: &[u8], w: usize, most: usize) -> Extent
+// The first pass over the entries, at most `most`. Nothing is written.
+pub fn measure(sheet: &[u8], w: usize, most: usize) -> SheetExtent
     requires { ⌜ (w ≤ integerSize) × (headerSize w ≤ length (now sheet)) × (length (now sheet) ≤ maxSheet) ⌝ }
     ensures { λ r. ⌜ ExtentOf w (frontOf w most (before sheet)) (before sheet) r ⌝ }
 {
@@ -118,7 +119,7 @@ pub fn measure(sheet: &[u8], w: usize, most: usize) -> Extent
         values += n - 1;
         at += w + n;
     }
-    Extent {
+    SheetExtent {
         entries: entries,
         values: values,
         end: at,

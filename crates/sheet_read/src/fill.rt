@@ -1,4 +1,5 @@
-// The entries of a sheet put into a table and its area (document 02, M-100 and M-111), the first so many of them. w is the width of a length.
+// The first entries of a sheet put into a table and its area (document 02, M-100 and M-111). w is the width of a
+// length.
 ghost use mathlib.Core.Path.{_≡_};
 ghost use mathlib.Core.Bool.{true};
 ghost use Prim.Native.Nat.{_+_, _/_, _≤_};
@@ -10,8 +11,8 @@ ghost use Rattle.record.specs.Table.{maxSlots, maxArea, integerSize, itemSize};
 ghost use Rattle.record.specs.Packing.{accepted};
 ghost use Rattle.sheet.specs.Entries.{beginsEntry, entryIn};
 ghost use Rattle.sheet.specs.Sheet.{headerSize, entriesAt};
-ghost use Rattle.sheet_read.specs.check.{frontOf};
-ghost use Rattle.sheet_read.specs.fill.{putFront, Room, PutRoom, PutAs};
+ghost use Rattle.sheet_read.specs.inside.check.{frontOf};
+ghost use Rattle.sheet_read.specs.inside.fill.{putFront, Room, PutRoom, PutAs};
 use record::Answer;
 use sheet::lengths;
 
@@ -19,14 +20,18 @@ use sheet::lengths;
 fn start_of(kind: u8, place: usize) -> usize
     ensures { λ r. ⌜ r ≡ (if eqb kind 0 then 0 else place) ⌝ }
 {
-    if kind == 0 { 0 } else { place }
+    if kind as u32 == record::slots::UNSET {
+        0
+    } else {
+        place
+    }
 }
 
-// The items in so many bytes of a value.
+// The items in `size` bytes of a value.
 fn items_of(kind: u8, size: usize) -> usize
     ensures { λ r. ⌜ r ≡ size / itemSize kind ⌝ }
 {
-    size / slot_table::item_size(kind as usize)
+    size / slot_table::item_size(kind as u32)
 }
 
 // The entry at a place goes into slot k and into the area from the place `to` on; hands back the bytes of its value.
@@ -41,7 +46,8 @@ fn put(
 ) -> usize
     requires { ⌜ (w ≤ integerSize) × (beginsEntry w (drop at (now sheet)) ≡ true) × (at ≤ length (now sheet)) ⌝ }
     requires { ⌜ PutRoom (entryIn w (drop at (now sheet))) (now slots) k (now area) to ⌝ }
-    ensures { λ r. ⌜ PutAs (entryIn w (drop at (before sheet))) (before slots) k (before area) to r (after slots) (after area) ⌝ }
+    ensures { λ r. ⌜ PutAs (entryIn w (drop at (before sheet))) (before slots) k (before area) to r (after slots)
+        (after area) ⌝ }
 {
     let size = lengths::length_at(sheet, at, w) - 1;
     let kind = sheet[at + w];
@@ -64,7 +70,7 @@ fn answer(set: usize, place: usize) -> Answer
     Answer::accepted(set as u32, place as u32)
 }
 
-// The second pass, over as many as the first has found: they are not checked again.
+// The second pass, over as many entries as the first has found: they are not checked again.
 pub fn fill(
     sheet: &[u8],
     w: usize,
@@ -75,7 +81,8 @@ pub fn fill(
 ) -> Answer
     requires { ⌜ (w ≤ integerSize) × (headerSize w ≤ length (now sheet)) × (count ≤ length (entriesAt w (now sheet))) ⌝ }
     requires { ⌜ Room (frontOf w count (now sheet)) (now slots) (now area) mark ⌝ }
-    ensures { λ r. ⌜ record { answer = r; slots = after slots; area = after area } ≡ putFront w count (before sheet) (before slots) (before area) mark ⌝ }
+    ensures { λ r. ⌜ record { answer = r; slots = after slots; area = after area }
+        ≡ putFront w count (before sheet) (before slots) (before area) mark ⌝ }
 {
     let mut at = w + 1;
     let mut set: usize = 0;

@@ -12,12 +12,12 @@ use Rattle.record.specs.Bytes.{storeAt}
 use Rattle.record.specs.Table.{slotsOf, slotWidth, maxSlots}
 use Rattle.record.proofs.Tables.{length-slots}
 use Rattle.sheet.specs.Sheet.{version1, version2, widthOf, headerSize, fitsVersion1, entriesOf, entriesEnd}
-use Rattle.sheet.specs.Steps.{sheetFor, bodyFor, versionOfTable, tableSheet}
+use Rattle.sheet.specs.inside.Steps.{sheetFor, bodyFor, versionOfTable, tableSheet}
 use Rattle.sheet.proofs.Sheets.{length-body, length-sheet}
 use Rattle.sheet.proofs.Calls.{lengths}
 use Rattle.sheet.proofs.Claims.{length-entries}
-use Rattle.sheet_write.specs.store.{BodyRoom}
-use Rattle.sheet_write.specs.Steps.{versionBy, lengthIn, Checked}
+use Rattle.sheet_write.specs.inside.store.{BodyRoom}
+use Rattle.sheet_write.specs.inside.Steps.{versionBy, lengthIn, Checked}
 
 same-test : (n : ℕ) → ltb (3 + n) 65539 ≡ ltb n 65536
 same-test n = go (ltb n 65536) refl

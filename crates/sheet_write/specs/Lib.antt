@@ -1,4 +1,2 @@
--- What the functions of the writer promise each other.
-pub mod Steps
--- What the functions of the writer's two passes promise each other.
-pub mod store
+-- What the functions that write a sheet promise each other. The definition stands in the crate `sheet`.
+pub mod inside

@@ -1,17 +1,17 @@
-// A table of slots stored as a sheet (document 02, M-100 and M-111). The first pass over the slots checks and measures, the second writes (crate
-// sheet_store). So a refusal writes nothing.
+// A table of slots stored as a sheet (document 02, M-100 and M-111). The first pass over the slots checks and measures,
+// the second writes (module `store`). So a refusal writes nothing.
 ghost use mathlib.Core.Path.{_≡_};
 ghost use Prim.Native.Nat.{_≤_, _<_};
 ghost use Rattle.layout.specs.Lent.{before, after};
 ghost use Rattle.record.specs.Table.{maxSlots, numberLimit};
-ghost use Rattle.sheet.specs.Sheet.{write};
-ghost use Rattle.sheet_write.specs.Steps.{versionBy, lengthIn, Checked};
+ghost use Rattle.sheet.specs.Sheet.{writeSheet};
+ghost use Rattle.sheet_write.specs.inside.Steps.{versionBy, lengthIn, Checked};
 use layout::Refusal;
 use record::Answer;
 use sheet::lengths;
-use store::Measured;
+use store::SheetMeasured;
 
-// Its two passes.
+// The two passes.
 mod store;
 
 // The first length that a version 1 sheet cannot have.
@@ -28,7 +28,7 @@ fn version_for(n: usize) -> u8
     }
 }
 
-// The bytes that it takes in a version: in version 2 each length has two more.
+// The bytes in the version v of a sheet that takes n bytes in version 1: in version 2 each length has two more.
 fn length_in(v: u8, n: usize, entries: usize) -> usize
     requires { ⌜ (n < numberLimit) × (entries ≤ maxSlots) ⌝ }
     ensures { λ r. ⌜ r ≡ lengthIn v n entries ⌝ }
@@ -39,10 +39,11 @@ fn length_in(v: u8, n: usize, entries: usize) -> usize
     n
 }
 
-// What is left once the slots are sound.
+// What is left of a writing once the slots are sound.
 fn write_sheet(slots: &[u32], area: &[u8], sheet: &mut [u8], n: usize) -> Answer
     requires { ⌜ Checked (now slots) (now area) (now sheet) n ⌝ }
-    ensures { λ r. ⌜ record { answer = r; output = after sheet } ≡ write (before slots) (before area) (before sheet) ⌝ }
+    ensures { λ r. ⌜ record { answer = r; output = after sheet }
+        ≡ writeSheet (before slots) (before area) (before sheet) ⌝ }
 {
     let v = version_for(n);
     let w = lengths::width_of(v);
@@ -56,14 +57,15 @@ fn write_sheet(slots: &[u32], area: &[u8], sheet: &mut [u8], n: usize) -> Answer
 
 // Stores a table as a sheet at the front of the buffer. A refusal changes nothing.
 pub fn write(slots: &[u32], area: &[u8], sheet: &mut [u8]) -> Answer
-    ensures { λ r. ⌜ record { answer = r; output = after sheet } ≡ write (before slots) (before area) (before sheet) ⌝ }
+    ensures { λ r. ⌜ record { answer = r; output = after sheet }
+        ≡ writeSheet (before slots) (before area) (before sheet) ⌝ }
 {
     if !sheet::lengths_fit(slots.len(), area.len(), sheet.len()) {
         return Answer::refused(Refusal::BadSize, 0);
     }
     let m = store::measure(slots, area);
     match m {
-        Measured::Bad(k) => Answer::refused(Refusal::BadSlot, k as u32),
-        Measured::Length(n) => write_sheet(slots, area, sheet, n),
+        SheetMeasured::Bad(k) => Answer::refused(Refusal::BadSlot, k as u32),
+        SheetMeasured::Length(n) => write_sheet(slots, area, sheet, n),
     }
 }

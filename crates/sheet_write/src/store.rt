@@ -1,5 +1,5 @@
-// A table as a sheet (document 02, M-100 and M-111): the slots checked and measured, then header and entries stored. w is the width of a length.
-// Crate sheet_write has the call.
+// A table as a sheet (document 02, M-100 and M-111): the slots checked and measured, then header and entries stored. w
+// is the width of a length. The call is in src/lib.rt.
 ghost use mathlib.Core.Path.{_≡_};
 ghost use mathlib.Core.Bool.{true};
 ghost use Prim.Native.Nat.{_+_, _*_, _≤_, _<_};
@@ -7,26 +7,26 @@ ghost use lib.ListN.{length};
 ghost use Rattle.layout.specs.Lent.{before, after};
 ghost use Rattle.record.specs.Bytes.{storeAt};
 ghost use Rattle.record.specs.Table.{slotWidth, maxSlots, maxArea, numberLimit};
-ghost use Rattle.sheet.specs.Sheet.{version1, widthOf, headerSize, valueSize, entryOf, slotFits};
-ghost use Rattle.sheet.specs.Steps.{sheetFor, bodyFor};
-ghost use Rattle.sheet_write.specs.store.{MeasuredAs, entryFor, EntryRoom, BodyRoom};
+ghost use Rattle.sheet.specs.Sheet.{version1, widthOf, headerSize, valueSize, entryOf, slotWritable};
+ghost use Rattle.sheet.specs.inside.Steps.{sheetFor, bodyFor};
+ghost use Rattle.sheet_write.specs.inside.store.{MeasuredAs, entryFor, EntryRoom, BodyRoom};
 use byte_runs::big_endian;
 use record::slots::Slot;
 use sheet::lengths;
 
 // What the first pass answers: the length of the sheet in version 1, or the number of the first bad slot.
-pub enum Measured {
+pub enum SheetMeasured {
     Length(usize),
     Bad(usize),
 }
 
-// Not number 7, in an area of so many bytes: a slot that is not set is never bad.
+// A slot over an area of `area` bytes fits; else number 7. One that is not set is never bad.
 fn slot_fits(a: Slot, area: usize) -> bool
     requires { ⌜ (a .start < numberLimit) × (a .len < numberLimit) ⌝ }
-    ensures { λ r. ⌜ r ≡ slotFits area a ⌝ }
+    ensures { λ r. ⌜ r ≡ slotWritable area a ⌝ }
 {
     let kind = a.kind;
-    if kind == 0 {
+    if kind == record::slots::UNSET {
         return true;
     }
     slot_table::is_inside(a, area)
@@ -38,14 +38,14 @@ fn value_size(a: Slot) -> usize
     ensures { λ r. ⌜ r ≡ valueSize a ⌝ }
 {
     let kind = a.kind;
-    if kind == 0 {
+    if kind == record::slots::UNSET {
         return 0;
     }
     a.len * slot_table::item_size(kind)
 }
 
 // The first pass over the slots. Nothing is written.
-pub fn measure(slots: &[u32], area: &[u8]) -> Measured
+pub fn measure(slots: &[u32], area: &[u8]) -> SheetMeasured
     requires { ⌜ (length (now slots) ≤ slotWidth * maxSlots) × (length (now area) ≤ maxArea) ⌝ }
     ensures { λ r. ⌜ MeasuredAs (widthOf version1) (before slots) (before area) r ⌝ }
 {
@@ -55,20 +55,20 @@ pub fn measure(slots: &[u32], area: &[u8]) -> Measured
     while k < count {
         let a = slot_table::slot_at(slots, k);
         if !slot_fits(a, area.len()) {
-            return Measured::Bad(k);
+            return SheetMeasured::Bad(k);
         }
         size += lengths::HEADER_1 + value_size(a);
         k += 1;
     }
-    Measured::Length(size)
+    SheetMeasured::Length(size)
 }
 
 // Copies the value of a slot that was checked.
 fn put_value(out: &mut [u8], at: usize, a: Slot, area: &[u8], size: usize)
-    requires { ⌜ (slotFits (length (now area)) a ≡ true) × (size ≡ valueSize a) × (at + size ≤ length (now out)) ⌝ }
+    requires { ⌜ (slotWritable (length (now area)) a ≡ true) × (size ≡ valueSize a) × (at + size ≤ length (now out)) ⌝ }
     ensures { λ _. ⌜ after out ≡ storeAt (before out) at (entryOf (before area) a .value) ⌝ }
 {
-    if a.kind == 0 {
+    if a.kind == record::slots::UNSET {
         return;
     }
     byte_runs::copy(out, at, area, a.start, size)
@@ -77,7 +77,8 @@ fn put_value(out: &mut [u8], at: usize, a: Slot, area: &[u8], size: usize)
 // Stores the entry of a slot that was checked: length, kind and value; hands back the place after it.
 fn put_entry(out: &mut [u8], at: usize, a: Slot, area: &[u8], w: usize) -> usize
     requires { ⌜ EntryRoom w (now area) a at (length (now out)) × (a .len < numberLimit) ⌝ }
-    ensures { λ r. ⌜ (after out ≡ storeAt (before out) at (entryFor w (before area) a)) × (r ≡ at + length (entryFor w (before area) a)) ⌝ }
+    ensures { λ r. ⌜ (after out ≡ storeAt (before out) at (entryFor w (before area) a))
+        × (r ≡ at + length (entryFor w (before area) a)) ⌝ }
 {
     let size = value_size(a);
     big_endian::put_number(out, at, w, (size + 1) as u64);
@@ -103,7 +104,8 @@ fn put_body(slots: &[u32], area: &[u8], out: &mut [u8], w: usize)
 
 // The second pass: a sheet of n bytes, of version v.
 pub fn fill(slots: &[u32], area: &[u8], out: &mut [u8], v: u8, w: usize, n: usize)
-    requires { ⌜ BodyRoom w (now slots) (now area) (length (now out)) × (n ≡ headerSize w + length (bodyFor w (now slots) (now area))) ⌝ }
+    requires { ⌜ BodyRoom w (now slots) (now area) (length (now out))
+        × (n ≡ headerSize w + length (bodyFor w (now slots) (now area))) ⌝ }
     ensures { λ _. ⌜ after out ≡ storeAt (before out) 0 (sheetFor v w (before slots) (before area)) ⌝ }
 {
     out[0] = v;

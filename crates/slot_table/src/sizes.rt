@@ -1,16 +1,19 @@
 // What is lent keeps to its size, and how many bytes the items of a field fill.
 ghost use mathlib.Core.Path.{_≡_};
 ghost use Prim.Native.Nat.{_≤_, _<_};
-ghost use Rattle.layout.specs.Words.{lastData, realSize, FitCode, shapeNumbered};
-ghost use Rattle.layout.specs.declared.Code.the-variants.{Data};
-ghost use Rattle.record.specs.Geometry.{recordFits, tableFits, lengthsFit, perByte, bytesFor, itemsLimit};
+ghost use Rattle.layout.specs.Codes.{lastData};
+ghost use Rattle.layout.specs.inside.Parsing.{FitRole, shapeNumbered};
+ghost use Rattle.layout.specs.Layout.{realSize};
+ghost use Rattle.layout.specs.declared.Role.the-variants.{Data};
+ghost use Rattle.record.specs.Geometry.{recordFits, tableFits, lengthsFit, perByte, bytesFor};
+ghost use Rattle.record.specs.inside.Bounds.{itemsLimit};
 use layout::Shape;
 use record::MAX_AREA;
 use record::MAX_NUMBERS;
 use record::MAX_RECORD;
 use record::SLOT_WIDTH;
 
-// A layout and a record, or an output buffer, of so many bytes keep to their sizes.
+// A layout of `layout` bytes, and a record or an output buffer of `bytes` bytes, keep to their sizes.
 fn record_fits(layout: usize, bytes: usize) -> bool
     ensures { λ r. ⌜ r ≡ recordFits layout bytes ⌝ }
 {
@@ -20,7 +23,7 @@ fn record_fits(layout: usize, bytes: usize) -> bool
     bytes <= MAX_RECORD
 }
 
-// So many numbers of slots are whole slots and not too many, and an area of so many bytes keeps to its size.
+// `slots` numbers are whole slots and not too many, and an area of `area` bytes keeps to its size.
 pub fn table_fits(slots: usize, area: usize) -> bool
     ensures { λ r. ⌜ r ≡ tableFits slots area ⌝ }
 {
@@ -33,7 +36,7 @@ pub fn table_fits(slots: usize, area: usize) -> bool
     area <= MAX_AREA
 }
 
-// Both; else a call is refused with 1.
+// Layout, slots, record or buffer, and area keep to their sizes; else a call is refused with 1.
 pub fn lengths_fit(layout: usize, slots: usize, bytes: usize, area: usize) -> bool
     ensures { λ r. ⌜ r ≡ lengthsFit layout slots bytes area ⌝ }
 {
@@ -57,9 +60,9 @@ pub fn real_size(single: bool) -> usize
     if single { 4 } else { 8 }
 }
 
-// How many bytes so many items of a field fill.
+// How many bytes n items of a field fill.
 pub fn bytes_for(s: Shape, n: usize) -> usize
-    requires { ⌜ (n < itemsLimit) × FitCode (Data s) ⌝ }
+    requires { ⌜ (n < itemsLimit) × FitRole (Data s) ⌝ }
     ensures { λ r. ⌜ r ≡ bytesFor s n ⌝ }
 {
     match s {
@@ -70,7 +73,7 @@ pub fn bytes_for(s: Shape, n: usize) -> usize
     }
 }
 
-// The same for a type by its number, one that takes a slot.
+// How many bytes n items of a field fill, by the number of its type, one that takes a slot.
 pub fn bytes_numbered(d: u32, n: usize) -> usize
     requires { ⌜ (n < itemsLimit) × (d ≤ lastData) ⌝ }
     ensures { λ r. ⌜ r ≡ bytesFor (shapeNumbered d) n ⌝ }

@@ -1,4 +1,5 @@
--- A local array of plain data: taken apart into cells, so that it can be lent as a `&mut` or a `&` slice, again and again, and made whole, or given up as room. It says nothing of the crate.
+-- A local array of plain data: taken apart into cells, so that it can be lent as a `&mut` or a `&` slice, again and
+-- again, and made whole, or given up as room. It says nothing of the crate.
 use mathlib.Core.Path.{_≡_, refl, sym}
 use Prim.Native.Nat.{ℕ}
 use mathlib.Core.List.{List, [], _∷_, _++_}
@@ -58,7 +59,7 @@ module _ (R : RattleType) (n : ℕ) where
     room-back b zs long =
         qed W (‵ (cells (mem R) zs b 0) ∷ []) ∵ use1 W (some (λ (v : Val). ‵ (fat fullShare arr b 0 v) ⊛ ‵ (Array R n .own zs (v ∷ [])))) (made-whole b zs long) $ pick ! (λ v. split ! $ keep ! (0 ∷ []) $ by ! (W .laws .at-room arr b 0 v))
 
--- ---- the first k of the elements, and what lies behind them
+-- ---- the first k of the elements, and what lies after them
 
 module _ (R : RattleType) (b k : ℕ) (xs : List (R .Denot)) where
   abbrev behind : ℕ → Fml

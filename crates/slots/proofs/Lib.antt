@@ -7,3 +7,5 @@ pub mod Runs
 pub mod Turns
 pub mod Limits
 pub mod Loads
+mod ReadBack
+mod Instance

@@ -1,4 +1,5 @@
--- How many slots are taken apart: of no more than a table may have all, whose numbers are then the first of the scratch, and of more none, since their call is refused.
+-- How many slots are taken apart: of no more than a table may have all, whose numbers are then the first of the
+-- scratch, and of more none, since their call is refused.
 use mathlib.Core.Path.{_≡_, sym, ap, _∙_}
 use Prim.Native.Nat.{ℕ, _*_, _<_, _≤_}
 use native.Mathlib.Nat.{lt-of-not-le}
@@ -12,8 +13,8 @@ use borrow.Author.Tests.{le-leb, lt-leb}
 use Rattle.record.specs.Geometry.{sizesFit}
 use Rattle.record.proofs.Sizes.{too-many}
 use Rattle.record.specs.Table.{slotWidth, maxSlots}
-use Rattle.slots.specs.declared.Slot.{Slot}
-use Rattle.slots.specs.Slots.{maxNumbers, numbersOf, taken}
+use Rattle.slots.specs.declared.SlotRecord.{SlotRecord}
+use Rattle.slots.specs.Slots.{maxNumbers, slotsNumbers, taken}
 use Rattle.slots.proofs.Runs.{filled, length-numbers}
 
 pub taken-few : (n : ℕ) → n ≤ maxSlots → taken n ≡ n
@@ -31,15 +32,15 @@ taken-within n = elim (decLe n maxSlots) [
 ]
 
 -- the first numbers of the scratch
-pub first-numbers : (ss : List Slot) (ns : List ℕ) → length ss ≤ maxSlots → take (length ss * slotWidth) (filled (taken (length ss)) ss ns) ≡ numbersOf ss
+pub first-numbers : (ss : List SlotRecord) (ns : List ℕ) → length ss ≤ maxSlots → take (length ss * slotWidth) (filled (taken (length ss)) ss ns) ≡ slotsNumbers ss
 first-numbers ss ns l =
     ap (λ (k : ℕ). take (length ss * slotWidth) (filled k ss ns)) (taken-few (length ss) l)
-    ∙ ap (λ (z : List Slot). take (length ss * slotWidth) (numbersOf z ++ drop (length ss * slotWidth) ns)) (take-length ss)
-    ∙ take-at (numbersOf ss) (drop (length ss * slotWidth) ns) (length ss * slotWidth) (length-numbers ss)
+    ∙ ap (λ (z : List SlotRecord). take (length ss * slotWidth) (slotsNumbers z ++ drop (length ss * slotWidth) ns)) (take-length ss)
+    ∙ take-at (slotsNumbers ss) (drop (length ss * slotWidth) ns) (length ss * slotWidth) (length-numbers ss)
 
 pub first-part : (ns : List ℕ) (n : ℕ) → n ≤ maxSlots → maxNumbers ≤ length ns → n * slotWidth ≡ length (take (n * slotWidth) ns)
 first-part ns n l g = sym (length-take-le (n * slotWidth) ns (omega arith))
 
 -- more slots than a table may have: number 1
-pub beyond : (layout bytes area : List ℕ) (ss : List Slot) → maxSlots < length ss → sizesFit layout (numbersOf ss) bytes area ≡ false
-beyond layout bytes area ss l = too-many (length layout) (length (numbersOf ss)) (length bytes) (length area) (omega (arith, length-numbers ss))
+pub beyond : (layout bytes area : List ℕ) (ss : List SlotRecord) → maxSlots < length ss → sizesFit layout (slotsNumbers ss) bytes area ≡ false
+beyond layout bytes area ss l = too-many (length layout) (length (slotsNumbers ss)) (length bytes) (length area) (omega (arith, length-numbers ss))

@@ -1,4 +1,5 @@
--- `load` called with a local array of as many zeros as the most slots have numbers, lent for the call: what it asks, and what comes back.
+-- `load` called with a local array of as many zeros as the most slots have numbers, lent for the call: what it asks,
+-- and what comes back.
 use mathlib.Core.Path.{_≡_, refl, sym, ap, subst, _∙_}
 use Prim.Native.Nat.{ℕ, _*_, _<_, _≤_}
 use mathlib.Core.List.{List, [], _∷_}
@@ -31,13 +32,13 @@ use denote.Triple.Clauses.{ensured, lasts}
 use denote.Triple.Spec.{tripleOf}
 use denote.Triple.Walked.{says}
 use Rattle.record.specs.Table.{slotWidth}
-use Rattle.slots.specs.declared.Slot.{Slot}
+use Rattle.slots.specs.declared.SlotRecord.{SlotRecord}
 use Rattle.slots.specs.Slots.{maxNumbers, taken}
 use Rattle.slots.proofs.Runs.{filled, length-filled}
 use Rattle.slots.proofs.Limits.{taken-within}
 use Rattle.slots.proofs.Turns.{numbers-fit}
 use Rattle.slots.proofs.Zeros.{zeros}
-use Rattle.slots.proofs.Slot as T
+use Rattle.slots.proofs.SlotRecord as T
 use Rattle.slots.proofs.load as ld
 
 abbrev R : RattleType
@@ -53,17 +54,17 @@ pub room-numbers : Room u32 maxNumbers
 room-numbers = (lit< tt, lit< tt)
 
 -- the scratch after the call
-abbrev pub scratch : List Slot → List ℕ
+abbrev pub scratch : List SlotRecord → List ℕ
 scratch ss = filled (taken (length ss)) ss (zeros maxNumbers)
 
-pub scratch-long : (ss : List Slot) → length (scratch ss) ≡ maxNumbers
+pub scratch-long : (ss : List SlotRecord) → length (scratch ss) ≡ maxNumbers
 scratch-long ss = length-filled ss (zeros maxNumbers) c (taken-within (length ss) .0) (subst (λ (k : ℕ). c * slotWidth ≤ k) (sym zeros-long) (numbers-fit c maxNumbers (taken-within (length ss) .1) (lit≤ tt))) ∙ zeros-long
   where
     c : ℕ
     c = taken (length ss)
 
-module _ {M : Type 1} (𝓤 : URA M) (H : Heap 𝓤) (A : Atoms 𝓤) (W : Given 𝓤 H A) (mem : Memory → SProp 𝓤) (run : Routine → Fun 𝓤) (κ : Lft) (q : Share) (x : RefT (List Slot)) (l ν : ℕ) (δ : GName) where
-  abbrev ys : List Slot
+module _ {M : Type 1} (𝓤 : URA M) (H : Heap 𝓤) (A : Atoms 𝓤) (W : Given 𝓤 H A) (mem : Memory → SProp 𝓤) (run : Routine → Fun 𝓤) (κ : Lft) (q : Share) (x : RefT (List SlotRecord)) (l ν : ℕ) (δ : GName) where
+  abbrev ys : List SlotRecord
   ys = x .now
 
   abbrev vs : Val

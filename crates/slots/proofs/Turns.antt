@@ -1,4 +1,4 @@
--- The numbers of a loop over slots: at turn i of c, of n slots of so many bytes each.
+-- The numbers of a loop over slots: at turn i of c, of n slots of `recordSize` bytes each.
 use mathlib.Core.Path.{_≡_, sym, ap, subst, _∙_}
 use Prim.Native.Nat.{ℕ, zero, suc, _+_, _*_, _-_, _<_, _≤_, _^_}
 use native.Mathlib.Nat.{add-zero, add-suc, le-antisymm}
@@ -6,7 +6,7 @@ use native.Mathlib.Omega.{arith}
 use mathlib.Core.Bool.{Bool, true, false, not}
 use lib.Dec.{T as Holds, ltb, ltb→lt, nltb→le}
 use Rattle.record.specs.Table.{slotWidth, maxSlots}
-use Rattle.slots.specs.Slots.{maxNumbers, rows}
+use Rattle.slots.specs.Slots.{maxNumbers, tableRows}
 
 -- the bytes of a slot record
 abbrev pub recordSize : ℕ
@@ -21,7 +21,7 @@ place-fits i n l g = omega arith
 pub next-fits : (i c : ℕ) → i < c → c < 2 ^ 64 → i + 1 < 2 ^ 64
 next-fits i c l g = omega arith
 
-pub rows-fit : (n : ℕ) → n ≤ rows → (n < 2 ^ 64) × (n * recordSize < 2 ^ 63)
+pub rows-fit : (n : ℕ) → n ≤ tableRows → (n < 2 ^ 64) × (n * recordSize < 2 ^ 63)
 rows-fit n l = (omega arith, omega arith)
 
 pub numbers-fit : (c m : ℕ) → c ≤ maxSlots → maxNumbers ≤ m → c * slotWidth ≤ m

@@ -1,5 +1,5 @@
+-- Slot records as numbers, what reading over them leaves, and demand 3 over them.
 pub mod Slots
-pub mod pack
-pub mod read
--- Demand 3 over slot records.
-pub mod claims
+pub mod Reading
+pub mod ReadBack
+pub mod inside

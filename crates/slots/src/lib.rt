@@ -1,34 +1,33 @@
-// Slot records: a slice of slots taken apart into numbers, and put together out of them, for the calls of `pack` and `read`.
-// The functions over slots are few and thin: proved by hand.
+// Slot records (document 01, Slot tables): a slice of them taken apart into numbers, and put together out of numbers,
+// for the calls of `pack` and `read`. The functions over slots are few and thin: proved by hand.
 ghost use mathlib.Core.Path.{_≡_};
 ghost use mathlib.Core.List.{_++_};
 ghost use Prim.Native.Nat.{_+_, _*_, _≤_};
 ghost use lib.ListN.{length, take, drop};
 ghost use Rattle.layout.specs.Lent.{before, after};
 ghost use Rattle.record.specs.Table.{slotWidth};
-ghost use Rattle.slots.specs.Slots.{maxNumbers, numbersOf, slotsFrom, slotFrom, putAt, taken};
+ghost use Rattle.slots.specs.Slots.{maxNumbers, slotsNumbers, slotsFrom, slotFrom, putAt, taken};
 
 // Packing: `pack_slots`.
 pub mod pack;
 // Reading: `read_slots`.
 pub mod read;
-// What holds of them: no code.
-pub mod claims;
 
-// A slot as a caller lends it: 16 bytes, four numbers of 32 bits. (`record::slots::Slot` holds the same four as numbers that code counts with; it is
-// read out of a run of numbers and never lent.)
-pub struct Slot {
+// A slot as a caller lends it: 16 bytes, four numbers of 32 bits. (`record::slots::Slot` holds the same four as numbers
+// that code counts with; it is read out of a run of numbers and never lent.)
+pub struct SlotRecord {
     pub kind: u32,
     pub start: u32,
     pub length: u32,
     pub position: u32,
 }
 
-// A table by value, for callers that the borrow checker covers: as many rows as the most slots and one more, of which the first so many are lent.
+// The rows of a table by value, for callers that the borrow checker covers: as many as the most slots and one more. The
+// first of them are lent, as many as the caller says.
 pub const ROWS: usize = record::MAX_SLOTS + 1;
 
 // The slot that the numbers at a place make.
-fn slot_from(numbers: &[u32], at: usize) -> Slot
+fn slot_from(numbers: &[u32], at: usize) -> SlotRecord
     requires { ⌜ at + slotWidth ≤ length (now numbers) ⌝ }
     ensures { λ r. ⌜ r ≡ slotFrom (before numbers) at ⌝ }
 {
@@ -36,7 +35,7 @@ fn slot_from(numbers: &[u32], at: usize) -> Slot
     let start = numbers[at + 1];
     let len = numbers[at + 2];
     let position = numbers[at + 3];
-    Slot {
+    SlotRecord {
         kind: kind,
         start: start,
         length: len,
@@ -45,7 +44,7 @@ fn slot_from(numbers: &[u32], at: usize) -> Slot
 }
 
 // The numbers of a slot, put at a place.
-fn put_slot(numbers: &mut [u32], at: usize, slot: Slot)
+fn put_slot(numbers: &mut [u32], at: usize, slot: SlotRecord)
     requires { ⌜ at + slotWidth ≤ length (now numbers) ⌝ }
     ensures { λ _. ⌜ after numbers ≡ putAt (before numbers) at slot ⌝ }
 {
@@ -63,9 +62,10 @@ fn taken(count: usize) -> usize
 }
 
 // Takes the slots apart into numbers, and tells how many.
-pub fn load(slots: &[Slot], numbers: &mut [u32]) -> usize
+pub fn load(slots: &[SlotRecord], numbers: &mut [u32]) -> usize
     requires { ⌜ maxNumbers ≤ length (now numbers) ⌝ }
-    ensures { λ r. ⌜ (r ≡ taken (length (before slots))) × (after numbers ≡ numbersOf (take r (before slots)) ++ drop (r * slotWidth) (before numbers)) ⌝ }
+    ensures { λ r. ⌜ (r ≡ taken (length (before slots)))
+        × (after numbers ≡ slotsNumbers (take r (before slots)) ++ drop (r * slotWidth) (before numbers)) ⌝ }
 {
     let count = taken(slots.len());
     let mut i = 0;
@@ -76,8 +76,8 @@ pub fn load(slots: &[Slot], numbers: &mut [u32]) -> usize
     count
 }
 
-// Puts so many slots together out of their numbers.
-pub fn save(slots: &mut [Slot], numbers: &[u32], count: usize)
+// Puts the first `count` slots together out of their numbers.
+pub fn save(slots: &mut [SlotRecord], numbers: &[u32], count: usize)
     requires { ⌜ (count ≤ length (now slots)) × (count * slotWidth ≤ length (now numbers)) ⌝ }
     ensures { λ _. ⌜ after slots ≡ slotsFrom (take (count * slotWidth) (before numbers)) ++ drop count (before slots) ⌝ }
 {

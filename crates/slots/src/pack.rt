@@ -4,13 +4,13 @@ ghost use Prim.Native.Nat.{_≤_};
 ghost use lib.ListN.{length};
 ghost use Rattle.layout.specs.Lent.{before, after};
 ghost use Rattle.record.specs.Packing.{pack};
-ghost use Rattle.slots.specs.Slots.{maxNumbers, numbersOf};
-ghost use Rattle.slots.specs.pack.{packFirst};
-use super::Slot;
+ghost use Rattle.slots.specs.Slots.{maxNumbers, slotsNumbers};
+ghost use Rattle.slots.specs.inside.pack.{packFirst};
+use super::SlotRecord;
 use layout::Refusal;
 use record::Answer;
 
-// The packer over the numbers of so many slots.
+// The packer over the numbers of the first `count` slots.
 fn pack_first(
     layout: &[u8],
     numbers: &[u32],
@@ -19,7 +19,8 @@ fn pack_first(
     output: &mut [u8],
 ) -> Answer
     requires { ⌜ maxNumbers ≤ length (now numbers) ⌝ }
-    ensures { λ r. ⌜ record { answer = r; output = after output } ≡ packFirst (before layout) (before numbers) count (before area) (before output) ⌝ }
+    ensures { λ r. ⌜ record { answer = r; output = after output }
+        ≡ packFirst (before layout) (before numbers) count (before area) (before output) ⌝ }
 {
     if record::MAX_SLOTS < count {
         return Answer::refused(Refusal::BadSize, 0);
@@ -29,8 +30,9 @@ fn pack_first(
 }
 
 // Packs the arguments into the output by the layout. A refusal changes nothing.
-pub fn pack_slots(layout: &[u8], slots: &[Slot], area: &[u8], output: &mut [u8]) -> Answer
-    ensures { λ r. ⌜ record { answer = r; output = after output } ≡ pack (before layout) (numbersOf (before slots)) (before area) (before output) ⌝ }
+pub fn pack_slots(layout: &[u8], slots: &[SlotRecord], area: &[u8], output: &mut [u8]) -> Answer
+    ensures { λ r. ⌜ record { answer = r; output = after output }
+        ≡ pack (before layout) (slotsNumbers (before slots)) (before area) (before output) ⌝ }
 {
     let mut numbers = [0; record::MAX_NUMBERS];
     super::load(slots, &mut numbers);

@@ -1,1 +1,2 @@
-pub mod rows_read
+-- What the calls over a table by value leave.
+pub mod inside

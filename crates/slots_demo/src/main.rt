@@ -1,13 +1,14 @@
-// Both calls over slot records, without a walk by hand: a table of slots goes by value. A record is packed, read back, and refused, a line for each;
-// then none, one, the most and one more than the most slots go beside the same slots as numbers: the two lines of a pair are the same.
+// Both calls over slot records, without a walk by hand: a table of slots goes by value. A record is packed, read back,
+// and refused, a line for each; then none, one, the most and one more than the most slots go beside the same slots as
+// numbers: the two lines of a pair are the same.
 use libc::STDOUT_FILENO;
 use record::Answer;
 use record::ReadAnswer;
-use slots::Slot;
+use slots::SlotRecord;
 
-// Packing a table by value.
+// Packing from a table by value.
 mod rows_pack;
-// Reading one.
+// Reading into a table by value.
 mod rows_read;
 
 fn digit(n: u32) -> u8 {
@@ -15,7 +16,7 @@ fn digit(n: u32) -> u8 {
     48 + d as u8
 }
 
-// The last three digits, after a space.
+// Writes the last three digits of a number, after a space.
 fn write_number(n: u32) {
     let text = [b' ', digit(n / 100), digit(n / 10), digit(n)];
     io::write_all(STDOUT_FILENO, &text);
@@ -33,7 +34,7 @@ fn write_read(name: &[u8], r: ReadAnswer) {
     write_number(r.steps);
 }
 
-fn write_slot(s: Slot) {
+fn write_slot(s: SlotRecord) {
     io::write_all(STDOUT_FILENO, b" ;");
     write_number(s.kind);
     write_number(s.start);
@@ -55,14 +56,14 @@ fn write_record(bytes: &[u8; 5]) {
     io::write_all(STDOUT_FILENO, b"\n");
 }
 
-fn pair(first: Slot, second: Slot) -> [Slot; slots::ROWS] {
+fn pair(first: SlotRecord, second: SlotRecord) -> [SlotRecord; slots::ROWS] {
     let mut table = [first; slots::ROWS];
     table[1] = second;
     table
 }
 
 // Packs two slots over "abc", and the integers 5 and -3.
-fn show_pack(name: &[u8], first: Slot, second: Slot, bytes: &mut [u8; 5]) {
+fn show_pack(name: &[u8], first: SlotRecord, second: SlotRecord, bytes: &mut [u8; 5]) {
     let a = rows_pack::pack_some(
         b"a3c2",
         pair(first, second),
@@ -75,7 +76,7 @@ fn show_pack(name: &[u8], first: Slot, second: Slot, bytes: &mut [u8; 5]) {
 }
 
 // Reads into two slots, from the mark 4 on.
-fn show_read(name: &[u8], layout: &[u8], bytes: &[u8; 5], first: Slot, second: Slot) {
+fn show_read(name: &[u8], layout: &[u8], bytes: &[u8; 5], first: SlotRecord, second: SlotRecord) {
     let mut area: [u8; 32] = [0; 32];
     let read = rows_read::read_some(layout, bytes, pair(first, second), 2, &mut area, 4);
     write_read(name, read.answer);
@@ -88,8 +89,8 @@ fn show_read(name: &[u8], layout: &[u8], bytes: &[u8; 5], first: Slot, second: S
 // The numbers of the rows of a table.
 const NUMBERS: usize = record::SLOT_WIDTH * slots::ROWS;
 
-fn string_at(start: u32) -> Slot {
-    Slot {
+fn string_at(start: u32) -> SlotRecord {
+    SlotRecord {
         kind: 1,
         start: start,
         length: 1,
@@ -98,14 +99,14 @@ fn string_at(start: u32) -> Slot {
 }
 
 // Strings of one byte of "xyz": x first, z in the last row that a call may have, and y in every other.
-fn table() -> [Slot; slots::ROWS] {
+fn table() -> [SlotRecord; slots::ROWS] {
     let mut rows = [string_at(1); slots::ROWS];
     rows[0] = string_at(0);
     rows[record::MAX_SLOTS - 1] = string_at(2);
     rows
 }
 
-// The same as numbers.
+// The slots of `table` as numbers.
 fn numbers() -> [u32; NUMBERS] {
     let mut ns: [u32; NUMBERS] = [1; NUMBERS];
     ns[1] = 0;
@@ -120,7 +121,7 @@ fn write_bytes(first: u8, last: u8) {
     io::write_all(STDOUT_FILENO, b"\n");
 }
 
-// Both calls over the first so many numbers.
+// Both calls over the first `end` numbers, or over all where there are fewer.
 fn pack_numbers(layout: &[u8], ns: &[u32], end: usize, output: &mut [u8]) -> Answer {
     if ns.len() < end {
         return packer::pack(layout, ns, b"xyz", output);
@@ -147,7 +148,7 @@ fn read_numbers(layout: &[u8], ns: &mut [u32], end: usize, area: &mut [u8]) -> R
     )
 }
 
-// The numbers of the first so many rows.
+// How many numbers the first `count` rows have; 0 where there are fewer rows.
 fn numbers_of(count: usize) -> usize {
     if slots::ROWS < count {
         return 0;
@@ -187,7 +188,7 @@ fn read_slots(layout: &[u8], count: usize) {
     write_bytes(area[4], area[3 + record::MAX_SLOTS]);
 }
 
-// The row whose numbers start at a place.
+// Writes the row whose numbers start at a place.
 fn write_row(ns: &[u32], at: usize) {
     if ns.len() < 4 {
         return;
@@ -195,7 +196,7 @@ fn write_row(ns: &[u32], at: usize) {
     if ns.len() - 4 < at {
         return;
     }
-    write_slot(Slot {
+    write_slot(SlotRecord {
         kind: ns[at],
         start: ns[at + 1],
         length: ns[at + 2],
@@ -231,14 +232,14 @@ fn part(layout: &[u8], fields: usize) -> &[u8] {
     &layout[0..fields]
 }
 
-// So many strings of one byte, and so many slots.
+// All four calls by a layout of `fields` strings of one byte, over `count` slots.
 fn all(fields: usize, count: usize) {
     let layout: [u8; slots::ROWS] = [b'a'; slots::ROWS];
     each(part(&layout, fields), count);
 }
 
-fn string() -> Slot {
-    Slot {
+fn string() -> SlotRecord {
+    SlotRecord {
         kind: 1,
         start: 0,
         length: 3,
@@ -246,8 +247,8 @@ fn string() -> Slot {
     }
 }
 
-fn integers() -> Slot {
-    Slot {
+fn integers() -> SlotRecord {
+    SlotRecord {
         kind: 2,
         start: 3,
         length: 2,
@@ -255,8 +256,8 @@ fn integers() -> Slot {
     }
 }
 
-fn unset() -> Slot {
-    Slot {
+fn unset() -> SlotRecord {
+    SlotRecord {
         kind: 0,
         start: 0,
         length: 0,

@@ -1,6 +1,7 @@
-// Layouts looked at before they are used: a line for each, with the three numbers: 0, slots, length of the shortest record; or the refusal and its place.
-// Then what is proved of layouts: a line for each, with the four numbers of the answer. Then their fields: 0, fields, 0, and below it a line for each row, in
-// which `-` stands for no count, no slot and what is open, and `*` for a star.
+// Layouts looked at before they are used: a line for each, with the three numbers: 0, slots, length of the shortest
+// record; or the refusal and its place. Then what is proved of layouts: a line for each, with the four numbers of the
+// answer. Then their fields: 0, fields, 0, and below it a line for each row, in which `-` stands for no count, no slot
+// and what is open, and `*` for a star.
 use byte_runs::big_endian;
 use describe::fields;
 use promises::Told;
@@ -28,7 +29,7 @@ fn promises(layout: &[u8]) {
     told(t);
 }
 
-// The old layout, a bar, and the new one.
+// Asks whether one layout extends another: the old one, a bar, and the new one.
 fn extends(pair: &[u8]) {
     let bar = lines::find(pair, 0, b'|');
     if bar < pair.len() {
@@ -86,7 +87,7 @@ fn wide(b: u8) -> u64 {
     b as u64
 }
 
-// The rows that take so many bytes at the front of a run, and the byte behind them.
+// The rows in the first `bytes` bytes of a run, and the byte after them.
 fn filled(run: &[u8], bytes: usize) {
     if run.len() <= bytes {
         return;
@@ -136,9 +137,9 @@ fn run(list: &[u8]) {
     }
 }
 
-// Lists, one example a line: `d` and a layout that is described, `f` and one whose fields are listed, `s` and one whose fields are listed in a run that
-// holds one row, `p` and one whose promises are asked for, `e` and an old layout and a new one, or `h` and a heading. A line of no such letter is no
-// example.
+// Lists, one example a line: `d` and a layout that is described, `f` and one whose fields are listed, `s` and one whose
+// fields are listed in a run that holds one row, `p` and one whose promises are asked for, `e` and an old layout and a
+// new one, or `h` and a heading. A line of no such letter is no example.
 fn counts() {
     run(
         b"
@@ -178,7 +179,7 @@ fn limits() {
     show(&[b'x'; 257], b"layout of 257 bytes");
 }
 
-// The longest shortest record is longer than a record may be; then as packing would be refused.
+// A shortest record that is longer than a record may be; then layouts that packing would refuse.
 fn refusals() {
     run(
         b"
@@ -197,7 +198,7 @@ d a2x*
     );
 }
 
-// 4294967295 stands for no place.
+// What layouts promise; 4294967295 stands for no place.
 fn promised() {
     run(
         b"

@@ -1,4 +1,4 @@
-// The run-through programs, held to their stored output: packing and reading.
+// The run-through program of packing, reading and layouts: a line for each call, held to the stored output.
 
 // The manual's examples and the edges of document 01.
 mod records;
@@ -6,15 +6,15 @@ mod records;
 mod reals;
 // Layouts described.
 mod layouts;
-// Perl templates.
-mod templates;
 // Layouts prepared once.
 mod plan_lines;
+// Perl templates.
+mod templates;
 
 fn main() {
     records::main();
     reals::main();
     layouts::main();
-    templates::main();
     plan_lines::main();
+    templates::main();
 }

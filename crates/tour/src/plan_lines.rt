@@ -1,5 +1,5 @@
-// Layouts prepared once: a line for each call, with the layout that was prepared or the numbers of the plan, the arguments or the record, the answer's
-// numbers, and the bytes or the values.
+// Layouts prepared once: a line for each call, with the layout that was prepared or the numbers of the plan, the
+// arguments or the record, the answer's numbers, and the bytes or the values.
 use layout::MAX_LAYOUT;
 use record::MAX_NUMBERS;
 use record::SLOT_WIDTH;
@@ -9,7 +9,7 @@ use tour_text::print;
 use tour_text::print::Style;
 use tour_text::values;
 
-// Prepares a layout into a run of so many numbers, and prints the line.
+// Prepares a layout into the run `room`, and prints the line.
 fn prepare(layout: &[u8], room: &mut [u32]) {
     let a = plans::prepare(layout, room);
     print::call(b"prepare", layout);
@@ -17,7 +17,7 @@ fn prepare(layout: &[u8], room: &mut [u32]) {
     print::text(b"\n");
 }
 
-// Into two numbers, and into as many as a layout can have fields.
+// Prepares a layout into two numbers; and into as many as a layout can have fields.
 fn short(layout: &[u8]) {
     let mut room = [0u32; 2];
     prepare(layout, &mut room);
@@ -146,8 +146,9 @@ fn run(list: &[u8]) {
     }
 }
 
-// Examples, one a line: `m`, a layout and a bar to prepare it into a long run, `s` into one of two numbers; `p`, a layout, a bar and the arguments to pack
-// by its plan; `r`, a layout, a bar and the record to read by it; or `h`, a bar and a heading. A line with no bar is no example.
+// Examples, one a line: `m`, a layout and a bar to prepare it into a long run, `s` into one of two numbers; `p`, a
+// layout, a bar and the arguments to pack by its plan; `r`, a layout, a bar and the record to read by it; or `h`, a bar
+// and a heading. A line with no bar is no example.
 pub fn main() {
     run(
         b"

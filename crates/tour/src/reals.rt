@@ -1,5 +1,5 @@
-// Reals (document 02, M-108): a line for each call, with the layout, the arguments or the record, the answer's numbers, and the bytes or the values.
-// A double is shown by its pattern.
+// Reals (document 02, M-108): a line for each call, with the layout, the arguments or the record, the answer's numbers,
+// and the bytes or the values. A double is shown by its pattern.
 use record::MAX_NUMBERS;
 use record::SLOT_WIDTH;
 use tour_text::lines;
@@ -73,8 +73,8 @@ fn run(list: &[u8]) {
     }
 }
 
-// Examples, one a line: `p`, a layout, a bar and the arguments to pack; `r`, a layout, a bar and the record to read; or `h`, a bar and a heading. A line
-// with no bar is no example.
+// Examples, one a line: `p`, a layout, a bar and the arguments to pack; `r`, a layout, a bar and the record to read; or
+// `h`, a bar and a heading. A line with no bar is no example.
 pub fn main() {
     run(
         b"

@@ -1,4 +1,5 @@
-// Perl templates become layouts (document 02, M-105): a line for each call, with the template, what is lent, the answer's three numbers and the layout.
+// Perl templates become layouts (document 02, M-105): a line for each call, with the template, what is lent, the
+// answer's three numbers and the layout.
 use layout::MAX_LAYOUT;
 use tour_text::lines;
 use tour_text::print;
@@ -25,7 +26,7 @@ fn show(template: &[u8], told: &[u8], layout: &mut [u8]) {
     print::text(b"\n");
 }
 
-// Into a buffer of the longest layout.
+// Turns a template into a layout, in a buffer of the longest layout.
 fn one(template: &[u8]) {
     show(template, b"", &mut [0; MAX_LAYOUT]);
 }
@@ -197,7 +198,7 @@ fn whole(template: &[u8]) {
     print::text(b"\n");
 }
 
-// What a call does not touch: the buffer behind the layout, and all of it after a refusal.
+// What a call does not touch: the buffer after the layout, and all of it after a refusal.
 fn kept() {
     whole(b"n2");
     whole(b"");

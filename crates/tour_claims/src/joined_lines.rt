@@ -1,5 +1,5 @@
-// Records of two templates (document 02, M-113): a line for the two packed one after the other, and one for packing by their texts joined, each with the
-// three numbers and all that a buffer of sixteen bytes aa then holds.
+// Records of two templates (document 02, M-113): a line for the two packed one after the other, and one for packing by
+// their texts joined, each with the three numbers and all that a buffer of sixteen bytes aa then holds.
 use record::Answer;
 use record::MAX_NUMBERS;
 use record::SLOT_WIDTH;
@@ -39,7 +39,8 @@ fn whole(layout: &[u8], slots: &[u32], area: &[u8], told: &[u8]) {
     ended(told, a, &out);
 }
 
-// Both lines: the first k bytes of the joined text are the first template, and the first n numbers of the slots are its own.
+// Both lines: the first k bytes of the joined text are the first template, and the first n numbers of the slots are its
+// own.
 fn both(layout: &[u8], k: usize, slots: &[u32], n: usize, area: &[u8], told: &[u8]) {
     if layout.len() < k {
         return;
@@ -107,8 +108,8 @@ fn run(list: &[u8]) {
     }
 }
 
-// Examples, one a line: the number of slots and of bytes that are the first template's, the texts joined, a bar and the arguments; or `hh`, a bar and a
-// heading. A line with no bar is no example.
+// Examples, one a line: the number of slots and of bytes that are the first template's, the texts joined, a bar and the
+// arguments; or `hh`, a bar and a heading. A line with no bar is no example.
 pub fn main() {
     run(
         br#"

@@ -1,12 +1,13 @@
-// Records read and packed again (document 02, M-107): a line for each, with the layout, the record, what is lent besides, the packer's three numbers,
-// the bytes that it stored, and the values in between.
+// Records read and packed again (document 02, M-107): a line for each, with the layout, the record, what is lent
+// besides, the packer's three numbers, the bytes that it stored, and the values in between.
 use record::SLOT_WIDTH;
 use tour_text::lines;
 use tour_text::print;
 use tour_text::print::Style;
 use tour_text::values;
 
-// Reads from the mark 3 on, packs again, and prints the line; `told` names the table where it is not one slot for each field.
+// Reads from the mark 3 on, packs again, and prints the line; `told` names the table where it is not one slot for each
+// field.
 fn show(layout: &[u8], bytes: &[u8], told: &[u8], slots: &mut [u32]) {
     let mut area = [7u8; 64];
     let mut out = [9u8; 16];
@@ -62,8 +63,8 @@ fn run(list: &[u8]) {
     }
 }
 
-// Examples, one a line: the number of slots, a layout, a bar and the record; `f`, a bar and a record of the form; or `h`, a bar and a heading. A line with
-// no bar is no example.
+// Examples, one a line: the number of slots, a layout, a bar and the record; `f`, a bar and a record of the form; or
+// `h`, a bar and a heading. A line with no bar is no example.
 pub fn main() {
     run(
         b"

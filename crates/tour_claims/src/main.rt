@@ -1,8 +1,8 @@
-// Run-through programs of what holds of several calls together.
+// The run-through program of several calls together: a line for each, held to the stored output.
 
 // Records read and packed again.
 mod lossless_lines;
-// Records of two templates.
+// Records of two layouts.
 mod joined_lines;
 // Copies compared.
 mod compare_lines;

@@ -1,4 +1,4 @@
-// Run-through programs of sheets and marks.
+// The run-through program of sheets and marks: a line for each call, held to the stored output.
 
 // Tables stored as sheets and read back.
 mod sheets;

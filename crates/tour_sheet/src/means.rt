@@ -1,5 +1,6 @@
-// Means of marked legs (document 02, M-104): a line for each call, with the table, the answer's three numbers, and the pattern of the mean or that no leg is marked.
-ghost use Rattle.mean.specs.marks.Claims.{Numeric};
+// Means of marked legs (document 02, M-104): a line for each call, with the table, the answer's three numbers, and the
+// pattern of the mean or that no leg is marked.
+ghost use Rattle.mean.specs.Claims.{Numeric};
 use mean::marks::LegMean;
 use mean::marks::Marks;
 use record::MAX_AREA;
@@ -77,7 +78,8 @@ fn run(list: &[u8]) {
     }
 }
 
-// A leg that is not set changes the count alone, a leg of 0 the mean; quotients that are exact and that are not; a sum above 24 bits.
+// A leg that is not set changes the count alone, a leg of 0 the mean; quotients that are exact and that are not; a sum
+// above 24 bits.
 fn means() {
     run(
         b"{40} {60}
@@ -129,7 +131,7 @@ fn bad_legs() {
     );
 }
 
-// Over the eight bytes of the integer 50.
+// A table over the eight bytes of the integer 50.
 fn placed(told: &[u8], slots: &[u32]) {
     show(told, slots, b"\x00\x00\x00\x00\x00\x00\x00\x32");
 }
@@ -154,7 +156,8 @@ fn bad_ends() {
     placed(b"slot 2 8 0 over {50}", &[2, 8, 0, 0]);
 }
 
-// A long array is lent as an array, and only its borrower takes it for a slice: where an array is made, the prover counts a slice of it byte by byte.
+// A long array is lent as an array, and only its borrower takes it for a slice: where an array is made, the prover
+// counts a slice of it byte by byte.
 fn longer(area: &[u8; MAX_AREA + 1]) {
     show(b"area over its size", &[4; SLOT_WIDTH], area);
 }

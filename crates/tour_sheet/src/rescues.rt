@@ -1,4 +1,5 @@
-// Damaged sheets rescued (document 02, M-109): a line for each call, with what it is lent, the answer's four numbers, and what it left.
+// Damaged sheets rescued (document 02, M-109): a line for each call, with what it is lent, the answer's four numbers,
+// and what it left.
 use record::MAX_AREA;
 use record::MAX_NUMBERS;
 use record::MAX_SLOTS;
@@ -40,7 +41,8 @@ fn cuts(sheet: &[u8]) {
     three(sheet);
 }
 
-// Bytes of the request's own sheet that were damaged: the header's length, an entry's length, and a kind. What follows a wrong entry is dropped.
+// Bytes of the request's own sheet that were damaged: the header's length, an entry's length, and a kind. What follows
+// a wrong entry is dropped.
 fn damages() {
     three(b"\x01\xff\xff\x00\x01\x00\x00\x03\x01OK\x00\x09\x02\xff\xff\xff\xff\xff\xff\xff\xfe");
     three(b"\x01\x00\x00\x00\x01\x00\x00\x03\x01OK\x00\x09\x02\xff\xff\xff\xff\xff\xff\xff\xfe");
@@ -63,7 +65,8 @@ fn second_versions() {
     three(b"\x02");
 }
 
-// Two strings and one that is not set, for so many legs, into three slots of nines and eight bytes aa from the mark 1 on; prints all that they then hold.
+// Two strings and one that is not set, for `legs` legs, into three slots of nines and eight bytes aa from the mark 1
+// on; prints all that they then hold.
 fn whole(legs: usize) {
     let mut slots = [9u32; 3 * SLOT_WIDTH];
     let mut area = [0xaau8; 8];
@@ -92,7 +95,7 @@ fn kept() {
     whole(65);
 }
 
-// An integer and a string in an area of eight bytes, for so many legs.
+// An integer and a string in an area of eight bytes, for `legs` legs.
 fn integer(told: &[u8], legs: usize, mark: usize) {
     show(
         b"\x01\x00\x0f\x00\x09\x02\x00\x00\x00\x00\x00\x00\x00\x07\x00\x02\x01x",
@@ -113,7 +116,7 @@ fn marks() {
     integer(b"3 legs, 2 slots, mark 8, area of 8 bytes", 3, 8);
 }
 
-// A sheet's first byte alone, and so many legs.
+// A sheet's first byte alone, for `legs` legs.
 fn first(sheet: &[u8], told: &[u8], legs: usize) {
     show(sheet, told, legs, &mut [0; SLOT_WIDTH], &mut [0; 8], 0);
 }
@@ -128,7 +131,8 @@ fn orders() {
     first(b"\x01", b"4294967297 legs", 4294967297);
 }
 
-// A long array is lent as an array, and only its borrower takes it for a slice: where an array is made, the prover counts a slice of it byte by byte.
+// A long array is lent as an array, and only its borrower takes it for a slice: where an array is made, the prover
+// counts a slice of it byte by byte.
 fn longest(sheet: &[u8; MAX_AREA], area: &mut [u8; MAX_AREA]) {
     show(
         sheet,
@@ -161,7 +165,7 @@ fn sizes() {
 
 pub fn main() {
     print::heading(
-        b"Rescues for three legs: sheet -> number, kept, blanked, dropped: values. Every cut of a sheet",
+        b"Rescues for three legs: sheet -> number, kept, cleared, dropped: values. Every cut of a sheet",
     );
     cuts(b"\x01\x00\x13\x00\x01\x00\x00\x03\x01OK\x00\x09\x02\xff\xff\xff\xff\xff\xff\xff\xfe");
     print::heading(b"\nDamaged bytes");

@@ -1,4 +1,5 @@
-// Tables stored as sheets and read back (document 02, M-100): a line for each call, with what it is lent, the answer's three numbers, and what it wrote.
+// Tables stored as sheets and read back (document 02, M-100): a line for each call, with what it is lent, the answer's
+// three numbers, and what it wrote.
 mod examples;
 mod reading;
 mod writing;

@@ -1,5 +1,5 @@
-// The arguments of an example, from a text: strings in quotes, integers in braces, reals by the hex digits of their patterns in angle brackets,
-// and `-` for a slot that is not set, as in `"abc" {3 -3 128} <3ff0000000000000> -`.
+// The arguments of an example, from a text: strings in quotes, integers in braces, reals by the hex digits of their
+// patterns in angle brackets, and `-` for a slot that is not set, as in `"abc" {3 -3 128} <3ff0000000000000> -`.
 
 // How many numbers of the slot run and how many bytes of the area are in use.
 pub struct Used {
@@ -7,8 +7,8 @@ pub struct Used {
     pub area: usize,
 }
 
-// What has been read of the text: the kind of the value that stands open (0: none), where it starts in the area and its items so far;
-// the digits of an item so far.
+// What has been read of the text: the kind of the value that stands open (0: none), where it starts in the area and its
+// items so far; the digits of an item so far.
 struct State {
     open: u32,
     start: usize,

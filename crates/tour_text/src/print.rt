@@ -125,7 +125,7 @@ pub fn answer(n: u32, first: u32, second: u32) {
     spaced(second);
 }
 
-// The same with the steps of a reading.
+// The three numbers of a reading's answer, and its steps.
 pub fn read_answer(r: ReadAnswer) {
     let a = r.answer;
     answer(a.number, a.first, a.second);

@@ -1,4 +1,5 @@
-// The values that slots show: strings in quotes, integers in braces, reals by their patterns in angle brackets, `not set` for a slot that is not set.
+// The values that slots show: strings in quotes, integers in braces, reals by their patterns in angle brackets, `not
+// set` for a slot that is not set.
 use super::print;
 use super::print::Style;
 use byte_runs::big_endian;
@@ -60,7 +61,7 @@ fn integers(run: &[u8], kind: u32) {
     }
 }
 
-// Of a long run the first two and the last two.
+// The integers in a run of bytes; of a long run the first two and the last two.
 fn few_integers(run: &[u8], kind: u32) {
     if run.len() <= 128 {
         integers(run, kind);

@@ -14,38 +14,14 @@ Inv-loop out₀ at from start n done₀ out done = (done ≤ n) × Grown out₀ 
 abbrev μ-loop : tie.MeasureT-loop
 μ-loop out₀ at from start n done₀ out done = n - done
 
-copy-block-requires : tie.Need-copy-block-requires Inv-loop μ-loop
-copy-block-requires c κs = search needs
-
-same-length : tie.Need-same-length Inv-loop μ-loop
-same-length c = search needs
-
 returns : tie.Need-returns Inv-loop μ-loop
 returns c = c .before .before .copy-block .ensures
 
 loop-holds : tie.Need-loop-holds Inv-loop μ-loop
 loop-holds c = (omega arith, grown-none)
 
-sub-least : tie.Need-sub-least Inv-loop μ-loop
-sub-least c = omega arith
-
-least-requires : tie.Need-least-requires Inv-loop μ-loop
-least-requires c κs = search needs
-
-add-copy-block : tie.Need-add-copy-block Inv-loop μ-loop
-add-copy-block c = omega arith
-
-add-copy-block-2 : tie.Need-add-copy-block-2 Inv-loop μ-loop
-add-copy-block-2 c = omega arith
-
 copy-block-requires-2 : tie.Need-copy-block-requires-2 Inv-loop μ-loop
 copy-block-requires-2 c κs = (omega arith, omega arith, omega arith)
-
-add-done : tie.Need-add-done Inv-loop μ-loop
-add-done c = omega arith
-
-loop-less : tie.Need-loop-less Inv-loop μ-loop
-loop-less c = omega arith
 
 loop-again : tie.Need-loop-again Inv-loop μ-loop
 loop-again c =
@@ -69,17 +45,17 @@ copy-spec =
     (tie.spec
     Inv-loop
     μ-loop
-    copy-block-requires
-    same-length
+    (λ c κs. search needs)
+    (λ c. search needs)
     returns
     loop-holds
-    sub-least
-    least-requires
-    add-copy-block
-    add-copy-block-2
+    (λ c. omega arith)
+    (λ c κs. search needs)
+    (λ c. omega arith)
+    (λ c. omega arith)
     copy-block-requires-2
-    add-done
-    loop-less
+    (λ c. omega arith)
+    (λ c. omega arith)
     loop-again
     same-length-2
     returns-2)

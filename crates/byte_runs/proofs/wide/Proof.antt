@@ -3,8 +3,5 @@ use borrow.Author.Needs.{needs}
 use Rattle.byte_runs.proofs.wide.Statement.{statement}
 use Rattle.byte_runs.proofs.wide.Tie as tie
 
-returns : tie.Need-returns
-returns c = search needs
-
 pub wide-spec : {M : Type 1} → statement M
-wide-spec = tie.close (tie.spec returns)
+wide-spec = tie.close (tie.spec (λ c. search needs))

@@ -1,4 +1,5 @@
--- Laws of the bits that differ: of two bytes they are the ones of the exclusive or, and of two runs the sum over the bytes.
+-- Laws of the bits that differ: of two bytes they are the ones of the exclusive or, and of two runs the sum over the
+-- bytes.
 use Prim.Native.Nat.{ℕ, zero, suc, _+_, _*_, _/_, _%_, _^_, _≤_, _<_, min}
 use native.Mathlib.Nat.{pow-suc, add-assoc, zero-add}
 use native.Mathlib.Omega.{arith}
@@ -14,7 +15,7 @@ use Rattle.layout.specs.Refusals.{if_then_else_}
 use Rattle.record.specs.Bytes.{part, join, digits}
 use Rattle.record.proofs.Bytes.{length-digits}
 use Rattle.record.proofs.Stores.{length-part}
-use Rattle.compare.specs.difference.{differing, bitsOf, differingBits}
+use Rattle.compare.specs.Difference.{differing, bitsOf, differingBits}
 use Rattle.compare.proofs.difference.Runs.{part-more, part-add}
 
 -- ---- two bytes

@@ -8,12 +8,12 @@ use lib.ListN.{length, take, drop}
 use lib.Seq.{take-take}
 use Rattle.record.specs.Bytes.{part}
 use Rattle.record.proofs.Stores.{length-part}
-use Rattle.compare.specs.difference.{same, firstDifference, differingBits, bothSame, bothDiffer, plainRow, bothRow}
+use Rattle.compare.specs.Difference.{sameBytes, firstDifference, differingBits, bothSame, bothDiffer, plainFinding, bothFinding}
 use Rattle.compare.proofs.difference.Runs.{difference-common}
 use Rattle.compare.proofs.difference.Bits.{bits-common}
 
-pub both-same : (xs ys : List ℕ) {t : Bool} {r : List ℕ} → t ≡ same xs ys → t ≡ true → r ≡ plainRow bothSame → r ≡ bothRow xs ys
-unfolding bothRow
+pub both-same : (xs ys : List ℕ) {t : Bool} {r : List ℕ} → t ≡ sameBytes xs ys → t ≡ true → r ≡ plainFinding bothSame → r ≡ bothFinding xs ys
+unfolding bothFinding
 both-same xs ys test e q = q ∙ rw (← test, e)
 
 module _ (f : List ℕ) (at n : ℕ) (s : List ℕ) (to m common : ℕ) (h : at + n ≤ length f) (k : to + m ≤ length s) (least : common ≡ min n m) where
@@ -32,7 +32,7 @@ module _ (f : List ℕ) (at n : ℕ) (s : List ℕ) (to m common : ℕ) (h : at 
   bits-of-common : differingBits (part f at common) (part s to common) ≡ differingBits (part f at n) (part s to m)
   bits-of-common = rw (← first-part, ← second-part) (bits-common common (part f at n) (part s to m) shorter)
 
-  pub both-differ : {t : Bool} {place bits : ℕ} → t ≡ same (part f at n) (part s to m) → t ≡ false → place ≡ firstDifference (part f at common) (part s to common)
-      → bits ≡ differingBits (part f at common) (part s to common) → bothDiffer ∷ place ∷ bits ∷ [] ≡ bothRow (part f at n) (part s to m)
-  unfolding bothRow
+  pub both-differ : {t : Bool} {place bits : ℕ} → t ≡ sameBytes (part f at n) (part s to m) → t ≡ false → place ≡ firstDifference (part f at common) (part s to common)
+      → bits ≡ differingBits (part f at common) (part s to common) → bothDiffer ∷ place ∷ bits ∷ [] ≡ bothFinding (part f at n) (part s to m)
+  unfolding bothFinding
   both-differ test e p q = rw (← test, e, p, place-of-common, q, bits-of-common)

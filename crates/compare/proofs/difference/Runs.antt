@@ -14,7 +14,7 @@ use Rattle.layout.specs.Refusals.{if_then_else_}
 use Rattle.record.specs.Bytes.{part}
 use Rattle.record.proofs.Bytes.{and-true}
 use Rattle.record.proofs.Stores.{length-part}
-use Rattle.compare.specs.difference.{same, firstDifference}
+use Rattle.compare.specs.Difference.{sameBytes, firstDifference}
 
 -- ---- parts of a run
 
@@ -103,49 +103,49 @@ and-assoc true b c = refl
 and-assoc false b c = refl
 
 -- run by run
-same-append : (xs ys us vs : List ℕ) → length xs ≡ length ys → same (xs ++ us) (ys ++ vs) ≡ same xs ys && same us vs
-unfolding same
+same-append : (xs ys us vs : List ℕ) → length xs ≡ length ys → sameBytes (xs ++ us) (ys ++ vs) ≡ sameBytes xs ys && sameBytes us vs
+unfolding sameBytes
 same-append [] [] us vs e = refl
 same-append [] (b ∷ ys) us vs e = absurd (omega arith)
 same-append (a ∷ xs) [] us vs e = absurd (omega arith)
 same-append (a ∷ xs) (b ∷ ys) us vs e =
     let l : length xs ≡ length ys = omega arith in
-    rw (same-append xs ys us vs l) (sym (and-assoc (eqb a b) (same xs ys) (same us vs)))
+    rw (same-append xs ys us vs l) (sym (and-assoc (eqb a b) (sameBytes xs ys) (sameBytes us vs)))
 
 -- a byte more at the end
-same-more : (xs ys : List ℕ) (x y : ℕ) → length xs ≡ length ys → same (xs ++ (x ∷ [])) (ys ++ (y ∷ [])) ≡ same xs ys && eqb x y
-unfolding same
-same-more xs ys x y e = same-append xs ys (x ∷ []) (y ∷ []) e ∙ ap (λ (b : Bool). same xs ys && b) (and-end (eqb x y))
+same-more : (xs ys : List ℕ) (x y : ℕ) → length xs ≡ length ys → sameBytes (xs ++ (x ∷ [])) (ys ++ (y ∷ [])) ≡ sameBytes xs ys && eqb x y
+unfolding sameBytes
+same-more xs ys x y e = same-append xs ys (x ∷ []) (y ∷ []) e ∙ ap (λ (b : Bool). sameBytes xs ys && b) (and-end (eqb x y))
   where
     and-end : (b : Bool) → b && true ≡ b
     and-end true = refl
     and-end false = refl
 
 pub part-same : (f : List ℕ) (at : ℕ) (s : List ℕ) (to i : ℕ) → at + i < length f → to + i < length s
-    → same (part f at (i + 1)) (part s to (i + 1)) ≡ same (part f at i) (part s to i) && eqb (getD f (at + i) 0) (getD s (to + i) 0)
+    → sameBytes (part f at (i + 1)) (part s to (i + 1)) ≡ sameBytes (part f at i) (part s to i) && eqb (getD f (at + i) 0) (getD s (to + i) 0)
 part-same f at s to i h k =
     let l : length (part f at i) ≡ length (part s to i) = length-part i at f (omega arith) ∙ sym (length-part i to s (omega arith)) in
     rw (part-more f at i h, part-more s to i k) (same-more (part f at i) (part s to i) (getD f (at + i) 0) (getD s (to + i) 0) l)
 
 -- a block more
 pub block-same : (f : List ℕ) (at : ℕ) (s : List ℕ) (to i m : ℕ) → at + (i + m) ≤ length f → to + (i + m) ≤ length s
-    → same (part f at i) (part s to i) ≡ true → same (part f (at + i) m) (part s (to + i) m) ≡ true → same (part f at (i + m)) (part s to (i + m)) ≡ true
+    → sameBytes (part f at i) (part s to i) ≡ true → sameBytes (part f (at + i) m) (part s (to + i) m) ≡ true → sameBytes (part f at (i + m)) (part s to (i + m)) ≡ true
 block-same f at s to i m h k p q =
     let l : length (part f at i) ≡ length (part s to i) = length-part i at f (omega arith) ∙ sym (length-part i to s (omega arith)) in
     rw (part-add f at i m, part-add s to i m, same-append (part f at i) (part s to i) (part f (at + i) m) (part s (to + i) m) l, p, q)
 
 -- two runs part no sooner than after what is the same at their fronts
-difference-past : (xs ys us vs : List ℕ) → same xs ys ≡ true → firstDifference (xs ++ us) (ys ++ vs) ≡ length xs + firstDifference us vs
-unfolding same firstDifference
+difference-past : (xs ys us vs : List ℕ) → sameBytes xs ys ≡ true → firstDifference (xs ++ us) (ys ++ vs) ≡ length xs + firstDifference us vs
+unfolding sameBytes firstDifference
 difference-past [] [] us vs h = sym (zero-add (firstDifference us vs))
 difference-past [] (y ∷ ys) us vs h = absurd (true≢false (sym h))
 difference-past (x ∷ xs) [] us vs h = absurd (true≢false (sym h))
 difference-past (x ∷ xs) (y ∷ ys) us vs h =
-    let p = and-true (eqb x y) (same xs ys) h in
+    let p = and-true (eqb x y) (sameBytes xs ys) h in
     let e : firstDifference (xs ++ us) (ys ++ vs) ≡ length xs + firstDifference us vs = difference-past xs ys us vs (p .1) in
     rw (p .0) (omega (arith, e))
 
-pub alike-from : (f : List ℕ) (at : ℕ) (s : List ℕ) (to n i : ℕ) → i ≤ n → at + n ≤ length f → to + n ≤ length s → same (part f at i) (part s to i) ≡ true → Alike f at s to n i
+pub alike-from : (f : List ℕ) (at : ℕ) (s : List ℕ) (to n i : ℕ) → i ≤ n → at + n ≤ length f → to + n ≤ length s → sameBytes (part f at i) (part s to i) ≡ true → Alike f at s to n i
 alike-from f at s to n i w h k e =
     let sum : n ≡ i + (n - i) = omega arith in
     let p : part f at n ≡ part f at i ++ part f (at + i) (n - i) = ap (part f at) sum ∙ part-add f at i (n - i) in
@@ -154,8 +154,8 @@ alike-from f at s to n i w h k e =
     record { within = w; same = ap₂ firstDifference p q ∙ d ∙ ap (λ (m : ℕ). m + firstDifference (part f (at + i) (n - i)) (part s (to + i) (n - i))) (length-part i at f (omega arith)) }
 
 -- runs of different lengths are not the same
-pub same-long : (xs ys : List ℕ) → (length xs ≡ length ys → ⊥) → same xs ys ≡ false
-unfolding same
+pub same-long : (xs ys : List ℕ) → (length xs ≡ length ys → ⊥) → sameBytes xs ys ≡ false
+unfolding sameBytes
 same-long [] [] h = absurd (h refl)
 same-long [] (y ∷ ys) h = refl
 same-long (x ∷ xs) [] h = refl
@@ -165,5 +165,5 @@ same-long (x ∷ xs) (y ∷ ys) h = rw (same-long xs ys (λ e. h (ap suc e))) (a
     and-none true = refl
     and-none false = refl
 
-pub parts-long : (f : List ℕ) (at n : ℕ) (s : List ℕ) (to m : ℕ) → at + n ≤ length f → to + m ≤ length s → (n ≡ m → ⊥) → false ≡ same (part f at n) (part s to m)
+pub parts-long : (f : List ℕ) (at n : ℕ) (s : List ℕ) (to m : ℕ) → at + n ≤ length f → to + m ≤ length s → (n ≡ m → ⊥) → false ≡ sameBytes (part f at n) (part s to m)
 parts-long f at n s to m h k d = sym (same-long (part f at n) (part s to m) (λ e. d (sym (length-part n at f h) ∙ e ∙ length-part m to s k)))

@@ -7,15 +7,12 @@ use lib.ListN.{length}
 use borrow.Author.Needs.{needs}
 use Rattle.layout.specs.Layout.{maxLayout, fieldsOf}
 use Rattle.layout.specs.Refusals.{refused}
-use Rattle.layout.specs.Words.{decoded}
+use Rattle.layout.specs.inside.Parsing.{decoded}
 use Rattle.layout.proofs.Decoded.{Learnt, parsed-fields, parsed-refused, decoded-length}
 use Rattle.layout.proofs.Places.{refused-inside}
 use Rattle.describe.proofs.Calls.{slots-few, too-long, refused-fields, told}
 use Rattle.describe.proofs.describe.Statement.{statement}
 use Rattle.describe.proofs.describe.Tie as tie
-
-refused-requires : tie.Need-refused-requires
-refused-requires c κs = search needs
 
 returns : tie.Need-returns
 returns c = rw (c .refused .ensures) (too-long _ (c .before .if1 .taken))
@@ -29,27 +26,9 @@ bad c = parsed-refused _ _ _ _ _ (c .before .before .before .before .parse .ensu
 learnt : (c : tie.After-known-told2) → Learnt (fieldsOf true (c .before .before .before .before .before .before .before .before .args .layout .now)) (c .before .p2 .given .0 .0) (c .before .p2 .given .0 .1 .0) (c .before .before .before .before .parse .last .1 .1 .0)
 learnt c = parsed-fields _ _ _ _ _ (c .before .before .before .before .parse .ensures) (c .before .p2 .given .1)
 
-slice-aggregate-parse : tie.Need-slice-aggregate-parse
-slice-aggregate-parse c = search needs
-
-parse-requires : tie.Need-parse-requires
-parse-requires c κs = search needs
-
-enum-known-p : tie.Need-enum-known-p
-enum-known-p c = search needs
-
 cast-refused : tie.Need-cast-refused
 cast-refused c =
     omega (arith, fits (c .before .before .before .before .before .before), refused-inside true (c .before .before .before .before .before .before .before .before .args .layout .now) _ _ (bad c))
-
-refused-requires-2 : tie.Need-refused-requires-2
-refused-requires-2 c κs = search needs
-
-enum-known-p-2 : tie.Need-enum-known-p-2
-enum-known-p-2 c = search needs
-
-slice-aggregate-least-length : tie.Need-slice-aggregate-least-length
-slice-aggregate-least-length c = search needs
 
 least-length-requires : tie.Need-least-length-requires
 least-length-requires c κs =
@@ -67,9 +46,6 @@ cast-accepted c =
 cast-accepted-2 : tie.Need-cast-accepted-2
 cast-accepted-2 c = omega (arith, c .least-length .ensures .small)
 
-accepted-requires : tie.Need-accepted-requires
-accepted-requires c κs = search needs
-
 returns-2 : tie.Need-returns-2
 returns-2 c =
     let k = c .before in
@@ -86,18 +62,18 @@ pub describe-spec : {M : Type 1} → statement M
 describe-spec =
     tie.close
     (tie.spec
-    refused-requires
+    (λ c κs. search needs)
     returns
-    slice-aggregate-parse
-    parse-requires
-    enum-known-p
+    (λ c. search needs)
+    (λ c κs. search needs)
+    (λ c. search needs)
     cast-refused
-    refused-requires-2
-    enum-known-p-2
-    slice-aggregate-least-length
+    (λ c κs. search needs)
+    (λ c. search needs)
+    (λ c. search needs)
     least-length-requires
     cast-accepted
     cast-accepted-2
-    accepted-requires
+    (λ c κs. search needs)
     returns-2
     returns-3)

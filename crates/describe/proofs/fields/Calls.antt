@@ -11,16 +11,16 @@ use Rattle.layout.specs.declared.Refusal.{Refusal}
 use Rattle.layout.specs.declared.Refusal.the-variants.{BadSize, NoRoom}
 use Rattle.layout.specs.Refusals.{refused}
 use Rattle.layout.specs.Layout.{maxLayout, fieldsOf}
-use Rattle.layout.specs.Words.{decoded}
+use Rattle.layout.specs.inside.Parsing.{decoded}
 use Rattle.layout.proofs.Decoded.{Learnt, decoded-length}
 use Rattle.record.specs.Packing.{accepted, refusal}
-use Rattle.describe.specs.placed.Placed.{Placed}
-use Rattle.describe.proofs.placed.Places.{Placing, placing, placed-refused}
-use Rattle.describe.specs.fields.Rows.{origin, rowsOf, rowSize, rowBytes, listing, listed}
-use Rattle.describe.specs.fields.Walk.{Holds, Written}
+use Rattle.describe.specs.Placed.{Placed}
+use Rattle.describe.proofs.Places.{Placing, placing, placed-refused}
+use Rattle.describe.specs.Rows.{trackStart, rowsOf, rowSize, rowBytes, listing, listed}
+use Rattle.describe.specs.inside.Walk.{Holds, Written}
 use Rattle.describe.proofs.fields.Listing.{length-rows, rows-count}
 
--- the words of the text, out of what `parse` answers
+-- the codes of the text, out of what `parse` answers
 pub holds : (layout : List ℕ) → length layout ≤ maxLayout → (n slots : ℕ) (ws : List ℕ)
     → Learnt (fieldsOf false layout) n slots ws → Holds layout n ws
 holds layout short n slots ws l = record { few = l .few; room = l .room; short = short; fields = l .fields }
@@ -55,7 +55,7 @@ module _ (layout out : List ℕ) where
     told k out′ w =
         let ps : List Placed = placed .placed in
         let fits : length ps * rowSize ≤ length out = omega (arith, count) in
-        let many : length (rowsOf ps) ≡ n = rows-count 0 origin ps ∙ count in
+        let many : length (rowsOf ps) ≡ n = rows-count 0 trackStart ps ∙ count in
         let there : out′ ≡ rowBytes (rowsOf ps) ++ drop (length (rowsOf ps) * rowSize) out =
         w ps (placed .here) ∙ ap (λ (m : ℕ). rowBytes (rowsOf ps) ++ drop m out) (zero-add (length (rowBytes (rowsOf ps))) ∙ length-rows (rowsOf ps)) in
         rw (le-leb (length layout) maxLayout (h .short), placed .here, le-leb (length ps * rowSize) (length out) fits, ← there, many)

@@ -1,4 +1,4 @@
--- The walk over the text that writes a row for each field: the fields from here on are those that the words still hold,
+-- The walk over the text that writes a row for each field: the fields from here on are those that the codes still hold,
 -- and the rows written so far with the rows of the fields ahead are all rows.
 use Prim.Native.Nat.{ℕ, suc, _+_, _*_, _≤_, _<_}
 use native.Mathlib.Nat.{lt-of-not-le}
@@ -10,33 +10,35 @@ use mathlib.Core.List.{List, [], _∷_, _++_, append-nil, append-assoc}
 use lib.ListN.{length, getD, drop, length-append}
 use Rattle.layout.specs.declared.Field.{Field}
 use Rattle.layout.specs.Refusals.{ok}
-use Rattle.layout.specs.Layout.{toNat, takesSlot}
-use Rattle.layout.specs.Words.{fieldOf, decoded, FieldOf, slotsTaken}
+use Rattle.layout.specs.Layout.{toNat, takesSlot, slotsTaken}
+use Rattle.layout.specs.Codes.{fieldOf}
+use Rattle.layout.specs.inside.Parsing.{decoded, FieldOf}
 use Rattle.layout.proofs.Laws.{ok-inj}
 use Rattle.layout.proofs.Steps.{bit-le}
 use Rattle.layout.proofs.Decoded.{next-field, no-field}
 use Rattle.record.specs.Bytes.{storeAt, bigEndian}
 use Rattle.record.proofs.NumberLaws.{length-bigEndian}
 use Rattle.record.proofs.Stores.{length-storeAt, store-none, store-next, add-run}
-use Rattle.describe.specs.placed.Placed.{Placed, fieldsIn, placedRest, tailLength, placedAt}
-use Rattle.describe.proofs.placed.Counts.{AllCounted, counts-limited}
-use Rattle.describe.proofs.placed.Places.{Placing, placing, at-start, at-end, over-space, tail-inside, Standing, standing}
+use Rattle.describe.specs.Placed.{Placed, fieldsIn}
+use Rattle.describe.specs.inside.Texts.{placedRest, tailLength, placedAt}
+use Rattle.describe.proofs.Counts.{AllCounted, counts-limited}
+use Rattle.describe.proofs.Places.{Placing, placing, at-start, at-end, over-space, tail-inside, Standing, standing}
 use Rattle.describe.specs.declared.fields.Track.{Track}
 use Rattle.describe.specs.declared.fields.Row.{Row}
-use Rattle.describe.specs.fields.Rows.{onward, origin, rowOf, rowsFrom, rowsOf, numberSize, rowSize, numbersOf, rowBytes}
-use Rattle.describe.specs.fields.Walk.{fieldReach, layoutReach, Safe, Holds, Written}
+use Rattle.describe.specs.Rows.{onward, trackStart, rowOf, rowsFrom, rowsOf, numberSize, rowSize, rowNumbers, rowBytes}
+use Rattle.describe.specs.inside.Walk.{fieldReach, layoutReach, Safe, Holds, Written}
 use Rattle.describe.proofs.fields.Moves.{most-more, Near, onward-near}
 
 pub length-rows : (rs : List Row) → length (rowBytes rs) ≡ length rs * rowSize
 unfolding rowBytes
 length-rows [] = refl
 length-rows (r ∷ rs) =
-    length-append (bigEndian numberSize (numbersOf r)) (rowBytes rs) ∙ (omega (arith, length-bigEndian numberSize (numbersOf r), length-rows rs))
+    length-append (bigEndian numberSize (rowNumbers r)) (rowBytes rs) ∙ (omega (arith, length-bigEndian numberSize (rowNumbers r), length-rows rs))
 
 pub rows-count : (k : ℕ) (t : Track) (ps : List Placed) → length (rowsFrom k t ps) ≡ length ps
 unfolding rowsFrom
 rows-count k t [] = refl
-rows-count k t (p ∷ ps) = ap suc (rows-count (k + slotsTaken (p .what)) (onward t (p .what .code) (p .what .count)) ps)
+rows-count k t (p ∷ ps) = ap suc (rows-count (k + slotsTaken (p .what)) (onward t (p .what .role) (p .what .count)) ps)
 
 -- ---- in front of the byte `at` of the text: of all fields i have their rows in d, and take `slot` slots
 
@@ -63,7 +65,7 @@ module _ (text : List ℕ) (n : ℕ) (ws d₀ : List ℕ) (h : Holds text n ws) 
   abbrev pub all : List Placed
   all = everything .placed
 
-  pub listing-none : Listing text n ws d₀ all d₀ origin 0 0 0
+  pub listing-none : Listing text n ws d₀ all d₀ trackStart 0 0 0
   unfolding rowsOf
   listing-none = record {
     within = omega arith;
@@ -126,21 +128,21 @@ module _ (text : List ℕ) (n : ℕ) (ws d₀ : List ℕ) (h : Holds text n ws) 
         | no z ↦ lt-of-not-le z
       ]
 
-      -- one of the words, so that the reader has read it
+      -- one of the codes, so that the reader has read it
       found : (stands .what ≡ fieldOf (getD ws i 0)) × (fieldsIn (stands .others) ≡ drop (i + 1) (decoded n ws))
       found =
           let both : stands .what ∷ fieldsIn (stands .others) ≡ fieldOf (getD ws i 0) ∷ drop (i + 1) (decoded n ws) =
           split ∙ next-field n ws (h .few) i listing-some in
           (cc, cc)
 
-      module _ (f : Field) (word : FieldOf (getD ws i 0) f) where
+      module _ (f : Field) (code : FieldOf (getD ws i 0) f) where
         same-field : stands .what ≡ f
-        same-field = found .0 ∙ sym (word .same)
+        same-field = found .0 ∙ sym (code .same)
 
-        pub listing-taken : Safe (f .code) (f .count) t
+        pub listing-taken : Safe (f .role) (f .count) t
         listing-taken = record {
-          code = word .code;
-          count = word .count;
+          role = code .role;
+          count = code .count;
           near =
               most-more (i * fieldReach) layoutReach (t .at) (omega (arith, listing-some, h .few, h .room)) (l .near .0);
         }
@@ -150,14 +152,14 @@ module _ (text : List ℕ) (n : ℕ) (ws d₀ : List ℕ) (h : Holds text n ws) 
         listing-inside r row = omega (arith, ap (λ (x : Row). x .size) row, tail-inside text at k)
 
         pub listing-next : (r : Row) → r ≡ rowOf slot t (placedAt text at f) → (d′ : List ℕ)
-            → d′ ≡ storeAt d (i * rowSize) (bigEndian numberSize (numbersOf r))
-            → (u : Track) → u ≡ onward t (f .code) (f .count) → (m : ℕ) → m ≡ toNat (takesSlot (f .code))
+            → d′ ≡ storeAt d (i * rowSize) (bigEndian numberSize (rowNumbers r))
+            → (u : Track) → u ≡ onward t (f .role) (f .count) → (m : ℕ) → m ≡ toNat (takesSlot (f .role))
             → n * rowSize ≤ length d₀
             → Listing text n ws d₀ all d′ u (slot + m) (i + 1) (at + r .size)
         unfolding rowsFrom rowBytes
         listing-next r row d′ e u on m taken room =
-            let bytes : List ℕ = bigEndian numberSize (numbersOf r) in
-            let one : length bytes ≡ rowSize = length-bigEndian numberSize (numbersOf r) in
+            let bytes : List ℕ = bigEndian numberSize (rowNumbers r) in
+            let one : length bytes ≡ rowSize = length-bigEndian numberSize (rowNumbers r) in
             let place : at + r .size ≡ suc at + tailLength (drop (suc at) text) =
             omega (arith, ap (λ (x : Row). x .size) row) in
             let first : l .ahead ≡ placedAt text at f ∷ stands .others =
@@ -177,9 +179,9 @@ module _ (text : List ℕ) (n : ℕ) (ws d₀ : List ℕ) (h : Holds text n ws) 
               within = listing-inside r row;
               long = ap length is ∙ length-storeAt d₀ 0 (l .done ++ bytes) (omega arith);
               few = omega (arith, listing-some);
-              taken = omega (arith, l .taken, bit-le (takesSlot (f .code)));
+              taken = omega (arith, l .taken, bit-le (takesSlot (f .role)));
               near =
-                  rw (add-run i fieldReach, on) (onward-near (i * fieldReach) t (l .near) (f .count) (count .0) (f .code) (word .code));
+                  rw (add-run i fieldReach, on) (onward-near (i * fieldReach) t (l .near) (f .count) (count .0) (f .role) (code .role));
               ahead = stands .others;
               here = rw place (stands .after);
               same = found .1;

@@ -4,21 +4,21 @@ use native.Mathlib.Omega.{arith}
 use mathlib.Core.Path.{_≡_, ap, _∙_}
 use mathlib.Core.Bool.{true}
 use borrow.Author.Tests.{leb-true}
-use Rattle.layout.specs.declared.Code.{Code}
-use Rattle.layout.specs.declared.Code.the-variants.{Data, Move}
+use Rattle.layout.specs.declared.Role.{Role}
+use Rattle.layout.specs.declared.Role.the-variants.{Data, Move}
 use Rattle.layout.specs.declared.Shape.{Shape}
 use Rattle.layout.specs.declared.Motion.{Motion}
 use Rattle.layout.specs.declared.Motion.the-variants.{Skip, Back, Goto}
 use Rattle.layout.specs.declared.Count.{Count}
 use Rattle.layout.specs.declared.Count.the-variants.{Absent, Star, Times}
 use Rattle.layout.specs.Layout.{maxCount, inLimit}
-use Rattle.layout.specs.Words.{FitCode, FitCount}
+use Rattle.layout.specs.inside.Parsing.{FitRole, FitCount}
 use Rattle.record.proofs.Bounds.{bytes-small}
 use Rattle.describe.specs.declared.fields.Extent.{Extent}
 use Rattle.describe.specs.declared.fields.Extent.the-variants.{Fixed, Open}
 use Rattle.describe.specs.declared.fields.Track.{Track}
-use Rattle.describe.specs.fields.Rows.{plus, highest, less, asked, filling, back, behind, onward}
-use Rattle.describe.specs.fields.Walk.{AtMost, fieldReach, layoutReach}
+use Rattle.describe.specs.Rows.{plus, highest, less, asked, filling, back, positionAfter, onward}
+use Rattle.describe.specs.inside.Walk.{AtMost, fieldReach, layoutReach}
 
 pub sum-fits : (a b : Extent) (m n : ℕ) → AtMost layoutReach a → AtMost layoutReach b → a ≡ Fixed m → b ≡ Fixed n
     → m + n < 18446744073709551616
@@ -35,7 +35,7 @@ asked-small Absent h = omega arith
 asked-small Star h = tt
 asked-small (Times n) h = omega arith
 
-pub filling-small : (k : Code) (n : Count) → FitCode k → FitCount n → AtMost layoutReach (filling k n)
+pub filling-small : (k : Role) (n : Count) → FitRole k → FitCount n → AtMost layoutReach (filling k n)
 filling-small (Data s) Absent h l = omega (arith, bytes-small s 1 h)
 filling-small (Data s) Star h l = tt
 filling-small (Data s) (Times n) h l = omega (arith, bytes-small s n h)
@@ -43,15 +43,15 @@ filling-small (Move Skip) n h l = asked-small n l
 filling-small (Move Back) n h l = omega arith
 filling-small (Move Goto) n h l = omega arith
 
--- the arms of `behind`
-module _ (t : Track) (k : Code) (n : Count) (b r : Extent) (fills : b ≡ filling k n) (sum : r ≡ plus (t .at) b) where
-  pub behind-value : (s : Shape) → k ≡ Data s → r ≡ behind t k n
-  behind-value s e = rw e (sum ∙ ap (plus (t .at)) (fills ∙ ap (λ (c : Code). filling c n) e))
+-- the arms of `position_after`
+module _ (t : Track) (k : Role) (n : Count) (b r : Extent) (fills : b ≡ filling k n) (sum : r ≡ plus (t .at) b) where
+  pub position-after-value : (s : Shape) → k ≡ Data s → r ≡ positionAfter t k n
+  position-after-value s e = rw e (sum ∙ ap (plus (t .at)) (fills ∙ ap (λ (c : Role). filling c n) e))
 
-  pub behind-skip : (m : Motion) → k ≡ Move m → m ≡ Skip → r ≡ behind t k n
-  behind-skip m e z =
+  pub position-after-skip : (m : Motion) → k ≡ Move m → m ≡ Skip → r ≡ positionAfter t k n
+  position-after-skip m e z =
       let skip : k ≡ Move Skip = e ∙ ap Move z in
-      rw skip (sum ∙ ap (plus (t .at)) (fills ∙ ap (λ (c : Code). filling c n) skip))
+      rw skip (sum ∙ ap (plus (t .at)) (fills ∙ ap (λ (c : Role). filling c n) skip))
 
 -- ---- how far a field reaches
 
@@ -83,7 +83,7 @@ asked-most Absent m all l h = omega arith
 asked-most Star m all l h = most-more m (m + maxCount) all (omega arith) h
 asked-most (Times n) m all l h = omega (arith, leb-true n maxCount l)
 
-pub filling-most : (k : Code) (n : Count) → FitCode k → inLimit n ≡ true → AtMost fieldReach (filling k n)
+pub filling-most : (k : Role) (n : Count) → FitRole k → inLimit n ≡ true → AtMost fieldReach (filling k n)
 filling-most (Data s) Absent h l = omega (arith, bytes-small s 1 h)
 filling-most (Data s) Star h l = tt
 filling-most (Data s) (Times n) h l = omega (arith, bytes-small s n h, leb-true n maxCount l)
@@ -97,17 +97,17 @@ abbrev pub Near : ℕ → Track → Type 0
 Near m t = AtMost m (t .at) × AtMost m (t .highest)
 
 module _ (m : ℕ) (t : Track) (near : Near m t) (n : Count) (limit : inLimit n ≡ true) where
-  behind-most : (k : Code) → FitCode k → AtMost (m + fieldReach) (behind t k n)
-  behind-most (Data s) h =
+  position-after-most : (k : Role) → FitRole k → AtMost (m + fieldReach) (positionAfter t k n)
+  position-after-most (Data s) h =
       plus-most m fieldReach (t .at) (filling (Data s) n) (near .0) (filling-most (Data s) n h limit)
-  behind-most (Move Skip) h =
+  position-after-most (Move Skip) h =
       plus-most m fieldReach (t .at) (filling (Move Skip) n) (near .0) (filling-most (Move Skip) n h limit)
-  behind-most (Move Back) h =
+  position-after-most (Move Back) h =
       most-more m (m + fieldReach) (back (t .at) n) (omega arith) (back-most m (t .at) n (near .0))
-  behind-most (Move Goto) h =
+  position-after-most (Move Goto) h =
       most-more (m + maxCount) (m + fieldReach) (asked n (t .highest)) (omega arith) (asked-most n m (t .highest) limit (near .1))
 
-  pub onward-near : (k : Code) → FitCode k → Near (m + fieldReach) (onward t k n)
+  pub onward-near : (k : Role) → FitRole k → Near (m + fieldReach) (onward t k n)
   onward-near k h =
-      let there : AtMost (m + fieldReach) (behind t k n) = behind-most k h in
-      (there, highest-most (m + fieldReach) (t .highest) (behind t k n) (most-more m (m + fieldReach) (t .highest) (omega arith) (near .1)) there)
+      let there : AtMost (m + fieldReach) (positionAfter t k n) = position-after-most k h in
+      (there, highest-most (m + fieldReach) (t .highest) (positionAfter t k n) (most-more m (m + fieldReach) (t .highest) (omega arith) (near .1)) there)

@@ -6,15 +6,15 @@ use mathlib.Core.List.{List, []}
 use lib.ListN.{length, getD, drop}
 use Rattle.layout.specs.declared.Field.{Field}
 use Rattle.layout.specs.Layout.{maxLayout, toNat}
-use Rattle.layout.specs.Words.{TailAt}
+use Rattle.layout.specs.inside.Parsing.{TailAt}
 use Rattle.record.specs.Bytes.{storeAt, numberBytes, bigEndian}
 use Rattle.record.proofs.NumberLaws.{length-numberBytes, big-endian-runs}
 use Rattle.record.proofs.Stores.{runs, Wrote, wrote-more}
-use Rattle.describe.specs.placed.Placed.{tailLength, placedAt}
-use Rattle.describe.proofs.placed.Places.{next-place, tail-inside}
+use Rattle.describe.specs.inside.Texts.{tailLength, placedAt}
+use Rattle.describe.proofs.Places.{next-place, tail-inside}
 use Rattle.describe.specs.declared.fields.Extent.{Extent}
 use Rattle.describe.specs.declared.fields.Track.{Track}
-use Rattle.describe.specs.fields.Rows.{filling, countNumber, slotNumber, number, rowOf, numberSize}
+use Rattle.describe.specs.Rows.{filling, countShown, slotShown, numberShown, rowOf, numberSize}
 
 -- ---- one row
 
@@ -26,9 +26,9 @@ module _ (text : List ℕ) (at : ℕ) (b v e : ℕ) (tail : TailAt text (at + 1)
   size-small h k = omega (arith, next-place text at b v e tail, tail-inside text at h)
 
   pub row-is : (f : Field) (k : ℕ) (t : Track) (flag count slot position bytes : ℕ) (fill : Extent)
-      → flag ≡ toNat (f .unsigned) → count ≡ countNumber (f .count)
-      → slot ≡ slotNumber (f .code) k → position ≡ number (t .at) → fill ≡ filling (f .code) (f .count)
-      → bytes ≡ number fill
+      → flag ≡ toNat (f .unsigned) → count ≡ countShown (f .count)
+      → slot ≡ slotShown (f .role) k → position ≡ numberShown (t .at) → fill ≡ filling (f .role) (f .count)
+      → bytes ≡ numberShown fill
       → record { place = at; size = e - at; letter = getD text at 0; flag = flag; count = count; slot = slot; position = position; bytes = bytes } ≡ rowOf k t (placedAt text at f)
   row-is f k t flag count slot position bytes fill a b c d g h = rw (size-is, a, b, c, d, h, g)
 

@@ -7,13 +7,10 @@ use Rattle.describe.proofs.least_length.Statement.{statement}
 use Rattle.describe.proofs.least_length.Tie as tie
 
 abbrev Inv-loop : tie.InvT-loop
-Inv-loop words n c₀ i₀ c i = Passing n words i c
+Inv-loop codes n c₀ i₀ c i = Passing n codes i c
 
 abbrev μ-loop : tie.MeasureT-loop
-μ-loop words n c₀ i₀ c i = n - i
-
-new-requires : tie.Need-new-requires Inv-loop μ-loop
-new-requires c κs = search needs
+μ-loop codes n c₀ i₀ c i = n - i
 
 loop-holds : tie.Need-loop-holds Inv-loop μ-loop
 loop-holds c = rw (c .new .ensures) (passing-none _ _ (c .before .before .pre))
@@ -24,25 +21,16 @@ mul-field-of c = omega (arith, c .before .before .before .before .pre)
 shared-slice-read-field-of : tie.Need-shared-slice-read-field-of Inv-loop μ-loop
 shared-slice-read-field-of c = omega (arith, c .before .before .before .before .before .pre)
 
-field-of-requires : tie.Need-field-of-requires Inv-loop μ-loop
-field-of-requires c κs = search needs
-
 step-requires : tie.Need-step-requires Inv-loop μ-loop
 step-requires c κs =
     let l = c .before .before .before in
-    (c .field-of .ensures .code, c .field-of .ensures .count, passing-near _ _ (l .before .before .before .pre) _ _ (l .loop .inv))
+    (c .field-of .ensures .role, c .field-of .ensures .count, passing-near _ _ (l .before .before .before .pre) _ _ (l .loop .inv))
 
 loop-again : tie.Need-loop-again Inv-loop μ-loop
 loop-again c =
     let f = c .before in
     let l = f .before .before .before in
     passing-next _ _ (l .before .before .before .pre) _ _ (l .loop .inv) (f .before .before .loop-test .taken) _ (f .field-of .ensures .same) _ (c .step .ensures)
-
-add-i : tie.Need-add-i Inv-loop μ-loop
-add-i c = omega arith
-
-loop-less : tie.Need-loop-less Inv-loop μ-loop
-loop-less c = omega arith
 
 returns : tie.Need-returns Inv-loop μ-loop
 returns c = passing-done _ _ (c .before .before .before .before .pre) _ _ (c .before .loop .inv) (c .loop-test .left)
@@ -53,13 +41,13 @@ least-length-spec =
     (tie.spec
     Inv-loop
     μ-loop
-    new-requires
+    (λ c κs. search needs)
     loop-holds
     mul-field-of
     shared-slice-read-field-of
-    field-of-requires
+    (λ c κs. search needs)
     step-requires
-    add-i
-    loop-less
+    (λ c. omega arith)
+    (λ c. omega arith)
     loop-again
     returns)

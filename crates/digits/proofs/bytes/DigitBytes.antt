@@ -14,8 +14,8 @@ use Rattle.record.proofs.Bytes.{length-fit}
 use Rattle.record.proofs.Stores.{length-part}
 use Rattle.record.proofs.Widening.{number-append}
 use Rattle.record.proofs.Fields.{split}
-use Rattle.digits.specs.Numerals.{valuesAt}
-use Rattle.digits.specs.bytes.{byteOf}
+use Rattle.digits.specs.inside.Numerals.{valuesAt}
+use Rattle.digits.specs.inside.bytes.{byteOf}
 use Rattle.byte_runs.proofs.WordLaws.{the-four, two-elements}
 use Rattle.digits.proofs.DigitLaws.{map-at}
 

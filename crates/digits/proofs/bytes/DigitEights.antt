@@ -11,8 +11,8 @@ use Rattle.record.specs.Bytes.{part, fit, digits, number, ordered}
 use Rattle.record.specs.Packing.{digitValue}
 use Rattle.record.proofs.Bytes.{part-at}
 use Rattle.record.proofs.Stores.{length-part}
-use Rattle.digits.specs.Numerals.{DigitsAt, valuesAt}
-use Rattle.digits.specs.bytes.{byteOf}
+use Rattle.digits.specs.inside.Numerals.{DigitsAt, valuesAt}
+use Rattle.digits.specs.inside.bytes.{byteOf}
 use Rattle.digits.proofs.DigitLaws.{digit-cases}
 use Rattle.digits.proofs.bytes.DigitBytes.{number-low, number-high}
 

@@ -12,8 +12,8 @@ use Rattle.record.specs.Bytes.{storeAt, digits, number, ordered}
 use Rattle.record.specs.Geometry.{base, perByte}
 use Rattle.record.specs.Reading.{digitChar}
 use Rattle.record.proofs.Bytes.{All, digits-number, number-digits, length-digits, length-ordered}
-use Rattle.digits.specs.Numerals.{placeOf}
-use Rattle.digits.specs.chars.{charsOf, fourChars}
+use Rattle.digits.specs.inside.Numerals.{placeOf}
+use Rattle.digits.specs.inside.chars.{charsOf, fourChars}
 use Rattle.byte_runs.proofs.ByteLaws.{store-both}
 use Rattle.digits.proofs.DigitLaws.{ordered-at, map-at, map-turned}
 

@@ -13,7 +13,7 @@ use Rattle.record.specs.Geometry.{base, perByte}
 use Rattle.record.specs.Reading.{digitChar, loaded}
 use Rattle.record.proofs.Bytes.{length-join}
 use Rattle.record.proofs.Stores.{length-part}
-use Rattle.digits.specs.chars.{charsOf}
+use Rattle.digits.specs.inside.chars.{charsOf}
 use Rattle.byte_runs.proofs.ByteLaws.{part-take, Grown, grown-more}
 use Rattle.digits.proofs.chars.CharLaws.{length-chars}
 

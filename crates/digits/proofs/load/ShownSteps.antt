@@ -1,5 +1,5 @@
--- Reading out step by step: after any number of steps the characters of the digits that are done stand in the area, since each step writes those of
--- a part of one byte behind them.
+-- Reading out step by step: after any number of steps the characters of the digits that are done stand in the area,
+-- since each step writes those of a part of one byte after them.
 use Prim.Native.Nat.{ℕ, _+_, _-_, _*_, _/_, _%_, _≤_, _<_}
 use native.Mathlib.Omega.{arith}
 use mathlib.Core.Path.{_≡_, sym, ap, _∙_}
@@ -10,7 +10,7 @@ use lib.Seq.{take-all, drop-cons}
 use Rattle.record.specs.Bytes.{part, storeAt, ceilDiv}
 use Rattle.record.proofs.Bytes.{drop-take, part-at}
 use Rattle.record.proofs.Stores.{length-part}
-use Rattle.digits.specs.chars.{charsOf}
+use Rattle.digits.specs.inside.chars.{charsOf}
 use Rattle.digits.proofs.chars.CharLaws.{length-chars}
 use Rattle.byte_runs.proofs.ByteLaws.{part-rest, Grown, grown-none, grown-more, grown-done}
 use Rattle.digits.specs.Steps.{showing, steps, Advanced, binaryBudget, ShownWithin}

@@ -5,12 +5,6 @@ use borrow.Author.Needs.{needs}
 use Rattle.digits.proofs.place.Statement.{statement}
 use Rattle.digits.proofs.place.Tie as tie
 
-sub-result : tie.Need-sub-result
-sub-result c = search needs
-
-sub-result-2 : tie.Need-sub-result-2
-sub-result-2 c = search needs
-
 returns : tie.Need-returns
 returns c = rw (c .if1 .taken) (refl, omega arith)
 
@@ -18,4 +12,4 @@ returns-2 : tie.Need-returns-2
 returns-2 c = rw (c .if1 .left) (refl, c .before .pre)
 
 pub place-spec : {M : Type 1} → statement M
-place-spec = tie.close (tie.spec sub-result sub-result-2 returns returns-2)
+place-spec = tie.close (tie.spec (λ c. search needs) (λ c. search needs) returns returns-2)

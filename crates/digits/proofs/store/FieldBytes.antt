@@ -13,8 +13,8 @@ use Rattle.record.specs.Geometry.{base, perByte}
 use Rattle.record.specs.Packing.{digitValue, digitBytes, stored}
 use Rattle.record.proofs.Bytes.{length-fit, length-pieces}
 use Rattle.record.proofs.Stores.{length-part, next-run}
-use Rattle.digits.specs.Numerals.{valuesAt}
-use Rattle.digits.specs.bytes.{byteOf}
+use Rattle.digits.specs.inside.Numerals.{valuesAt}
+use Rattle.digits.specs.inside.bytes.{byteOf}
 use Rattle.digits.proofs.DigitLaws.{take-min}
 use Rattle.digits.proofs.bytes.DigitBytes.{fit-zero}
 

@@ -1,5 +1,6 @@
--- Storing step by step: after any number of steps the record holds a field of the digits that are done, since each step sets the byte in which its
--- digits stand to what a field that ends with them has there. And the step that the code does is the defined one.
+-- Storing step by step: after any number of steps the record holds a field of the digits that are done, since each step
+-- sets the byte in which its digits stand to what a field that ends with them has there. And the step that the code
+-- does is the defined one.
 use Prim.Native.Nat.{ℕ, zero, suc, _+_, _-_, _*_, _/_, _%_, _^_, _≤_, _<_, min}
 use native.Mathlib.Nat.{mod-eq-of-lt}
 use native.Mathlib.Numerals.{add-one}
@@ -15,13 +16,13 @@ use Rattle.record.specs.Packing.{digitValue, digitBytes, stored}
 use Rattle.record.proofs.Stores.{store-none, length-storeAt}
 use Rattle.record.proofs.Fields.{split}
 use Rattle.byte_runs.proofs.ByteLaws.{store-both}
-use Rattle.digits.specs.Numerals.{placeOf, DigitsAt, valuesAt}
+use Rattle.digits.specs.inside.Numerals.{placeOf, DigitsAt, valuesAt}
 use Rattle.digits.specs.Steps.{Writing, storing, steps, Advanced, binaryBudget, StoredWithin}
 use Rattle.digits.proofs.DigitLaws.{take-min}
 use Rattle.digits.proofs.StepLaws.{doneAfter, over-steps, whole-step, digit-step}
-use Rattle.digits.specs.bytes.{byteOf}
+use Rattle.digits.specs.inside.bytes.{byteOf}
 use Rattle.digits.proofs.bytes.DigitBytes.{zero-byte, value-low, value-high}
-use Rattle.digits.specs.store.{soFar}
+use Rattle.digits.specs.inside.store.{soFar}
 use Rattle.digits.proofs.store.FieldBytes.{map-take, length-stored, stored-at}
 use Rattle.digits.proofs.store.StripLaws.{byte-eight, map-drop, front-long, stored-cut, byte-more, byte-small, single, set-over}
 
@@ -30,7 +31,7 @@ module _ (high : Bool) (cs : List ℕ) where
   abbrev field : ℕ → List ℕ
   field d = stored (Digits false high) d cs
 
-  -- what they are behind the whole ones number 0 to k
+  -- what they are after the whole ones number 0 to k
   abbrev behind : ℕ → ℕ → List ℕ
   behind k d = stored (Digits false high) (d - 8 * k) (drop (8 * k) cs)
 

@@ -1,5 +1,5 @@
--- Laws of binary digits stored in steps: a field may be cut after whole bytes, for no byte has digits of two parts; and each digit of a last
--- byte that is not full adds a bit to it.
+-- Laws of binary digits stored in steps: a field may be cut after whole bytes, for no byte has digits of two parts; and
+-- each digit of a last byte that is not full adds a bit to it.
 use Prim.Native.Nat.{ℕ, zero, suc, _+_, _-_, _*_, _%_, _^_, _≤_, _<_}
 use native.Mathlib.Omega.{arith}
 use native.Mathlib.Nat.{mod-eq-of-lt}
@@ -17,8 +17,8 @@ use Rattle.record.proofs.Bytes.{length-fit, length-ordered, drop-take, all-belo
 use Rattle.record.proofs.Stores.{store-none}
 use Rattle.record.proofs.Widening.{number-append, number-below}
 use Rattle.record.proofs.Fields.{split}
-use Rattle.digits.specs.Numerals.{placeOf}
-use Rattle.digits.specs.bytes.{byteOf}
+use Rattle.digits.specs.inside.Numerals.{placeOf}
+use Rattle.digits.specs.inside.bytes.{byteOf}
 use Rattle.byte_runs.proofs.ByteLaws.{part-take}
 use Rattle.digits.proofs.DigitLaws.{ordered-at, place-lt}
 use Rattle.digits.proofs.StepLaws.{one-set}

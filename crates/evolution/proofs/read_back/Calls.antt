@@ -17,7 +17,7 @@ use Rattle.record.specs.Packing.{packs, pack, packEffect, Packed}
 use Rattle.record.specs.Reading.{Read, putInto, withSteps, readAll}
 use Rattle.record.proofs.Fields.{split}
 use Rattle.evolution.specs.Claim.{Layouts, packedBy, fieldsBy, due, starts, carriedOut, ReadsBack}
-use Rattle.evolution.specs.read_back.Calls.{Lent, PackedAndRead, packing, thenRead, packedAndRead, Meant, KeepsBack, ReadsBackAs}
+use Rattle.evolution.specs.Calls.{LentToBoth, PackedAndRead, packingFirst, thenRead, packedAndRead, Meant, KeepsBack, ReadsBackAs}
 use Rattle.evolution.proofs.ReadsBack.{demand3}
 
 -- an accepted record lies in the buffer
@@ -43,8 +43,8 @@ take-least cut n xs =
 abbrev readPart : PackedAndRead → Read
 readPart x = record { answer = x .answer .answer; slots = x .table; area = x .values }
 
-module _ (c : Lent) where
-  module _ (a : Answer) (out : List ℕ) (called : record { answer = a; output = out } ≡ packing c) where
+module _ (c : LentToBoth) where
+  module _ (a : Answer) (out : List ℕ) (called : record { answer = a; output = out } ≡ packingFirst c) where
     pub then-refused : (a .number ≡ 0 → ⊥) → record { answer = record { answer = a; steps = 0 }; output = out; table = c .table; values = c .values } ≡ packedAndRead c
     unfolding packedAndRead
     then-refused h = rw (← called, ne-eqb (a .number) 0 h)
@@ -60,7 +60,7 @@ module _ (c : Lent) where
 
   -- demand 3, of two calls that are such as it speaks of
   module _ (l : Layouts) (packed layout : Bool) (h : Meant l packed layout c) where
-    same-packing : packing c ≡ packedBy l packed
+    same-packing : packingFirst c ≡ packedBy l packed
     same-packing = rw (h .writer, h .arguments, h .items, h .buffer)
 
     back : ReadsBack l

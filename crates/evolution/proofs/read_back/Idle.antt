@@ -13,8 +13,8 @@ use Rattle.record.specs.Packing.{pack, filled}
 use Rattle.record.specs.Reading.{Read, putInto}
 use Rattle.evolution.specs.Claim.{Reading, setBy, startsFrom, recordBytes, due}
 use Rattle.evolution.specs.Pair.{pairWith, pair, other}
-use Rattle.evolution.specs.read_back.Calls.{PackedAndRead, Meant}
-use Rattle.evolution.specs.read_back.Idle.{call, Keeps, slotsDue, IdleProgramsFail}
+use Rattle.evolution.specs.Calls.{PackedAndRead, Meant}
+use Rattle.evolution.specs.Idle.{call, Keeps, slotsDue, IdleProgramsFail}
 
 -- what holds at each of the seven cuts holds at every one
 module _ (P : ℕ → Type 0) (p₀ : P 0) (p₁ : P 1) (p₂ : P 2) (p₃ : P 3) (p₄ : P 4) (p₅ : P 5) (p₆ : P 6) where

@@ -1,4 +1,5 @@
--- The premise can be met: the layouts of `evolution`'s own instance, each record read by each layout whole, and the new one cut inside its added fields.
+-- The premise can be met: the layouts of `evolution`'s own instance, each record read by each layout whole, and the new
+-- one cut inside its added fields.
 use mathlib.Core.Path.{refl}
 use mathlib.Core.Bool.{Bool, true}
 use Prim.Native.Nat.{ℕ}
@@ -6,10 +7,11 @@ use lib.ListN.{length, replicate}
 use Rattle.evolution.specs.Claim.{textOf, slotsBy, outputBy, recordBy}
 use Rattle.evolution.specs.Pair.{pair}
 use Rattle.evolution.proofs.Instance.{whole, cut-short}
-use Rattle.evolution.specs.read_back.Calls.{Lent, Meant}
+use Rattle.evolution.specs.Calls.{LentToBoth, Meant}
 
--- what the calls are lent for a packing by one of the two layouts and a reading by one, with so many bytes for the values
-abbrev lent : Bool → Bool → ℕ → ℕ → Lent
+-- what the calls are lent for a packing by one of the two layouts and a reading by one, with `size` bytes for the
+-- values
+abbrev lent : Bool → Bool → ℕ → ℕ → LentToBoth
 lent packed layout cut size = record {
   writtenBy = textOf pair packed;
   slots = slotsBy pair packed;

@@ -10,12 +10,12 @@ use lib.Seq.{take-append-le, drop-append-le}
 use Rattle.record.specs.Bytes.{pieces, bigEndian, bigEndianIn}
 use Rattle.record.proofs.Bytes.{all-below}
 use Rattle.record.proofs.NumberLaws.{length-bigEndian, numbers-back}
-use Rattle.host.specs.numbers.Numbers.{numberSize, numbersIn, bytesOf}
-use Rattle.host.specs.numbers.Claims.{NumbersBack, BytesBack, NumbersJoined, BytesJoined}
+use Rattle.host.specs.Numbers.{numberSize, numbersIn, numbersBytes}
+use Rattle.host.specs.Claims.{NumbersBack, BytesBack, NumbersJoined, BytesJoined}
 use Rattle.host.proofs.numbers.NumberLaws.{bytes-append, bytes-back}
 
 pub numbers-of-bytes : NumbersBack
-unfolding numbersIn bytesOf
+unfolding numbersIn numbersBytes
 numbers-of-bytes xs small =
     let n : length (bigEndian numberSize xs) / numberSize ≡ length xs = rw length-bigEndian (omega arith) in
     rw (n, ← append-nil (bigEndian numberSize xs)) (numbers-back numberSize xs [] (all-below xs small))

@@ -8,7 +8,7 @@ use Rattle.record.specs.Bytes.{part, storeAt, numberBytes, numberAt}
 use Rattle.record.proofs.Bytes.{All, part-at}
 use Rattle.record.proofs.NumberLaws.{length-numberBytes, length-bigEndian, length-bigEndianIn, number-in, big-endian-runs, big-endian-append, big-endian-drop, big-endian-take, big-endian-part, big-endian-back}
 use Rattle.record.proofs.Stores.{store-whole, length-part, runs, Put, put-more, put-done, Wrote, wrote-more, Front, front-more, front-whole}
-use Rattle.host.specs.numbers.Numbers.{numberSize, numbersIn, bytesOf}
+use Rattle.host.specs.Numbers.{numberSize, numbersIn, numbersBytes}
 
 -- ---- many numbers
 
@@ -23,19 +23,19 @@ encoded-more {d} xs from n {j} w h k room e =
     let is : _≡_ {A = ℕ} (getD xs (from + j) 0) (getD (part xs from n) j 0) = sym (part-at xs from n j h) in
     wrote-more {to = (from + j) * numberSize} numberSize (λ i. length-numberBytes numberSize _) w (omega arith) (omega arith) (e ∙ ap (λ (x : ℕ). storeAt d ((from + j) * numberSize) (numberBytes numberSize x)) is)
 
-pub encoded : {d₀ d : List ℕ} {at : ℕ} (xs : List ℕ) {i : ℕ} → Wrote d₀ at (encodedAt xs) d i → i ≡ length xs → d ≡ storeAt d₀ at (bytesOf xs)
-unfolding bytesOf
+pub encoded : {d₀ d : List ℕ} {at : ℕ} (xs : List ℕ) {i : ℕ} → Wrote d₀ at (encodedAt xs) d i → i ≡ length xs → d ≡ storeAt d₀ at (numbersBytes xs)
+unfolding numbersBytes
 encoded {d₀} {d} {at} xs {i} w all =
-    let runs-all : runs i (encodedAt xs) ≡ bytesOf xs = rw all (big-endian-runs numberSize xs) in
+    let runs-all : runs i (encodedAt xs) ≡ numbersBytes xs = rw all (big-endian-runs numberSize xs) in
     w .is ∙ ap (storeAt d₀ at) runs-all
 
-pub length-bytesOf : (xs : List ℕ) → length (bytesOf xs) ≡ length xs * numberSize
-unfolding bytesOf
+pub length-bytesOf : (xs : List ℕ) → length (numbersBytes xs) ≡ length xs * numberSize
+unfolding numbersBytes
 length-bytesOf xs = length-bigEndian numberSize xs
 
 -- numbers that fill a run
-pub bytes-whole : (d xs : List ℕ) → length d ≡ length xs * numberSize → storeAt d 0 (bytesOf xs) ≡ bytesOf xs
-bytes-whole d xs e = store-whole d (bytesOf xs) (length-bytesOf xs ∙ sym e)
+pub bytes-whole : (d xs : List ℕ) → length d ≡ length xs * numberSize → storeAt d 0 (numbersBytes xs) ≡ numbersBytes xs
+bytes-whole d xs e = store-whole d (numbersBytes xs) (length-bytesOf xs ∙ sym e)
 
 pub length-numbersIn : (bs : List ℕ) → length (numbersIn bs) ≡ length bs / numberSize
 unfolding numbersIn
@@ -59,23 +59,23 @@ module _ (bs : List ℕ) {d₀ d : List ℕ} (from n : ℕ) {j : ℕ} (p : Put d
 
 -- ---- parts of many numbers
 
-pub bytes-append : (xs ys : List ℕ) → bytesOf (xs ++ ys) ≡ bytesOf xs ++ bytesOf ys
-unfolding bytesOf
+pub bytes-append : (xs ys : List ℕ) → numbersBytes (xs ++ ys) ≡ numbersBytes xs ++ numbersBytes ys
+unfolding numbersBytes
 bytes-append xs ys = big-endian-append numberSize xs ys
 
-pub bytes-drop : (n : ℕ) (xs : List ℕ) → bytesOf (drop n xs) ≡ drop (n * numberSize) (bytesOf xs)
-unfolding bytesOf
+pub bytes-drop : (n : ℕ) (xs : List ℕ) → numbersBytes (drop n xs) ≡ drop (n * numberSize) (numbersBytes xs)
+unfolding numbersBytes
 bytes-drop n xs = big-endian-drop numberSize n xs
 
-pub bytes-take : (n : ℕ) (xs : List ℕ) → n ≤ length xs → bytesOf (take n xs) ≡ take (n * numberSize) (bytesOf xs)
-unfolding bytesOf
+pub bytes-take : (n : ℕ) (xs : List ℕ) → n ≤ length xs → numbersBytes (take n xs) ≡ take (n * numberSize) (numbersBytes xs)
+unfolding numbersBytes
 bytes-take n xs h = big-endian-take numberSize n xs h
 
-pub bytes-part : (xs : List ℕ) (from n : ℕ) → from + n ≤ length xs → bytesOf (part xs from n) ≡ part (bytesOf xs) (from * numberSize) (n * numberSize)
-unfolding bytesOf
+pub bytes-part : (xs : List ℕ) (from n : ℕ) → from + n ≤ length xs → numbersBytes (part xs from n) ≡ part (numbersBytes xs) (from * numberSize) (n * numberSize)
+unfolding numbersBytes
 bytes-part xs from n h = big-endian-part numberSize xs from n h
 
--- ---- so many numbers a turn
+-- ---- n numbers a turn
 
 -- the numbers of a run of bytes
 module _ (bs : List ℕ) {d₀ d : List ℕ} {i : ℕ} (f : Front d₀ (numbersIn bs) d i) (size : length bs ≡ length d₀ * numberSize) where
@@ -89,26 +89,26 @@ module _ (bs : List ℕ) {d₀ d : List ℕ} {i : ℕ} (f : Front d₀ (numbersI
   decoded all = front-whole f all all-numbers
 
 -- the bytes of a run of numbers
-module _ (xs : List ℕ) (i : ℕ) {d₀ d : List ℕ} (f : Front d₀ (bytesOf xs) d (i * numberSize)) where
-  pub encoded-next : {d′ : List ℕ} {to : ℕ} (n : ℕ) → to ≡ i + n → length xs * numberSize ≤ length d₀ → i + n ≤ length xs → d′ ≡ storeAt d (i * numberSize) (bytesOf (part xs i n))
-      → Front d₀ (bytesOf xs) d′ (to * numberSize)
+module _ (xs : List ℕ) (i : ℕ) {d₀ d : List ℕ} (f : Front d₀ (numbersBytes xs) d (i * numberSize)) where
+  pub encoded-next : {d′ : List ℕ} {to : ℕ} (n : ℕ) → to ≡ i + n → length xs * numberSize ≤ length d₀ → i + n ≤ length xs → d′ ≡ storeAt d (i * numberSize) (numbersBytes (part xs i n))
+      → Front d₀ (numbersBytes xs) d′ (to * numberSize)
   encoded-next {d′} {to} n on room h e =
       let sum : to * numberSize ≡ i * numberSize + n * numberSize = omega arith in
-      let l : length (bytesOf xs) ≡ length xs * numberSize = length-bytesOf xs in
+      let l : length (numbersBytes xs) ≡ length xs * numberSize = length-bytesOf xs in
       rw sum (front-more (n * numberSize) f (omega arith) (omega arith) (e ∙ ap (storeAt d (i * numberSize)) (bytes-part xs i n h)))
 
-  pub encoded-front : {m : ℕ} → i ≡ m → m ≤ length xs → d ≡ storeAt d₀ 0 (bytesOf (take m xs))
+  pub encoded-front : {m : ℕ} → i ≡ m → m ≤ length xs → d ≡ storeAt d₀ 0 (numbersBytes (take m xs))
   encoded-front {m} e h = f .is ∙ rw e (ap (storeAt d₀ 0) (sym (bytes-take m xs h)))
 
 -- ---- bytes come back from their numbers
 
 -- whole numbers of bytes, decoded and encoded, are the bytes
-pub bytes-back : (bs : List ℕ) → length bs % numberSize ≡ 0 → All (λ b. b < 256) bs → bytesOf (numbersIn bs) ≡ bs
-unfolding bytesOf numbersIn
+pub bytes-back : (bs : List ℕ) → length bs % numberSize ≡ 0 → All (λ b. b < 256) bs → numbersBytes (numbersIn bs) ≡ bs
+unfolding numbersBytes numbersIn
 bytes-back bs e h = big-endian-back numberSize (length bs / numberSize) bs (omega arith) h
 
 -- numbers put over the first ones of a run change the bytes of just those
-pub bytes-stored : (bs s : List ℕ) → length bs % numberSize ≡ 0 → All (λ b. b < 256) bs → bytesOf (storeAt (numbersIn bs) 0 s) ≡ storeAt bs 0 (bytesOf s)
+pub bytes-stored : (bs s : List ℕ) → length bs % numberSize ≡ 0 → All (λ b. b < 256) bs → numbersBytes (storeAt (numbersIn bs) 0 s) ≡ storeAt bs 0 (numbersBytes s)
 bytes-stored bs s e h =
-    let sum : (0 + length s) * numberSize ≡ 0 + length (bytesOf s) = rw length-bytesOf (omega arith) in
-    bytes-append s (drop (0 + length s) (numbersIn bs)) ∙ ap (λ (r : List ℕ). bytesOf s ++ r) (bytes-drop (0 + length s) (numbersIn bs) ∙ rw (bytes-back bs e h, sum))
+    let sum : (0 + length s) * numberSize ≡ 0 + length (numbersBytes s) = rw length-bytesOf (omega arith) in
+    bytes-append s (drop (0 + length s) (numbersIn bs)) ∙ ap (λ (r : List ℕ). numbersBytes s ++ r) (bytes-drop (0 + length s) (numbersIn bs) ∙ rw (bytes-back bs e h, sum))

@@ -1,8 +1,8 @@
 -- The layout's length is tested first, then the number of numbers.
 use native.Mathlib.Omega.{arith}
 use borrow.Author.Tests.{le-leb, lt-leb}
-use Rattle.layout.specs.Layout.{shortLayout}
-use Rattle.host.specs.Host.{isSmall}
+use Rattle.layout.specs.inside.Parsing.{shortLayout}
+use Rattle.host.specs.inside.Small.{isSmall}
 use Rattle.host.proofs.small.Statement.{statement}
 use Rattle.host.proofs.small.Tie as tie
 

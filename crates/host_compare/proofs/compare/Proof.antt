@@ -11,20 +11,11 @@ use borrow.Author.Needs.{needs}
 use Rattle.host_compare.proofs.compare.Statement.{statement}
 use Rattle.host_compare.proofs.compare.Tie as tie
 
-reply-fits-requires : tie.Need-reply-fits-requires
-reply-fits-requires c κs = search needs
-
 returns : tie.Need-returns
 returns c = unwritten _ _ _ _ _ _ _ _ _ (sym (c .before .reply-fits .ensures) ∙ not-true _ (c .if1 .taken))
 
 sized : (c : tie.Else1) → length (c .before .before .before .before .before .before .before .before .before .before .before .args .reply .now) ≡ replySize
 sized c = eqb-true _ _ (sym (c .before .reply-fits .ensures) ∙ not-false _ (c .if1 .left))
-
-slots-fit-requires : tie.Need-slots-fit-requires
-slots-fit-requires c κs = search needs
-
-refused-requires : tie.Need-refused-requires
-refused-requires c κs = search needs
 
 reply-with-requires : tie.Need-reply-with-requires
 reply-with-requires c κs = sized (c .before .before .before .before)
@@ -45,9 +36,6 @@ returns-2 c =
 first-fits : (c : tie.Else2) → Fit (length (c .before .before .before .before .before .before .before .before .before .before .before .before .before .args .first-slots .now))
 first-fits c = fit _ (sym (c .before .slots-fit .ensures) ∙ not-false _ (c .if2 .left))
 
-slots-fit-requires-2 : tie.Need-slots-fit-requires-2
-slots-fit-requires-2 c κs = search needs
-
 array-share-prefix-first-room : tie.Need-array-share-prefix-first-room
 array-share-prefix-first-room c = let f = first-fits (c .before .before) in omega (arith, f .few)
 
@@ -56,9 +44,6 @@ slice-aggregate-refuse-second c = sym (length-take-le _ _ (array-share-prefix-fi
 
 refuse-second-requires : tie.Need-refuse-second-requires
 refuse-second-requires c κs = sized (c .before .before .before .before .before .before .before)
-
-same-length-2 : tie.Need-same-length-2
-same-length-2 c = search needs
 
 same-length-3 : tie.Need-same-length-3
 same-length-3 c = c .before .reply2 .given
@@ -77,9 +62,6 @@ returns-3 c =
 second-fits : (c : tie.Else3) → Fit (length (c .before .before .before .before .before .before .before .before .before .before .before .before .before .before .before .args .second-slots .now))
 second-fits c = fit _ (sym (c .before .slots-fit2 .ensures) ∙ not-false _ (c .if3 .left))
 
-least-requires : tie.Need-least-requires
-least-requires c κs = search needs
-
 array-borrow-prefix-first-room : tie.Need-array-borrow-prefix-first-room
 array-borrow-prefix-first-room c = let f = first-fits (c .before .before .before .before .before .before .before .before .before) in omega (arith, f .few)
 
@@ -92,11 +74,11 @@ array-borrow-prefix-second-room c = let f = second-fits (c .before .before .befo
 slice-aggregate-compare-by-2 : tie.Need-slice-aggregate-compare-by-2
 slice-aggregate-compare-by-2 c = sym (length-take-le _ _ (array-borrow-prefix-second-room (c .before)))
 
-array-borrow-prefix-rows : tie.Need-array-borrow-prefix-rows
-array-borrow-prefix-rows c = search needs
+array-borrow-prefix-findings : tie.Need-array-borrow-prefix-findings
+array-borrow-prefix-findings c = search needs
 
 slice-aggregate-compare-by-3 : tie.Need-slice-aggregate-compare-by-3
-slice-aggregate-compare-by-3 c = sym (length-take-le _ _ (array-borrow-prefix-rows (c .before)))
+slice-aggregate-compare-by-3 c = sym (length-take-le _ _ (array-borrow-prefix-findings (c .before)))
 
 compare-by-requires : tie.Need-compare-by-requires
 compare-by-requires c κs =
@@ -105,7 +87,7 @@ compare-by-requires c κs =
     let first = left .before .before in
     let room-2 = c .before .before in
     let room-1 = room-2 .before in (
-      (sized (first .before .before), length-take-le _ _ (array-borrow-prefix-rows (c .before)) ∙ counted .least .ensures),
+      (sized (first .before .before), length-take-le _ _ (array-borrow-prefix-findings (c .before)) ∙ counted .least .ensures),
       (
         (room-for _ (first-fits first) (array-borrow-prefix-first-room room-1), room-whole _ (first-fits first) (array-borrow-prefix-first-room room-1)),
         (room-for _ (second-fits left) (array-borrow-prefix-second-room room-2), room-whole _ (second-fits left) (array-borrow-prefix-second-room room-2)),
@@ -145,26 +127,26 @@ pub compare-spec : {M : Type 1} → statement M
 compare-spec =
     tie.close
     (tie.spec
-    reply-fits-requires
+    (λ c κs. search needs)
     returns
-    slots-fit-requires
-    refused-requires
+    (λ c κs. search needs)
+    (λ c κs. search needs)
     reply-with-requires
     same-length
     returns-2
-    slots-fit-requires-2
+    (λ c κs. search needs)
     array-share-prefix-first-room
     slice-aggregate-refuse-second
     refuse-second-requires
-    same-length-2
+    (λ c. search needs)
     same-length-3
     returns-3
-    least-requires
+    (λ c κs. search needs)
     array-borrow-prefix-first-room
     slice-aggregate-compare-by
     array-borrow-prefix-second-room
     slice-aggregate-compare-by-2
-    array-borrow-prefix-rows
+    array-borrow-prefix-findings
     slice-aggregate-compare-by-3
     compare-by-requires
     same-length-4

@@ -7,15 +7,6 @@ use borrow.Author.Needs.{needs}
 use Rattle.host_compare.proofs.compare_by.Statement.{statement}
 use Rattle.host_compare.proofs.compare_by.Tie as tie
 
-decode-requires : tie.Need-decode-requires
-decode-requires c κs = search needs
-
-decode-requires-2 : tie.Need-decode-requires-2
-decode-requires-2 c κs = search needs
-
-compare-requires : tie.Need-compare-requires
-compare-requires c κs = search needs
-
 write-back-requires : tie.Need-write-back-requires
 write-back-requires c κs =
     let called = c .before .before .before .before .before .before .before .before .before .before .before .before .before .before .before .before .before in
@@ -25,9 +16,9 @@ write-back-requires c κs =
     let a = start .args in
     let l = called .compare .last .1 .1 .1 in (
       start .pre .0 .0,
-      fits (a .layout .now) (a .first .now) (a .second .now) (a .first-slots .now) (a .first-area .now) (a .second-slots .now) (a .second-area .now) (a .report .now) (a .rows .now) (start .pre .0 .1)
+      fits (a .layout .now) (a .first .now) (a .second .now) (a .first-slots .now) (a .first-area .now) (a .second-slots .now) (a .second-area .now) (a .report .now) (a .findings .now) (start .pre .0 .1)
           {ns = first .decode .last .1 .0} {ms = second .decode2 .last .1 .0} (first .decode .ensures) (second .decode2 .ensures)
-          {ns′ = l .0} {farea′ = l .1 .0} {ms′ = l .1 .1 .0} {sarea′ = l .1 .1 .1 .0} {rows′ = l .1 .1 .1 .1 .0} {a = called .compare .result} (called .compare .ensures),
+          {ns′ = l .0} {farea′ = l .1 .0} {ms′ = l .1 .1 .0} {sarea′ = l .1 .1 .1 .0} {findings′ = l .1 .1 .1 .1 .0} {a = called .compare .result} (called .compare .ensures),
     )
 
 same-length : tie.Need-same-length
@@ -55,7 +46,7 @@ same-length-8 : tie.Need-same-length-8
 same-length-8 c = c .before .before .before .before .before .before .before .before .before .before .before .before .before .before .before .before .before .before .before .before .before .second-room2 .given ∙ c .before .before .before .before .before .before .before .before .before .before .before .before .before .before .before .before .before .before .before .before .before .before .before .before .before .before .before .before .before .before .before .before .before .second-room .given
 
 same-length-9 : tie.Need-same-length-9
-same-length-9 c = c .before .before .before .before .before .before .before .before .before .before .before .before .before .before .before .before .before .rows .given
+same-length-9 c = c .before .before .before .before .before .before .before .before .before .before .before .before .before .before .before .before .before .findings .given
 
 returns : tie.Need-returns
 returns c =
@@ -72,9 +63,9 @@ returns c =
     let l = called .compare .last .1 .1 .1 in
     let w = back .write-back .last in
     let b = back .write-back .ensures in
-    left-by (a .layout .now) (a .first .now) (a .second .now) fslots (a .first-area .now) sslots (a .second-area .now) (a .report .now) (a .rows .now) (start .pre .0 .1)
+    left-by (a .layout .now) (a .first .now) (a .second .now) fslots (a .first-area .now) sslots (a .second-area .now) (a .report .now) (a .findings .now) (start .pre .0 .1)
     {ns = first .decode .last .1 .0} {ms = second .decode2 .last .1 .0} (first .decode .ensures) (second .decode2 .ensures)
-    {ns′ = l .0} {farea′ = l .1 .0} {ms′ = l .1 .1 .0} {sarea′ = l .1 .1 .1 .0} {rows′ = l .1 .1 .1 .1 .0} {a = called .compare .result} (called .compare .ensures)
+    {ns′ = l .0} {farea′ = l .1 .0} {ms′ = l .1 .1 .0} {sarea′ = l .1 .1 .1 .0} {findings′ = l .1 .1 .1 .1 .0} {a = called .compare .result} (called .compare .ensures)
     {fslots′ = w .0} {sslots′ = w .1 .0} {report′ = w .1 .1 .0} {reply′ = w .1 .1 .1 .0} {r = back .write-back .result} (b .0, b .1)
     (omega arith) (all-below fslots (λ i. known-1 .slice-known .given i .fits)) (omega arith) (all-below sslots (λ i. known-2 .slice-known3 .given i .fits))
     (b .2 .0) (b .2 .1) (b .2 .2)
@@ -83,9 +74,9 @@ pub compare-by-spec : {M : Type 1} → statement M
 compare-by-spec =
     tie.close
     (tie.spec
-    decode-requires
-    decode-requires-2
-    compare-requires
+    (λ c κs. search needs)
+    (λ c κs. search needs)
+    (λ c κs. search needs)
     write-back-requires
     same-length
     same-length-2

@@ -5,12 +5,6 @@ use borrow.Author.Needs.{needs}
 use Rattle.host_compare.proofs.refuse_second.Statement.{statement}
 use Rattle.host_compare.proofs.refuse_second.Tie as tie
 
-check-requires : tie.Need-check-requires
-check-requires c κs = search needs
-
-reply-with-requires : tie.Need-reply-with-requires
-reply-with-requires c κs = search needs
-
 same-length : tie.Need-same-length
 same-length c = c .before .reply .given
 
@@ -19,15 +13,6 @@ returns c =
     let replied = c .before .before in
     let tested = replied .before .before in
     said (cut-first (tested .before .before .check .ensures) (tested .if1 .taken)) (replied .reply-with .ensures)
-
-refused-requires : tie.Need-refused-requires
-refused-requires c κs = search needs
-
-reply-with-requires-2 : tie.Need-reply-with-requires-2
-reply-with-requires-2 c κs = search needs
-
-same-length-2 : tie.Need-same-length-2
-same-length-2 c = search needs
 
 returns-2 : tie.Need-returns-2
 returns-2 c =
@@ -40,11 +25,11 @@ pub refuse-second-spec : {M : Type 1} → statement M
 refuse-second-spec =
     tie.close
     (tie.spec
-    check-requires
-    reply-with-requires
+    (λ c κs. search needs)
+    (λ c κs. search needs)
     same-length
     returns
-    refused-requires
-    reply-with-requires-2
-    same-length-2
+    (λ c κs. search needs)
+    (λ c κs. search needs)
+    (λ c. search needs)
     returns-2)

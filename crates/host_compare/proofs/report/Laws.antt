@@ -5,7 +5,7 @@ use mathlib.Core.List.{List}
 use borrow.Author.Tests.{eq-eqb, ne-eqb}
 use Rattle.record.specs.declared.Answer.{Answer}
 use Rattle.record.specs.Bytes.{storeAt}
-use Rattle.host_compare.specs.report.{putBack}
+use Rattle.host_compare.specs.inside.report.{putBack}
 
 module _ (a : Answer) (lent bytes : List ℕ) where
   pub left-back : (a .number ≡ 0 → ⊥) → lent ≡ putBack a lent bytes

@@ -10,7 +10,7 @@ use Rattle.layout.specs.Refusals.{numberOf}
 use Rattle.record.specs.declared.Answer.{Answer}
 use Rattle.host.specs.Host.{replySize, replyOf}
 use Rattle.describe.specs.Description.{described}
-use Rattle.host_layout.specs.layouts.{layoutCall, curlewLayout}
+use Rattle.host_layout.specs.Layouts.{layoutCall, curlewLayout}
 
 module _ (layout reply : List ℕ) where
   pub unwritten : eqb (length reply) replySize ≡ false → record { returned = numberOf BadSize; reply = reply } ≡ curlewLayout layout reply

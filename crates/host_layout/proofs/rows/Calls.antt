@@ -10,8 +10,8 @@ use Rattle.layout.specs.Refusals.{numberOf}
 use Rattle.record.specs.declared.Answer.{Answer}
 use Rattle.host.specs.Host.{replySize, replyOf}
 use Rattle.host.proofs.Calls.{pack-replied}
-use Rattle.describe.specs.fields.Rows.{listed}
-use Rattle.host_layout.specs.rows.{curlewFields}
+use Rattle.describe.specs.Rows.{listed}
+use Rattle.host_layout.specs.Fields.{curlewFields}
 
 module _ (layout output reply : List ℕ) where
   pub unwritten : eqb (length reply) replySize ≡ false → record { returned = numberOf BadSize; output = output; reply = reply } ≡ curlewFields layout output reply

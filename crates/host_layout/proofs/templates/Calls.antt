@@ -10,7 +10,7 @@ use Rattle.layout.specs.Refusals.{numberOf}
 use Rattle.record.specs.declared.Answer.{Answer}
 use Rattle.host.specs.Host.{replySize, replyOf}
 use Rattle.perl.specs.Conversion.{fromPerl}
-use Rattle.host_layout.specs.templates.{perlCall, curlewFromPerl}
+use Rattle.host_layout.specs.Templates.{perlCall, curlewFromPerl}
 
 module _ (template layout reply : List ℕ) where
   pub unwritten : eqb (length reply) replySize ≡ false → record { returned = numberOf BadSize; layout = layout; reply = reply } ≡ curlewFromPerl template layout reply

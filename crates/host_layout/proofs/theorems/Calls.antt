@@ -9,7 +9,7 @@ use Rattle.layout.specs.declared.Refusal.the-variants.{BadSize}
 use Rattle.layout.specs.Refusals.{numberOf}
 use Rattle.host.specs.Host.{longReplySize, longReply}
 use Rattle.promises.specs.declared.Told.{Told}
-use Rattle.host_layout.specs.theorems.{toldCall}
+use Rattle.host_layout.specs.Theorems.{toldCall}
 
 module _ (t : Told) (reply : List ℕ) where
   pub unwritten : eqb (length reply) longReplySize ≡ false → record { returned = numberOf BadSize; reply = reply } ≡ toldCall t reply

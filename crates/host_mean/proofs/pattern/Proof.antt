@@ -4,12 +4,6 @@ use borrow.Author.Needs.{needs}
 use Rattle.host_mean.proofs.pattern.Statement.{statement}
 use Rattle.host_mean.proofs.pattern.Tie as tie
 
-enum-told : tie.Need-enum-told
-enum-told c = search needs
-
-enum-known-m : tie.Need-enum-known-m
-enum-known-m c = search needs
-
 float-to-bits-result : tie.Need-float-to-bits-result
 float-to-bits-result c = rw (c .before .m .given .1) at (c .before .before .before .pre)
 
@@ -22,4 +16,4 @@ unfolding pattern
 returns-2 c = rw (c .before .m .given .1)
 
 pub pattern-spec : {M : Type 1} → statement M
-pattern-spec = tie.close (tie.spec enum-told enum-known-m float-to-bits-result returns returns-2)
+pattern-spec = tie.close (tie.spec (λ c. search needs) (λ c. search needs) float-to-bits-result returns returns-2)

@@ -3,8 +3,5 @@ use borrow.Author.Needs.{needs}
 use Rattle.host_mean.proofs.reply_fits.Statement.{statement}
 use Rattle.host_mean.proofs.reply_fits.Tie as tie
 
-returns : tie.Need-returns
-returns c = search needs
-
 pub reply-fits-spec : {M : Type 1} → statement M
-reply-fits-spec = tie.close (tie.spec returns)
+reply-fits-spec = tie.close (tie.spec (λ c. search needs))

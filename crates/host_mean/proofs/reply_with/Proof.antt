@@ -6,24 +6,6 @@ use borrow.Author.Needs.{needs}
 use Rattle.host_mean.proofs.reply_with.Statement.{statement}
 use Rattle.host_mean.proofs.reply_with.Tie as tie
 
-follows-requires : tie.Need-follows-requires
-follows-requires c κs = search needs
-
-slice-aggregate-encode-run : tie.Need-slice-aggregate-encode-run
-slice-aggregate-encode-run c = search needs
-
-encode-run-requires : tie.Need-encode-run-requires
-encode-run-requires c κs = search needs
-
-pattern-requires : tie.Need-pattern-requires
-pattern-requires c κs = search needs
-
-put-number-requires : tie.Need-put-number-requires
-put-number-requires c κs = search needs
-
-same-length : tie.Need-same-length
-same-length c = search needs
-
 returns : tie.Need-returns
 unfolding meanReply
 returns c =
@@ -38,10 +20,10 @@ pub reply-with-spec : {M : Type 1} → statement M
 reply-with-spec =
     tie.close
     (tie.spec
-    follows-requires
-    slice-aggregate-encode-run
-    encode-run-requires
-    pattern-requires
-    put-number-requires
-    same-length
+    (λ c κs. search needs)
+    (λ c. search needs)
+    (λ c κs. search needs)
+    (λ c κs. search needs)
+    (λ c κs. search needs)
+    (λ c. search needs)
     returns)

@@ -7,7 +7,7 @@ use lib.Dec.{eqb}
 use lib.ListN.{length}
 use Rattle.record.specs.Geometry.{lengthsFit}
 use Rattle.record.proofs.Sizes.{Sized, sized}
-use Rattle.host.specs.numbers.Numbers.{numberSize}
+use Rattle.host.specs.Numbers.{numberSize}
 use Rattle.host.specs.Host.{replySize}
 use Rattle.host.proofs.Guards.{Fit, fit}
 use Rattle.host_plans.proofs.Calls.{pack-unwritten, pack-refused, pack-unfit, pack-served}
@@ -27,23 +27,11 @@ fine c = sym (c .before .lengths-fit .ensures) ∙ not-false _ (c .if3 .left)
 limits : (c : tie.Else3) → Sized (length (c .before .before .before .before .before .before .before .before .before .before .before .args .plan .now)) (length (c .before .before .before .before .before .before .before .before .before .before .before .args .slots .now) / numberSize) (length (c .before .before .before .before .before .before .before .before .before .before .before .args .out .now)) (length (c .before .before .before .before .before .before .before .before .before .before .before .args .area .now))
 limits c = sized (fine c)
 
-reply-fits-requires : tie.Need-reply-fits-requires
-reply-fits-requires c κs = search needs
-
 returns : tie.Need-returns
 returns c = pack-unwritten _ _ _ _ _ (sym (c .before .reply-fits .ensures) ∙ not-true _ (c .if1 .taken))
 
-slots-fit-requires : tie.Need-slots-fit-requires
-slots-fit-requires c κs = search needs
-
-refused-requires : tie.Need-refused-requires
-refused-requires c κs = search needs
-
 reply-with-requires : tie.Need-reply-with-requires
 reply-with-requires c κs = eqb-true _ _ (right (c .before .before .before .before))
-
-same-length : tie.Need-same-length
-same-length c = search needs
 
 returns-2 : tie.Need-returns-2
 returns-2 c =
@@ -51,17 +39,8 @@ returns-2 c =
     let tested = replied .before .before .before in
     pack-refused _ _ _ _ _ (right (tested .before .before)) (sym (tested .before .slots-fit .ensures) ∙ not-true _ (tested .if2 .taken)) (replied .before .refused .ensures) (replied .reply-with .ensures)
 
-lengths-fit-requires : tie.Need-lengths-fit-requires
-lengths-fit-requires c κs = search needs
-
-refused-requires-2 : tie.Need-refused-requires-2
-refused-requires-2 c κs = search needs
-
 reply-with-requires-2 : tie.Need-reply-with-requires-2
 reply-with-requires-2 c κs = eqb-true _ _ (right (c .before .before .before .before .before .before))
-
-same-length-2 : tie.Need-same-length-2
-same-length-2 c = search needs
 
 returns-3 : tie.Need-returns-3
 returns-3 c =
@@ -80,12 +59,6 @@ packed-requires c κs =
 reply-with-requires-3 : tie.Need-reply-with-requires-3
 reply-with-requires-3 c κs = eqb-true _ _ (right (c .before .before .before .before .before .before .before .before .before .before))
 
-same-length-3 : tie.Need-same-length-3
-same-length-3 c = search needs
-
-same-length-4 : tie.Need-same-length-4
-same-length-4 c = search needs
-
 returns-4 : tie.Need-returns-4
 returns-4 c =
     let replied = c .before .before in
@@ -97,21 +70,21 @@ pub pack-spec : {M : Type 1} → statement M
 pack-spec =
     tie.close
     (tie.spec
-    reply-fits-requires
+    (λ c κs. search needs)
     returns
-    slots-fit-requires
-    refused-requires
+    (λ c κs. search needs)
+    (λ c κs. search needs)
     reply-with-requires
-    same-length
+    (λ c. search needs)
     returns-2
-    lengths-fit-requires
-    refused-requires-2
+    (λ c κs. search needs)
+    (λ c κs. search needs)
     reply-with-requires-2
-    same-length-2
+    (λ c. search needs)
     returns-3
     judge-requires
     packed-requires
     reply-with-requires-3
-    same-length-3
-    same-length-4
+    (λ c. search needs)
+    (λ c. search needs)
     returns-4)

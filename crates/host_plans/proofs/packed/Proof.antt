@@ -1,4 +1,5 @@
--- Number by number, in the order of the definition: each return is one law of it. What the room is lent for fits into it, small or large.
+-- Number by number, in the order of the definition: each return is one law of it. What the room is lent for fits into
+-- it, small or large.
 use native.Mathlib.Omega.{arith}
 use mathlib.Core.Path.{sym}
 use lib.Seq.{length-take-le}
@@ -8,20 +9,8 @@ use borrow.Author.Needs.{needs}
 use Rattle.host_plans.proofs.packed.Statement.{statement}
 use Rattle.host_plans.proofs.packed.Tie as tie
 
-enum-known-p : tie.Need-enum-known-p
-enum-known-p c = search needs
-
 cast-refused : tie.Need-cast-refused
 cast-refused c = omega (arith, pack-place (c .before .before .before .before .before .before .before .pre) (c .before .p .given .1))
-
-refused-requires : tie.Need-refused-requires
-refused-requires c κs = search needs
-
-enum-known-p-2 : tie.Need-enum-known-p-2
-enum-known-p-2 c = search needs
-
-refused-requires-2 : tie.Need-refused-requires-2
-refused-requires-2 c κs = search needs
 
 returns : tie.Need-returns
 returns c = pack-slots (c .before .before .before .before .before .before .before .before .before .pre) (c .before .before .before .p2 .given .1) (λ e. omega (arith, c .before .if1 .taken)) (c .refused2 .ensures)
@@ -36,9 +25,6 @@ pack-few-requires : tie.Need-pack-few-requires
 pack-few-requires c κs =
     let k = packable (c .before .before .before .before .before .before .before .before .before .before .before .pre) (c .before .before .before .before .before .p2 .given .1) (omega (arith, c .before .before .before .if1 .left)) in
     (k, (room-for _ (slots-whole k) (array-borrow-prefix-room (c .before)), room-whole _ (slots-whole k) (array-borrow-prefix-room (c .before))))
-
-same-length : tie.Need-same-length
-same-length c = search needs
 
 returns-2 : tie.Need-returns-2
 returns-2 c = pack-fields (c .before .before .before .before .before .before .before .before .before .before .before .before .before .before .before .pre) (c .before .before .before .before .before .before .before .before .before .p2 .given .1) (omega (arith, c .before .before .before .before .before .before .before .if1 .left)) (c .before .before .before .pack-few .ensures)
@@ -59,9 +45,6 @@ pack-many-requires c κs =
 returns-3 : tie.Need-returns-3
 returns-3 c = pack-bad (c .before .before .before .before .before .before .before .before .pre) (c .before .before .p .given .1) (c .refused .ensures)
 
-same-length-2 : tie.Need-same-length-2
-same-length-2 c = search needs
-
 returns-4 : tie.Need-returns-4
 returns-4 c = pack-fields (c .before .before .before .before .before .before .before .before .before .before .before .before .before .before .before .pre) (c .before .before .before .before .before .before .before .before .before .p2 .given .1) (omega (arith, c .before .before .before .before .before .before .before .if1 .left)) (c .before .before .before .pack-many .ensures)
 
@@ -69,20 +52,20 @@ pub packed-spec : {M : Type 1} → statement M
 packed-spec =
     tie.close
     (tie.spec
-    enum-known-p
+    (λ c. search needs)
     cast-refused
-    refused-requires
-    enum-known-p-2
-    refused-requires-2
+    (λ c κs. search needs)
+    (λ c. search needs)
+    (λ c κs. search needs)
     returns
     array-borrow-prefix-room
     slice-aggregate-pack-few
     pack-few-requires
-    same-length
+    (λ c. search needs)
     returns-2
     array-borrow-prefix-room-2
     slice-aggregate-pack-many
     pack-many-requires
     returns-3
-    same-length-2
+    (λ c. search needs)
     returns-4)

@@ -5,9 +5,9 @@ use mathlib.Core.Bool.{true}
 use borrow.Author.Tests.{not-true, not-false, eqb-true}
 use lib.Dec.{eqb}
 use lib.ListN.{length}
-use Rattle.reader.specs.checking.Sizes.{lentFits}
+use Rattle.reader.specs.inside.Sizes.{readLentFits}
 use Rattle.reader.proofs.checking.Calls.{Fit as Lent, fit as lent}
-use Rattle.host.specs.numbers.Numbers.{numberSize}
+use Rattle.host.specs.Numbers.{numberSize}
 use Rattle.host.specs.Host.{longReplySize}
 use Rattle.host.proofs.Guards.{Fit, fit}
 use Rattle.host_plans.proofs.Calls.{read-unwritten, read-refused, read-unfit, read-served}
@@ -21,29 +21,17 @@ right c = sym (c .before .long-reply-fits .ensures) ∙ not-false _ (c .if1 .lef
 served : (c : tie.Else2) → Fit (length (c .before .before .before .before .before .before .before .before .before .args .slots .now))
 served c = fit _ (sym (c .before .slots-fit .ensures) ∙ not-false _ (c .if2 .left))
 
-fine : (c : tie.Else3) → lentFits (length (c .before .before .before .before .before .before .before .before .before .before .before .args .plan .now)) (length (c .before .before .before .before .before .before .before .before .before .before .before .args .slots .now) / numberSize) (length (c .before .before .before .before .before .before .before .before .before .before .before .args .bytes .now)) (length (c .before .before .before .before .before .before .before .before .before .before .before .args .area .now)) (c .before .before .before .before .before .before .before .before .before .before .before .args .mark) ≡ true
+fine : (c : tie.Else3) → readLentFits (length (c .before .before .before .before .before .before .before .before .before .before .before .args .plan .now)) (length (c .before .before .before .before .before .before .before .before .before .before .before .args .slots .now) / numberSize) (length (c .before .before .before .before .before .before .before .before .before .before .before .args .bytes .now)) (length (c .before .before .before .before .before .before .before .before .before .before .before .args .area .now)) (c .before .before .before .before .before .before .before .before .before .before .before .args .mark) ≡ true
 fine c = sym (c .before .sizes-fit .ensures) ∙ not-false _ (c .if3 .left)
 
 limits : (c : tie.Else3) → Lent (length (c .before .before .before .before .before .before .before .before .before .before .before .args .plan .now)) (length (c .before .before .before .before .before .before .before .before .before .before .before .args .slots .now) / numberSize) (length (c .before .before .before .before .before .before .before .before .before .before .before .args .bytes .now)) (length (c .before .before .before .before .before .before .before .before .before .before .before .args .area .now)) (c .before .before .before .before .before .before .before .before .before .before .before .args .mark)
 limits c = lent (fine c)
 
-long-reply-fits-requires : tie.Need-long-reply-fits-requires
-long-reply-fits-requires c κs = search needs
-
 returns : tie.Need-returns
 returns c = read-unwritten _ _ _ _ _ _ (sym (c .before .long-reply-fits .ensures) ∙ not-true _ (c .if1 .taken))
 
-slots-fit-requires : tie.Need-slots-fit-requires
-slots-fit-requires c κs = search needs
-
-refused-requires : tie.Need-refused-requires
-refused-requires c κs = search needs
-
 reply-long-requires : tie.Need-reply-long-requires
 reply-long-requires c κs = eqb-true _ _ (right (c .before .before .before .before))
-
-same-length : tie.Need-same-length
-same-length c = search needs
 
 returns-2 : tie.Need-returns-2
 returns-2 c =
@@ -51,17 +39,8 @@ returns-2 c =
     let tested = replied .before .before .before in
     read-refused _ _ _ _ _ _ (right (tested .before .before)) (sym (tested .before .slots-fit .ensures) ∙ not-true _ (tested .if2 .taken)) (replied .before .refused .ensures) (replied .reply-long .ensures)
 
-sizes-fit-requires : tie.Need-sizes-fit-requires
-sizes-fit-requires c κs = search needs
-
-refused-requires-2 : tie.Need-refused-requires-2
-refused-requires-2 c κs = search needs
-
 reply-long-requires-2 : tie.Need-reply-long-requires-2
 reply-long-requires-2 c κs = eqb-true _ _ (right (c .before .before .before .before .before .before))
-
-same-length-2 : tie.Need-same-length-2
-same-length-2 c = search needs
 
 returns-3 : tie.Need-returns-3
 returns-3 c =
@@ -82,15 +61,6 @@ read-judged-requires c κs =
       parsed = judged .judge .ensures;
     }
 
-same-length-3 : tie.Need-same-length-3
-same-length-3 c = search needs
-
-same-length-4 : tie.Need-same-length-4
-same-length-4 c = search needs
-
-same-length-5 : tie.Need-same-length-5
-same-length-5 c = search needs
-
 returns-4 : tie.Need-returns-4
 returns-4 c =
     let called = c .before .before .before .before .before .before in
@@ -101,21 +71,21 @@ pub read-spec : {M : Type 1} → statement M
 read-spec =
     tie.close
     (tie.spec
-    long-reply-fits-requires
+    (λ c κs. search needs)
     returns
-    slots-fit-requires
-    refused-requires
+    (λ c κs. search needs)
+    (λ c κs. search needs)
     reply-long-requires
-    same-length
+    (λ c. search needs)
     returns-2
-    sizes-fit-requires
-    refused-requires-2
+    (λ c κs. search needs)
+    (λ c κs. search needs)
     reply-long-requires-2
-    same-length-2
+    (λ c. search needs)
     returns-3
     judge-requires
     read-judged-requires
-    same-length-3
-    same-length-4
-    same-length-5
+    (λ c. search needs)
+    (λ c. search needs)
+    (λ c. search needs)
     returns-4)

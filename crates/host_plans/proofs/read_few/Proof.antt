@@ -26,18 +26,6 @@ read-back-requires c κs =
     let start = c .before .before .before .before .before .before .before .before .before .before .before .before .before .before .before .before .before .before in
     (start .pre .0 .sized, search needs, set-room _ _ _ _ (start .args .room .now) (room-read (start .pre .0) _ (start .pre .1) (sure-put (room-ready (start .pre .0) _ (start .pre .1)) (sym (called .before .before .before .before .surely-fits .ensures) ∙ called .before .before .before .if1 .taken) (called .fill .ensures))) (search needs))
 
-same-length : tie.Need-same-length
-same-length c = search needs
-
-same-length-2 : tie.Need-same-length-2
-same-length-2 c = search needs
-
-same-length-3 : tie.Need-same-length-3
-same-length-3 c = search needs
-
-same-length-4 : tie.Need-same-length-4
-same-length-4 c = search needs
-
 returns : tie.Need-returns
 returns c =
     let back = c .before .before .before .before in
@@ -54,18 +42,6 @@ read-back-requires-2 c κs =
     let start = c .before .before .before .before .before .before .before .before .before .before .before .before .before .before .before .before .before .before in
     (start .pre .0 .sized, search needs, set-room _ _ _ _ (start .args .room .now) (room-read (start .pre .0) _ (start .pre .1) (called .read .ensures)) (search needs))
 
-same-length-5 : tie.Need-same-length-5
-same-length-5 c = search needs
-
-same-length-6 : tie.Need-same-length-6
-same-length-6 c = search needs
-
-same-length-7 : tie.Need-same-length-7
-same-length-7 c = search needs
-
-same-length-8 : tie.Need-same-length-8
-same-length-8 c = search needs
-
 returns-2 : tie.Need-returns-2
 returns-2 c =
     let back = c .before .before .before .before in
@@ -81,15 +57,15 @@ read-few-spec =
     surely-fits-requires
     fill-requires
     read-back-requires
-    same-length
-    same-length-2
-    same-length-3
-    same-length-4
+    (λ c. search needs)
+    (λ c. search needs)
+    (λ c. search needs)
+    (λ c. search needs)
     returns
     read-requires
     read-back-requires-2
-    same-length-5
-    same-length-6
-    same-length-7
-    same-length-8
+    (λ c. search needs)
+    (λ c. search needs)
+    (λ c. search needs)
+    (λ c. search needs)
     returns-2)

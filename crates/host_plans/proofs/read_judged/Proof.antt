@@ -1,4 +1,5 @@
--- Number by number, in the order of the definition: each return is one law of it. What the room is lent for fits into it, small or large.
+-- Number by number, in the order of the definition: each return is one law of it. What the room is lent for fits into
+-- it, small or large.
 use native.Mathlib.Omega.{arith}
 use mathlib.Core.Path.{sym}
 use lib.Seq.{length-take-le}
@@ -8,20 +9,11 @@ use borrow.Author.Needs.{needs}
 use Rattle.host_plans.proofs.read_judged.Statement.{statement}
 use Rattle.host_plans.proofs.read_judged.Tie as tie
 
-enum-known-p : tie.Need-enum-known-p
-enum-known-p c = search needs
-
 cast-refused : tie.Need-cast-refused
 cast-refused c = omega (arith, read-place (c .before .before .before .before .before .before .before .before .before .pre) (c .before .before .p .given .1))
 
-refused-requires : tie.Need-refused-requires
-refused-requires c κs = search needs
-
 reply-long-requires : tie.Need-reply-long-requires
 reply-long-requires c κs = c .before .before .before .before .before .before .before .before .before .before .pre .sized
-
-enum-known-p-2 : tie.Need-enum-known-p-2
-enum-known-p-2 c = search needs
 
 array-borrow-prefix-room : tie.Need-array-borrow-prefix-room
 array-borrow-prefix-room c = c .before .before .before .if1 .taken
@@ -33,15 +25,6 @@ read-few-requires : tie.Need-read-few-requires
 read-few-requires c κs =
     let k = readable (c .before .before .before .before .before .before .before .before .before .before .before .before .before .pre) (c .before .before .before .before .before .before .p2 .given .1) in
     (k, room-for _ (read-whole k) (array-borrow-prefix-room (c .before)))
-
-same-length : tie.Need-same-length
-same-length c = search needs
-
-same-length-2 : tie.Need-same-length-2
-same-length-2 c = search needs
-
-same-length-3 : tie.Need-same-length-3
-same-length-3 c = search needs
 
 returns : tie.Need-returns
 returns c = c .before .before .before .before .before .before .before .read-few .ensures
@@ -57,20 +40,8 @@ read-many-requires c κs =
     let k = readable (c .before .before .before .before .before .before .before .before .before .before .before .before .before .pre) (c .before .before .before .before .before .before .p2 .given .1) in
     (k, room-for _ (read-whole k) (array-borrow-prefix-room-2 (c .before)))
 
-same-length-4 : tie.Need-same-length-4
-same-length-4 c = search needs
-
 returns-2 : tie.Need-returns-2
 returns-2 c = read-bad (c .before .before .before .before .before .before .before .before .before .before .before .before .before .pre) (c .before .before .before .before .before .before .p .given .1) (c .before .before .before .refused .ensures) (c .before .before .reply-long .ensures)
-
-same-length-5 : tie.Need-same-length-5
-same-length-5 c = search needs
-
-same-length-6 : tie.Need-same-length-6
-same-length-6 c = search needs
-
-same-length-7 : tie.Need-same-length-7
-same-length-7 c = search needs
 
 returns-3 : tie.Need-returns-3
 returns-3 c = c .before .before .before .before .before .before .before .read-many .ensures
@@ -79,24 +50,24 @@ pub read-judged-spec : {M : Type 1} → statement M
 read-judged-spec =
     tie.close
     (tie.spec
-    enum-known-p
+    (λ c. search needs)
     cast-refused
-    refused-requires
+    (λ c κs. search needs)
     reply-long-requires
-    enum-known-p-2
+    (λ c. search needs)
     array-borrow-prefix-room
     slice-aggregate-read-few
     read-few-requires
-    same-length
-    same-length-2
-    same-length-3
+    (λ c. search needs)
+    (λ c. search needs)
+    (λ c. search needs)
     returns
     array-borrow-prefix-room-2
     slice-aggregate-read-many
     read-many-requires
-    same-length-4
+    (λ c. search needs)
     returns-2
-    same-length-5
-    same-length-6
-    same-length-7
+    (λ c. search needs)
+    (λ c. search needs)
+    (λ c. search needs)
     returns-3)

@@ -14,18 +14,6 @@ read-back-requires c κs =
     let start = c .before .before .before .before .before .before .before .before .before .before .before .before .before .before .before .before in
     (start .pre .0 .sized, search needs, set-room _ _ _ _ (start .args .room .now) (room-read (start .pre .0) _ (start .pre .1) (called .read .ensures)) (search needs))
 
-same-length : tie.Need-same-length
-same-length c = search needs
-
-same-length-2 : tie.Need-same-length-2
-same-length-2 c = search needs
-
-same-length-3 : tie.Need-same-length-3
-same-length-3 c = search needs
-
-same-length-4 : tie.Need-same-length-4
-same-length-4 c = search needs
-
 returns : tie.Need-returns
 returns c =
     let back = c .before .before .before .before in
@@ -39,8 +27,8 @@ read-many-spec =
     (tie.spec
     read-requires
     read-back-requires
-    same-length
-    same-length-2
-    same-length-3
-    same-length-4
+    (λ c. search needs)
+    (λ c. search needs)
+    (λ c. search needs)
+    (λ c. search needs)
     returns)

@@ -11,11 +11,12 @@ use Rattle.record.specs.declared.Answer.{Answer}
 use Rattle.record.specs.Table.{maxSlots, slotWidth}
 use Rattle.record.specs.Packing.{Packed, refusal, packs, pack}
 use Rattle.record.proofs.Sizes.{too-many}
-use Rattle.host.specs.numbers.Numbers.{numbersIn}
-use Rattle.host.specs.Host.{replySize, replyOf, packCall, slotsFit}
+use Rattle.host.specs.Numbers.{numbersIn}
+use Rattle.host.specs.Host.{replySize, replyOf, packCall}
+use Rattle.host.specs.inside.Small.{slotBytesFit}
 use Rattle.host.proofs.Guards.{Fit, guarded-unwritten, guarded-refused, guarded-served}
 use Rattle.host.proofs.Calls as host
-use Rattle.host_record.specs.pack.{curlewPack}
+use Rattle.host_record.specs.Packing.{curlewPack}
 
 -- more slots than a call may be lent are refused with 1
 pack-many : (layout ns out area : List ℕ) → slotWidth * maxSlots < length ns → record { answer = refusal BadSize 0; output = out } ≡ pack layout ns area out
@@ -33,7 +34,7 @@ module _ (layout slots area out : List ℕ) where
     pack-unwritten h = guarded-unwritten replySize reply slots _ _ _ h
 
     module _ (sized : eqb (length reply) replySize ≡ true) where
-      pub pack-refused : {a : Answer} {r : ℕ} {reply′ : List ℕ} → slotsFit (length slots) ≡ false → a ≡ refusal BadSize 0 → (r ≡ a .number) × (reply′ ≡ replyOf a)
+      pub pack-refused : {a : Answer} {r : ℕ} {reply′ : List ℕ} → slotBytesFit (length slots) ≡ false → a ≡ refusal BadSize 0 → (r ≡ a .number) × (reply′ ≡ replyOf a)
           → record { returned = r; output = out; reply = reply′ } ≡ curlewPack layout slots area out reply
       unfolding curlewPack packCall
       pack-refused {a} {r} {reply′} bad e q =

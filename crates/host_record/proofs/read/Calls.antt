@@ -21,12 +21,14 @@ use Rattle.record.specs.Reading.{Read, ReadAll, leftOf, readAll, readFields}
 use Rattle.record.proofs.Sizes.{too-many}
 use Rattle.record.proofs.Readings.{over, fields-over, fields-steps, fields-set}
 use Rattle.record.proofs.ByFields.{read-fields}
-use Rattle.host.specs.numbers.Numbers.{numberSize, numbersIn, bytesOf}
+use Rattle.host.specs.Numbers.{numberSize, numbersIn, numbersBytes}
 use Rattle.host.proofs.numbers.NumberLaws.{length-numbersIn}
-use Rattle.host.specs.Host.{longReplySize, longReply, ReadCall, readCall, slotsFit}
+use Rattle.host.specs.Host.{longReplySize, longReply, ReadCall, readCall}
+use Rattle.host.specs.inside.Small.{slotBytesFit}
 use Rattle.host.proofs.Guards.{Fit, guarded-unwritten, guarded-refused, guarded-served}
 use Rattle.host.proofs.Calls as host
-use Rattle.host_record.specs.read.Calls.{stepsCall, curlewRead, writtenBack}
+use Rattle.host_record.specs.Reading.{stepsCall, curlewRead}
+use Rattle.host_record.specs.inside.Steps.{writtenBack}
 
 -- more slots than a call may be lent are refused with 1
 pub fields-many : (size : ℕ) (o : Result (List Field)) (ns bytes area : List ℕ) → slotWidth * maxSlots < length ns → (mark : ℕ)
@@ -40,11 +42,11 @@ module _ (slots ns : List ℕ) (a : Answer) where
   unfolding writtenBack
   left-back h = rw (ne-eqb (a .number) 0 h)
 
-  pub set-back : {slots′ : List ℕ} → a .number ≡ 0 → slots′ ≡ storeAt slots 0 (bytesOf (take (a .first * slotWidth) ns)) → slots′ ≡ writtenBack slots ns a
+  pub set-back : {slots′ : List ℕ} → a .number ≡ 0 → slots′ ≡ storeAt slots 0 (numbersBytes (take (a .first * slotWidth) ns)) → slots′ ≡ writtenBack slots ns a
   unfolding writtenBack
   set-back h s = rw (eq-eqb (a .number) 0 h) s
 
--- ---- by fields that stand in a run of so many bytes or numbers
+-- ---- by fields that stand in a run of `size` bytes or numbers
 
 module _ (size : ℕ) (o : Result (List Field)) (bytes : List ℕ) where
   -- what a call left has room for the slots that it set
@@ -64,7 +66,7 @@ module _ (size : ℕ) (o : Result (List Field)) (bytes : List ℕ) where
     steps : readFields size o bytes (numbersIn slots) area mark .answer .steps ≡ a .steps
     steps = fields-steps size o bytes area mark ns (numbersIn slots) same ∙ ap (λ (x : ReadAll). x .answer .steps) (sym p)
 
-    -- and the reply has the steps behind the answer
+    -- and the reply has the steps after the answer
     replied : {c : ReadCall} → c ≡ readCall slots (leftOf (readFields size o bytes (numbersIn slots) area mark))
         → record { returned = c .returned; slots = c .slots; area = c .area; reply = reply′ } ≡ stepsCall slots (readFields size o bytes (numbersIn slots) area mark)
     unfolding stepsCall
@@ -73,7 +75,7 @@ module _ (size : ℕ) (o : Result (List Field)) (bytes : List ℕ) where
         let reply : reply′ ≡ longReply (readFields size o bytes (numbersIn slots) area mark .answer .answer) (readFields size o bytes (numbersIn slots) area mark .answer .steps) = q .1 ∙ rw (answer, steps) in
         rw (reply, e)
 
-    by-answer : (b : Bool) → eqb (a .answer .number) 0 ≡ b → slots′ ≡ (if b then storeAt slots 0 (bytesOf (take (a .answer .first * slotWidth) ns′)) else slots) → All (λ b. b < 256) slots
+    by-answer : (b : Bool) → eqb (a .answer .number) 0 ≡ b → slots′ ≡ (if b then storeAt slots 0 (numbersBytes (take (a .answer .first * slotWidth) ns′)) else slots) → All (λ b. b < 256) slots
         → record { returned = r; slots = slots′; area = area′; reply = reply′ } ≡ stepsCall slots (readFields size o bytes (numbersIn slots) area mark)
     by-answer true e s below = replied (host.read-set (q .0, refl) slots ns′ lent (eqb-true (a .answer .number) 0 e) (omega arith) below s)
     by-answer false e s below = rw s (replied (host.read-left (q .0, refl) slots ns′ lent (eqb-false (a .answer .number) 0 e)))
@@ -102,7 +104,7 @@ module _ (layout bytes slots area : List ℕ) (mark : ℕ) where
     read-unwritten h = guarded-unwritten longReplySize reply slots _ _ _ h
 
     module _ (sized : eqb (length reply) longReplySize ≡ true) where
-      pub read-refused : {a : Answer} {r : ℕ} {reply′ : List ℕ} → slotsFit (length slots) ≡ false → a ≡ refusal BadSize 0 → (r ≡ a .number) × (reply′ ≡ longReply a 0)
+      pub read-refused : {a : Answer} {r : ℕ} {reply′ : List ℕ} → slotBytesFit (length slots) ≡ false → a ≡ refusal BadSize 0 → (r ≡ a .number) × (reply′ ≡ longReply a 0)
           → record { returned = r; slots = slots; area = area; reply = reply′ } ≡ curlewRead layout bytes slots area mark reply
       unfolding curlewRead stepsCall readCall
       read-refused {a} {r} {reply′} bad e q =

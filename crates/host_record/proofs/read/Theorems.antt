@@ -14,10 +14,10 @@ use Rattle.record.specs.Bytes.{part, join, digits, number, numberBytes, numberA
 use Rattle.record.specs.Table.{slotWidth}
 use Rattle.record.specs.Reading.{Read, read, readSteps, withSteps}
 use Rattle.record.proofs.Bytes.{All, all-below, number-digits}
-use Rattle.host.specs.numbers.Numbers.{numberSize, bytesOf, numbersIn}
+use Rattle.host.specs.Numbers.{numberSize, numbersBytes, numbersIn}
 use Rattle.host.specs.Host.{slotSize, longReplySize, longReply, ReadCall, readCall}
-use Rattle.host_record.specs.read.Calls.{stepsCall, curlewRead}
-use Rattle.host_record.specs.read.Claims.{Stay, UnsetStay}
+use Rattle.host_record.specs.Reading.{stepsCall, curlewRead}
+use Rattle.host_record.specs.Claims.{Stay, UnsetStay}
 use Rattle.record.proofs.NumberLaws.{length-numberBytes}
 use Rattle.host.proofs.numbers.NumberLaws.{bytes-drop, bytes-back}
 use Rattle.record.proofs.Readings.{read-unset, read-few}
@@ -28,23 +28,23 @@ unfolding numberBytes
 number-back x h = rw (reverse-reverse (digits 256 4 x), number-digits 256 4 x (omega arith)) (mod-eq-of-lt h)
 
 -- the second of a reply's numbers
-pub second-number : (x y : ℕ) (rest : List ℕ) → y < 4294967296 → numberAt numberSize (bytesOf (x ∷ y ∷ rest)) numberSize ≡ y
-unfolding numberAt bytesOf bigEndian join
+pub second-number : (x y : ℕ) (rest : List ℕ) → y < 4294967296 → numberAt numberSize (numbersBytes (x ∷ y ∷ rest)) numberSize ≡ y
+unfolding numberAt numbersBytes bigEndian join
 second-number x y rest h =
-    let front : drop numberSize (bytesOf (x ∷ y ∷ rest)) ≡ bytesOf (y ∷ rest) = drop-at (numberBytes numberSize x) (bytesOf (y ∷ rest)) numberSize (length-numberBytes numberSize x) in
-    let here : part (bytesOf (x ∷ y ∷ rest)) numberSize numberSize ≡ numberBytes numberSize y = ap (take numberSize) front ∙ take-at (numberBytes numberSize y) (bytesOf rest) numberSize (length-numberBytes numberSize y) in
+    let front : drop numberSize (numbersBytes (x ∷ y ∷ rest)) ≡ numbersBytes (y ∷ rest) = drop-at (numberBytes numberSize x) (numbersBytes (y ∷ rest)) numberSize (length-numberBytes numberSize x) in
+    let here : part (numbersBytes (x ∷ y ∷ rest)) numberSize numberSize ≡ numberBytes numberSize y = ap (take numberSize) front ∙ take-at (numberBytes numberSize y) (numbersBytes rest) numberSize (length-numberBytes numberSize y) in
     ap (λ (p : List ℕ). number 256 (reverse p)) here ∙ number-back y h
 
 -- what a call on numbers leaves
 module _ (slots : List ℕ) (r : Read) where
   unset-bytes : length slots % numberSize ≡ 0 → All (λ b. b < 256) slots → drop (r .answer .first * slotWidth) (r .slots) ≡ drop (r .answer .first * slotWidth) (numbersIn slots)
-      → drop (slotSize * r .answer .first) (bytesOf (r .slots)) ≡ drop (slotSize * r .answer .first) slots
+      → drop (slotSize * r .answer .first) (numbersBytes (r .slots)) ≡ drop (slotSize * r .answer .first) slots
   unset-bytes whole below same =
       let n : ℕ = r .answer .first * slotWidth in
       let at : slotSize * r .answer .first ≡ n * numberSize = omega arith in
-      rw at (sym (bytes-drop n (r .slots)) ∙ ap bytesOf same ∙ bytes-drop n (numbersIn slots) ∙ ap (drop (n * numberSize)) (bytes-back slots whole below))
+      rw at (sym (bytes-drop n (r .slots)) ∙ ap numbersBytes same ∙ bytes-drop n (numbersIn slots) ∙ ap (drop (n * numberSize)) (bytes-back slots whole below))
 
-  stay-by : (k : ℕ) (b : Bool) → eqb (r .answer .number) 0 ≡ b → (r .answer .number ≡ 0 → (r .answer .first < 4294967296) × (drop (slotSize * r .answer .first) (bytesOf (r .slots)) ≡ drop (slotSize * r .answer .first) slots))
+  stay-by : (k : ℕ) (b : Bool) → eqb (r .answer .number) 0 ≡ b → (r .answer .number ≡ 0 → (r .answer .first < 4294967296) × (drop (slotSize * r .answer .first) (numbersBytes (r .slots)) ≡ drop (slotSize * r .answer .first) slots))
       → Stay slots (stepsCall slots (withSteps r k))
   unfolding stepsCall readCall longReply
   stay-by k true e h =

@@ -7,23 +7,8 @@ use borrow.Author.Needs.{needs}
 use Rattle.integers.proofs.copy_eights.Statement.{statement}
 use Rattle.integers.proofs.copy_eights.Tie as tie
 
-turn-eights-requires : tie.Need-turn-eights-requires
-turn-eights-requires c κs = search needs
-
-same-length : tie.Need-same-length
-same-length c = search needs
-
 returns : tie.Need-returns
 returns c = rw (c .before .before .before .before .if1 .taken) (c .before .before .turn-eights .ensures)
-
-mul-copy : tie.Need-mul-copy
-mul-copy c = search needs
-
-copy-requires : tie.Need-copy-requires
-copy-requires c κs = search needs
-
-same-length-2 : tie.Need-same-length-2
-same-length-2 c = search needs
 
 returns-2 : tie.Need-returns-2
 returns-2 c =
@@ -33,4 +18,4 @@ returns-2 c =
     rw (if1 .if1 .left) (c .before .before .copy .ensures ∙ ap (storeAt (a .out .now) (a .at)) (eights-kept (a .from .now) (a .start) (a .n) (start .pre .1)))
 
 pub copy-eights-spec : {M : Type 1} → statement M
-copy-eights-spec = tie.close (tie.spec turn-eights-requires same-length returns mul-copy copy-requires same-length-2 returns-2)
+copy-eights-spec = tie.close (tie.spec (λ c κs. search needs) (λ c. search needs) returns (λ c. search needs) (λ c κs. search needs) (λ c. search needs) returns-2)

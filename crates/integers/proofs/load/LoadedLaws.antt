@@ -13,8 +13,8 @@ use Rattle.record.specs.Reading.{loaded, widened}
 use Rattle.record.proofs.Bytes.{All, all-ordered, length-digits, length-ordered, part-at}
 use Rattle.record.proofs.Stores.{runs, length-part}
 use Rattle.record.proofs.Widening.{filler, widened-digits, sign-test}
-use Rattle.integers.specs.Eights.{eights}
-use Rattle.integers.specs.load.{Narrow, itemBytes, fillerOf}
+use Rattle.integers.specs.inside.Eights.{eights}
+use Rattle.integers.specs.inside.load.{Narrow, itemBytes, fillerOf}
 use Rattle.integers.proofs.IntegerLaws.{part-bytes, runs-same, joined, pieces-take, eightAt, eights-runs}
 
 -- ---- order and parts

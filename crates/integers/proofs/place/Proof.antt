@@ -6,12 +6,6 @@ use Rattle.integers.proofs.IntegerLaws.{turned-at}
 use Rattle.integers.proofs.place.Statement.{statement}
 use Rattle.integers.proofs.place.Tie as tie
 
-sub-result : tie.Need-sub-result
-sub-result c = search needs
-
-sub-result-2 : tie.Need-sub-result-2
-sub-result-2 c = search needs
-
 returns : tie.Need-returns
 returns c =
     let a = c .before .args in
@@ -21,4 +15,4 @@ returns-2 : tie.Need-returns-2
 returns-2 c = (omega arith, λ xs e. rw (c .if1 .left) refl)
 
 pub place-spec : {M : Type 1} → statement M
-place-spec = tie.close (tie.spec sub-result sub-result-2 returns returns-2)
+place-spec = tie.close (tie.spec (λ c. search needs) (λ c. search needs) returns returns-2)

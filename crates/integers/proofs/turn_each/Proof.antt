@@ -18,27 +18,6 @@ abbrev μ-loop : tie.MeasureT-loop
 loop-holds : tie.Need-loop-holds Inv-loop μ-loop
 loop-holds c = (omega arith, wrote-none)
 
-mul-turn-eight : tie.Need-mul-turn-eight Inv-loop μ-loop
-mul-turn-eight c = omega arith
-
-add-turn-eight : tie.Need-add-turn-eight Inv-loop μ-loop
-add-turn-eight c = omega arith
-
-mul-turn-eight-2 : tie.Need-mul-turn-eight-2 Inv-loop μ-loop
-mul-turn-eight-2 c = omega arith
-
-add-turn-eight-2 : tie.Need-add-turn-eight-2 Inv-loop μ-loop
-add-turn-eight-2 c = omega arith
-
-turn-eight-requires : tie.Need-turn-eight-requires Inv-loop μ-loop
-turn-eight-requires c κs = omega arith
-
-add-i : tie.Need-add-i Inv-loop μ-loop
-add-i c = omega arith
-
-loop-less : tie.Need-loop-less Inv-loop μ-loop
-loop-less c = omega arith
-
 loop-again : tie.Need-loop-again Inv-loop μ-loop
 loop-again c =
     let turn = c .before .before .before .before in
@@ -61,13 +40,13 @@ turn-each-spec =
     Inv-loop
     μ-loop
     loop-holds
-    mul-turn-eight
-    add-turn-eight
-    mul-turn-eight-2
-    add-turn-eight-2
-    turn-eight-requires
-    add-i
-    loop-less
+    (λ c. omega arith)
+    (λ c. omega arith)
+    (λ c. omega arith)
+    (λ c. omega arith)
+    (λ c κs. omega arith)
+    (λ c. omega arith)
+    (λ c. omega arith)
     loop-again
     same-length
     returns)

@@ -6,15 +6,6 @@ use borrow.Author.Needs.{needs}
 use Rattle.integers.proofs.turn_eight.Statement.{statement}
 use Rattle.integers.proofs.turn_eight.Tie as tie
 
-number-at-requires : tie.Need-number-at-requires
-number-at-requires c κs = search needs
-
-put-low-first-requires : tie.Need-put-low-first-requires
-put-low-first-requires c κs = search needs
-
-same-length : tie.Need-same-length
-same-length c = search needs
-
 returns : tie.Need-returns
 returns c =
     let put = c .before .before in
@@ -26,4 +17,4 @@ returns c =
     ∙ ap (storeAt (a .out .now) (a .at)) (number-turned (a .from .now) (a .start) (λ i. known .shared-slice-known .given i .fits) (start .pre .1) (number .number-at .ensures .0))
 
 pub turn-eight-spec : {M : Type 1} → statement M
-turn-eight-spec = tie.close (tie.spec number-at-requires put-low-first-requires same-length returns)
+turn-eight-spec = tie.close (tie.spec (λ c κs. search needs) (λ c κs. search needs) (λ c. search needs) returns)

@@ -18,54 +18,12 @@ abbrev μ-loop : tie.MeasureT-loop
 loop-holds : tie.Need-loop-holds Inv-loop μ-loop
 loop-holds c = (omega arith, wrote-none)
 
-sub-loop : tie.Need-sub-loop Inv-loop μ-loop
-sub-loop c = omega arith
-
-mul-turn-each : tie.Need-mul-turn-each Inv-loop μ-loop
-mul-turn-each c = omega arith
-
-add-turn-each : tie.Need-add-turn-each Inv-loop μ-loop
-add-turn-each c = omega arith
-
-mul-turn-each-2 : tie.Need-mul-turn-each-2 Inv-loop μ-loop
-mul-turn-each-2 c = omega arith
-
-add-turn-each-2 : tie.Need-add-turn-each-2 Inv-loop μ-loop
-add-turn-each-2 c = omega arith
-
-turn-each-requires : tie.Need-turn-each-requires Inv-loop μ-loop
-turn-each-requires c κs = omega arith
-
-add-i : tie.Need-add-i Inv-loop μ-loop
-add-i c = omega arith
-
-loop-less : tie.Need-loop-less Inv-loop μ-loop
-loop-less c = omega arith
-
 loop-again : tie.Need-loop-again Inv-loop μ-loop
 loop-again c =
     let turn = c .before .before .before .before in
     let start = turn .before .before .before .before in
     let a = start .args in
     (omega arith, eights-more (a .from .now) (a .start) 4 (turn .before .loop .inv .1) (omega arith) (start .pre .0) (start .pre .1) (c .before .before .turn-each .ensures))
-
-mul-turn-each-3 : tie.Need-mul-turn-each-3 Inv-loop μ-loop
-mul-turn-each-3 c = omega arith
-
-add-turn-each-3 : tie.Need-add-turn-each-3 Inv-loop μ-loop
-add-turn-each-3 c = omega arith
-
-mul-turn-each-4 : tie.Need-mul-turn-each-4 Inv-loop μ-loop
-mul-turn-each-4 c = omega arith
-
-add-turn-each-4 : tie.Need-add-turn-each-4 Inv-loop μ-loop
-add-turn-each-4 c = omega arith
-
-sub-turn-each : tie.Need-sub-turn-each Inv-loop μ-loop
-sub-turn-each c = omega arith
-
-turn-each-requires-2 : tie.Need-turn-each-requires-2 Inv-loop μ-loop
-turn-each-requires-2 c κs = omega arith
 
 same-length : tie.Need-same-length Inv-loop μ-loop
 same-length c =
@@ -89,20 +47,20 @@ turn-eights-spec =
     Inv-loop
     μ-loop
     loop-holds
-    sub-loop
-    mul-turn-each
-    add-turn-each
-    mul-turn-each-2
-    add-turn-each-2
-    turn-each-requires
-    add-i
-    loop-less
+    (λ c. omega arith)
+    (λ c. omega arith)
+    (λ c. omega arith)
+    (λ c. omega arith)
+    (λ c. omega arith)
+    (λ c κs. omega arith)
+    (λ c. omega arith)
+    (λ c. omega arith)
     loop-again
-    mul-turn-each-3
-    add-turn-each-3
-    mul-turn-each-4
-    add-turn-each-4
-    sub-turn-each
-    turn-each-requires-2
+    (λ c. omega arith)
+    (λ c. omega arith)
+    (λ c. omega arith)
+    (λ c. omega arith)
+    (λ c. omega arith)
+    (λ c κs. omega arith)
     same-length
     returns)

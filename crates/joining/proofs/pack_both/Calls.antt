@@ -1,5 +1,5 @@
--- Laws of two packings one after the other: the first into room of the buffer's length, the second into the buffer behind the first result, which
--- is then copied in front of it. M-113 of the two follows from the theorem.
+-- Laws of two packings one after the other: the first into room of the buffer's length, the second into the buffer
+-- after the first result, which is then copied in front of it. M-113 of the two follows from the theorem.
 use Prim.Native.Nat.{ℕ, _+_, _-_, _≤_, _<_}
 use native.Mathlib.Omega.{arith}
 use mathlib.Core.Path.{_≡_, refl, sym, ap, ap₂, _∙_}
@@ -17,13 +17,13 @@ use Rattle.record.specs.Geometry.{sizesFit}
 use Rattle.record.specs.Packing.{accepted, refusal, packs, Packed, packEffect, pack}
 use Rattle.record.specs.Table.{maxRecord}
 use Rattle.record.proofs.Sizes.{Sized, sized}
-use Rattle.joining.specs.Claim.{glue, packBy, Part, resultOf}
-use Rattle.joining.specs.pack_both.{Pair, packsBy, packsBoth, Joinable, PacksBothAs}
+use Rattle.joining.specs.Claim.{joinTemplates, packBy, Part, resultOf}
+use Rattle.joining.specs.Calls.{Pair, packsBy, packsBoth, Joinable, PacksBothAs}
 use Rattle.runs.proofs.Calls.{Passed, packs-passed, accepted-result, result-is, same-room}
-use Rattle.joining.proofs.Glues.{glues}
+use Rattle.joining.proofs.Joining.{joins}
 
 module _ (c : Pair) where
-  -- the packing by the first template, whatever of the buffer's length it is lent; and by the second, behind n bytes
+  -- the packing by the first template, whatever of the buffer's length it is lent; and by the second, after n bytes
   abbrev first : Result (List ℕ)
   first = packsBy (c .first) (c .area) (c .output)
 
@@ -32,10 +32,10 @@ module _ (c : Pair) where
 
   -- ---- the promise
 
-  -- what is accepted is what packing by the glued template gives
-  glued-both : (bs cs : List ℕ) → first ≡ ok bs → second (length bs) ≡ ok cs → Joinable c → packEffect (c .output) (ok (bs ++ cs)) ≡ packBy (glue (c .first) (c .second)) (c .area) (c .output)
+  -- what is accepted is what packing by the joined template gives
+  joined-both : (bs cs : List ℕ) → first ≡ ok bs → second (length bs) ≡ ok cs → Joinable c → packEffect (c .output) (ok (bs ++ cs)) ≡ packBy (joinTemplates (c .first) (c .second)) (c .area) (c .output)
   unfolding pack
-  glued-both bs cs e₁ e₂ j =
+  joined-both bs cs e₁ e₂ j =
       let left : List ℕ = drop (length bs) (c .output) in
       let x : Part (c .area) = record { template = c .first; output = c .output; fields = j .first-fields; has-fields = j .first-has; goes-forward = j .first-forward; accepted = rw e₁ refl } in
       let y : Part (c .area) = record { template = c .second; output = left; fields = j .second-fields; has-fields = j .second-has; goes-forward = j .second-forward; accepted = rw e₂ refl } in
@@ -45,21 +45,21 @@ module _ (c : Pair) where
       let m = packs-passed (c .second .text) (c .second .slots) (c .area) left cs e₂ .1 in
       let fits : length (resultOf x ++ resultOf y) ≤ length (c .output) =
       rw (ra, rb) (omega (arith, length-append bs cs, k .room, m .room, length-drop (length bs) (c .output))) in
-      ap₂ (λ (a b : List ℕ). packEffect (c .output) (ok (a ++ b))) (sym ra) (sym rb) ∙ sym (glues (c .area) .two x y (c .output) (j .sizes) fits)
+      ap₂ (λ (a b : List ℕ). packEffect (c .output) (ok (a ++ b))) (sym ra) (sym rb) ∙ sym (joins (c .area) .two x y (c .output) (j .sizes) fits)
 
   -- so an answer that is the effect has all of the promise
   pub promised : (p : Packed) → p ≡ packEffect (c .output) (packsBoth c) → PacksBothAs c p
   unfolding packsBoth
-  promised p e = record { effect = e; glued = λ j z. e ∙ by first refl (rw e at z) j }
+  promised p e = record { effect = e; joined = λ j z. e ∙ by first refl (rw e at z) j }
     where
       then : (bs : List ℕ) → first ≡ ok bs → (r : Result (List ℕ)) → second (length bs) ≡ r → packEffect (c .output) (r >>= (λ cs. ok (bs ++ cs))) .answer .number ≡ 0 → Joinable c
-          → packEffect (c .output) (r >>= (λ cs. ok (bs ++ cs))) ≡ packBy (glue (c .first) (c .second)) (c .area) (c .output)
-      then bs e₁ (ok cs) e₂ z j = glued-both bs cs e₁ e₂ j
+          → packEffect (c .output) (r >>= (λ cs. ok (bs ++ cs))) ≡ packBy (joinTemplates (c .first) (c .second)) (c .area) (c .output)
+      then bs e₁ (ok cs) e₂ z j = joined-both bs cs e₁ e₂ j
       then bs e₁ (refused why place) e₂ z j = absurd (omega arith)
 
       by : (r : Result (List ℕ)) → first ≡ r
           → packEffect (c .output) (r >>= (λ bs. second (length bs) >>= (λ cs. ok (bs ++ cs)))) .answer .number ≡ 0 → Joinable c
-          → packEffect (c .output) (r >>= (λ bs. second (length bs) >>= (λ cs. ok (bs ++ cs)))) ≡ packBy (glue (c .first) (c .second)) (c .area) (c .output)
+          → packEffect (c .output) (r >>= (λ bs. second (length bs) >>= (λ cs. ok (bs ++ cs)))) ≡ packBy (joinTemplates (c .first) (c .second)) (c .area) (c .output)
       by (ok bs) e₁ z j = then bs e₁ (second (length bs)) refl z j
       by (refused why place) e₁ z j = absurd (omega arith)
 

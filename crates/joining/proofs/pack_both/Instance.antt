@@ -3,7 +3,7 @@ use mathlib.Core.Path.{_≡_, refl}
 use mathlib.Core.Bool.{true, false}
 use mathlib.Core.List.{[], _∷_, _++_}
 use lib.ListN.{replicate}
-use Rattle.layout.specs.declared.Code.the-variants.{Data}
+use Rattle.layout.specs.declared.Role.the-variants.{Data}
 use Rattle.layout.specs.declared.Shape.the-variants.{Text, Integers}
 use Rattle.layout.specs.declared.Count.the-variants.{Star, Times}
 use Rattle.layout.specs.Refusals.{ok}
@@ -11,7 +11,7 @@ use Rattle.layout.specs.Layout.{fieldsOf}
 use Rattle.layout.specs.Quoted.{bytes}
 use Rattle.record.specs.Packing.{packs}
 use Rattle.joining.specs.Claim.{forward}
-use Rattle.joining.specs.pack_both.{Pair, packsBoth, Joinable}
+use Rattle.joining.specs.Calls.{Pair, packsBoth, Joinable}
 
 abbrev pair : Pair
 pair = record {
@@ -24,8 +24,8 @@ pair = record {
 joinable : Joinable pair
 unfolding fieldsOf forward
 joinable = record {
-  first-fields = record { code = Data (Text 0); unsigned = false; count = Star } ∷ [];
-  second-fields = record { code = Data (Integers 2 true); unsigned = true; count = Times 2 } ∷ [];
+  first-fields = record { role = Data (Text 0); unsigned = false; count = Star } ∷ [];
+  second-fields = record { role = Data (Integers 2 true); unsigned = true; count = Times 2 } ∷ [];
   first-has = refl;
   second-has = refl;
   first-forward = tt;

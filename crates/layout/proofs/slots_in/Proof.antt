@@ -1,6 +1,6 @@
 -- The types up to the last number of data take a slot, and the others none.
 use borrow.Author.Tests.{le-leb, lt-leb}
-use Rattle.layout.specs.Words.{lastData}
+use Rattle.layout.specs.Codes.{lastData}
 use Rattle.layout.proofs.slots_in.Statement.{statement}
 use Rattle.layout.proofs.slots_in.Tie as tie
 

@@ -5,17 +5,11 @@ use borrow.Author.Needs.{needs}
 use Rattle.layout.proofs.width_power.Statement.{statement}
 use Rattle.layout.proofs.width_power.Tie as tie
 
-sub-result : tie.Need-sub-result
-sub-result c = search needs
-
 returns : tie.Need-returns
 returns c = (integer-power _ (c .before .pre .0) (c .if1 .taken), omega arith)
-
-sub-result-2 : tie.Need-sub-result-2
-sub-result-2 c = search needs
 
 returns-2 : tie.Need-returns-2
 returns-2 c = (real-power _ (c .if1 .left) (c .before .pre .1), omega arith)
 
 pub width-power-spec : {M : Type 1} → statement M
-width-power-spec = tie.close (tie.spec sub-result sub-result-2 returns returns-2)
+width-power-spec = tie.close (tie.spec (λ c. search needs) (λ c. search needs) returns returns-2)

@@ -1,4 +1,5 @@
--- Laws of a reading followed by a packing: M-107 of the two calls follows from the theorem, because they are lent what it speaks of.
+-- Laws of a reading followed by a packing: M-107 of the two calls follows from the theorem, because they are lent what
+-- it speaks of.
 use Prim.Native.Nat.{ℕ}
 use mathlib.Core.Path.{_≡_, refl, sym, ap, _∙_}
 use mathlib.Core.List.{List, map}
@@ -8,10 +9,10 @@ use Rattle.record.specs.declared.Answer.{Answer}
 use Rattle.record.specs.Table.{slotsOf, Value, shown}
 use Rattle.record.specs.Packing.{Packed, pack, packEffect}
 use Rattle.lossless.specs.Claim.{Layout, Archived, readingOf, shownBy, LosesNothing}
-use Rattle.lossless.specs.pack_again.{Lent, ReadAndPacked, reading, thenPacked, readAndPacked, lentBy, ReadsAndPacksAs}
+use Rattle.lossless.specs.Calls.{LentToReread, ReadAndPacked, readingFirst, thenPacked, readAndPacked, lentBy, ReadsAndPacksAs}
 use Rattle.lossless.proofs.LosesNothing.{loses-nothing}
 
-module _ (c : Lent) (a : Answer) (slots area : List ℕ) (called : record { answer = a; slots = slots; area = area } ≡ reading c) where
+module _ (c : LentToReread) (a : Answer) (slots area : List ℕ) (called : record { answer = a; slots = slots; area = area } ≡ readingFirst c) where
   pub then-refused : (a .number ≡ 0 → ⊥) → record { answer = a; slots = slots; area = area; output = c .output } ≡ readAndPacked c
   unfolding readAndPacked
   then-refused h = rw (← called, ne-eqb (a .number) 0 h)
@@ -40,11 +41,11 @@ module _ (l : Layout) (r : Archived l) where
   shows = refl
 
 -- so the effect of the calls has every part of the promise
-pub promised : (c : Lent) (x : ReadAndPacked) → x ≡ readAndPacked c → ReadsAndPacksAs c x
+pub promised : (c : LentToReread) (x : ReadAndPacked) → x ≡ readAndPacked c → ReadsAndPacksAs c x
 promised c x e = record {
   effect = e;
   gives-back = λ l r lent. ap packedPart e ∙ rw lent (packs l r);
   tells-apart = λ l r s lent same.
       let left : shownPart x ≡ shownBy l r = ap shownPart e ∙ rw lent (shows l r) in
-      ap (λ (c : Lent). c .bytes) lent ∙ loses-nothing l .tells-apart r s (sym left ∙ same);
+      ap (λ (c : LentToReread). c .bytes) lent ∙ loses-nothing l .tells-apart r s (sym left ∙ same);
 }

@@ -1,4 +1,5 @@
--- The premises of the claims can be met: 60, not set, 0 and 75; the same without the slot that is not set; and one mark alone.
+-- The premises of the claims can be met: 60, not set, 0 and 75; the same without the slot that is not set; and one mark
+-- alone.
 use Prim.Native.Nat.{ℕ}
 use mathlib.Core.Path.{_≡_, refl}
 use mathlib.Core.Bool.{true}
@@ -8,8 +9,8 @@ use Rattle.layout.specs.Refusals.{ok}
 use Rattle.record.specs.Bytes.{bigEndian}
 use Rattle.record.specs.Table.{slotsOf, integerBytes}
 use Rattle.record.specs.Geometry.{tableFits}
-use Rattle.mean.specs.marks.Mean.{unset, marked, marksOf, legs}
-use Rattle.mean.specs.marks.Claims.{Inserted, none, kept, blank}
+use Rattle.mean.specs.Mean.{unset, marked, marksOf, legs}
+use Rattle.mean.specs.Claims.{Inserted, none, kept, blank}
 
 abbrev area : List ℕ
 area = integerBytes (60 ∷ 0 ∷ 75 ∷ [])

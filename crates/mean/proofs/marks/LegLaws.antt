@@ -8,7 +8,7 @@ use borrow.Author.Tests.{leb-true, eqb-true}
 use lib.Dec.{eqb, leb}
 use lib.ListN.{length}
 use Rattle.layout.specs.declared.Refusal.{Refusal}
-use Rattle.layout.specs.declared.Refusal.the-variants.{BadSlot, WrongKind, WrongAmount, BadMark}
+use Rattle.layout.specs.declared.Refusal.the-variants.{BadSlot, WrongKind, BadList, BadMark}
 use Rattle.layout.specs.Refusals.{if_then_else_, Result, ok, refused, _>>=_, demand}
 use Rattle.layout.proofs.Laws.{demanded, ok-inj}
 use Rattle.record.specs.Bytes.{pieces, bigEndianIn, numberAt}
@@ -19,8 +19,8 @@ use Rattle.record.proofs.Bytes.{and-true}
 use Rattle.record.proofs.Tables.{integers-kind}
 use Rattle.mean.specs.declared.marks.Tally.{Tally}
 use Rattle.mean.specs.declared.marks.Turn.the-variants.{Next, Stop}
-use Rattle.mean.specs.marks.Mean.{Leg, unset, marked, maxMark, markIn, legOf}
-use Rattle.mean.specs.marks.Walk.{counted, turnOf}
+use Rattle.mean.specs.Mean.{Leg, unset, marked, maxMark, markIn, legOf}
+use Rattle.mean.specs.inside.Walk.{counted, turnOf}
 
 -- ---- the tests of a slot as truth values
 
@@ -47,7 +47,7 @@ legBy x m i =
     if x .blank then ok unset else do
       _ ← demand (x .inside) BadSlot i
       _ ← demand (x .integers) WrongKind i
-      _ ← demand (x .one) WrongAmount i
+      _ ← demand (x .one) BadList i
       _ ← demand (x .small) BadMark i
       ok (marked m)
 
@@ -71,7 +71,7 @@ module _ (t : Tally) (x : Tests) (m i : ℕ) where
       kind-by h = simp (e₁, e₂, h)
 
       module _ (e₃ : x .integers ≡ true) where
-        amount-by : x .one ≡ false → Stop WrongAmount ≡ turnOf t (legBy x m i)
+        amount-by : x .one ≡ false → Stop BadList ≡ turnOf t (legBy x m i)
         unfolding legBy
         amount-by h = simp (e₁, e₂, e₃, h)
 
@@ -102,7 +102,7 @@ module _ (area : List ℕ) (k : ℕ) (s : Slot) (t : Tally) where
       wrong-kind e = kind-by t (testsOf area s) (markIn area s) k e₁ e₂ e ∙ by
 
       module _ (e₃ : isIntegers (s .kind) ≡ true) where
-        pub wrong-amount : eqb (s .len) 1 ≡ false → Stop WrongAmount ≡ turnOf t (legOf area k s)
+        pub wrong-amount : eqb (s .len) 1 ≡ false → Stop BadList ≡ turnOf t (legOf area k s)
         wrong-amount e = amount-by t (testsOf area s) (markIn area s) k e₁ e₂ e₃ e ∙ by
 
         module _ (e₄ : eqb (s .len) 1 ≡ true) where
@@ -189,7 +189,7 @@ range-by true b c d m i l h = rw (← ok-inj h) tt
 range-by false b c d m i l h =
     let x₁ = demanded b BadSlot i _ l h in
     let x₂ = demanded c WrongKind i _ l (x₁ .1) in
-    let x₃ = demanded d WrongAmount i _ l (x₂ .1) in
+    let x₃ = demanded d BadList i _ l (x₂ .1) in
     let x₄ = demanded (leb m maxMark) BadMark i _ l (x₃ .1) in
     rw (← ok-inj (x₄ .1)) (leb-true m maxMark (x₄ .0))
 

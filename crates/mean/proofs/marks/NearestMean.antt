@@ -1,5 +1,5 @@
--- The division of two whole numbers gives the nearest double: its quotient in units of the smallest double, cut to 53 digits, stands between two patterns
--- that follow each other, and it is rounded to the nearer.
+-- The division of two whole numbers gives the nearest double: its quotient in units of the smallest double, cut to 53
+-- digits, stands between two patterns that follow each other, and it is rounded to the nearer.
 use Prim.Native.Nat.{ℕ, zero, suc, _+_, _-_, _*_, _/_, _%_, _^_, _≤_, _<_, compare, Ordering, Ordering·lt, Ordering·eq, Ordering·gt}
 use native.Mathlib.Nat.{div-add-mod', mod-lt, mul-assoc, mul-comm, mul-pos, suc-mul, zero-add, mul-le-mul-right, div-le-self, mul-lt-mul-of-pos-left, pow-suc, le-div-iff-mul-le, div-div-eq-div-mul, mul-div-cancel, min-eq-left, lt-of-lt-of-le, le-refl, le-trans, zero-mul, mul-zero, zero-lt-suc}
 use native.Mathlib.Omega.{arith}
@@ -19,8 +19,8 @@ use Rattle.real.specs.Patterns.{units, doubleMagnitude, doubleInfinity}
 use Rattle.real.specs.Narrowing.{Nearest}
 use Rattle.real.proofs.Nearness.{split, Rounds, nearest-unique, nearest-exact, nearest-rounded}
 use Rattle.real.proofs.PatternLaws.{units-at, units-rising}
-use Rattle.mean.specs.marks.Mean.{quotient}
-use Rattle.mean.specs.marks.Claims.{unitsOfOne, NearestQuotient, NearestUnique}
+use Rattle.mean.specs.Mean.{quotient}
+use Rattle.mean.specs.Claims.{unitsOfOne, NearestQuotient, NearestUnique}
 use Rattle.mean.proofs.marks.Division.{exact, quotient-rounds}
 
 -- ---- how `nearest` rounds

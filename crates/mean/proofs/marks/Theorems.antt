@@ -18,8 +18,8 @@ use Rattle.record.specs.Geometry.{tableFits}
 use Rattle.record.proofs.Bytes.{All}
 use Rattle.record.proofs.Sizes.{table-sized}
 use Rattle.record.proofs.Tables.{length-slots}
-use Rattle.mean.specs.marks.Mean.{Leg, unset, marked, maxMark, legOf, legsOf, marksOf, unsetOf, sumOf, quotient, meanOf, legs, marksEffect, mean}
-use Rattle.mean.specs.marks.Claims.{isMark, MarkRange, Inserted, none, kept, blank, CountsMore, UnsetCounts, OneMark, least, greatest, Between, MeanBetween, Numeric, MeanNumeric, MeanNearest}
+use Rattle.mean.specs.Mean.{Leg, unset, marked, maxMark, legOf, legsOf, marksOf, unsetOf, sumOf, quotient, meanOf, legs, marksEffect, mean}
+use Rattle.mean.specs.Claims.{isMark, MarkRange, Inserted, none, kept, blank, CountsMore, UnsetCounts, OneMark, least, greatest, Between, MeanBetween, Numeric, MeanNumeric, MeanNearest}
 use Rattle.mean.proofs.marks.LegLaws.{Alike, leg-alike, leg-range, InRange}
 use Rattle.mean.proofs.marks.WalkLaws.{call-served}
 use Rattle.mean.proofs.marks.NearestMean.{quotient-nearest}

@@ -20,8 +20,8 @@ use Rattle.mean.specs.declared.marks.LegMean.the-variants.{Unmarked}
 use Rattle.mean.specs.declared.marks.Marks.{Marks}
 use Rattle.mean.specs.declared.marks.Tally.{Tally}
 use Rattle.mean.specs.declared.marks.Turn.the-variants.{Next, Stop}
-use Rattle.mean.specs.marks.Mean.{Leg, unset, marked, legOf, legsOf, marksOf, unsetOf, sumOf, meanOf, legs, marksEffect, mean}
-use Rattle.mean.specs.marks.Walk.{counted, turnOf, meanOfTally, Near}
+use Rattle.mean.specs.Mean.{Leg, unset, marked, legOf, legsOf, marksOf, unsetOf, sumOf, meanOf, legs, marksEffect, mean}
+use Rattle.mean.specs.inside.Walk.{counted, turnOf, meanOfTally, Near}
 use Rattle.mean.proofs.marks.LegLaws.{turn-next, turn-stop, leg-place, leg-range, InRange}
 
 -- ---- a walk that has counted t, over the rest of the legs

@@ -9,7 +9,7 @@ use Rattle.record.specs.Table.{slotsOf, slotWidth, maxSlots}
 use Rattle.record.specs.Geometry.{tableFits}
 use Rattle.record.proofs.Sizes.{table-sized}
 use Rattle.mean.specs.declared.marks.Marks.{Marks}
-use Rattle.mean.specs.marks.Mean.{legsOf, marksEffect, mean}
+use Rattle.mean.specs.Mean.{legsOf, marksEffect, mean}
 use Rattle.mean.proofs.marks.WalkLaws.{Walking, walking-none, walking-done, slot-there, walking-stop, walking-next, call-refused, call-served}
 use borrow.Author.Needs.{needs}
 use Rattle.mean.proofs.mean.Statement.{statement}
@@ -20,12 +20,6 @@ Inv-loop slots area n t₀ k₀ t k = Walking area slots k t
 
 abbrev μ-loop : tie.MeasureT-loop
 μ-loop slots area n t₀ k₀ t k = length slots / slotWidth - k
-
-table-fits-requires : tie.Need-table-fits-requires Inv-loop μ-loop
-table-fits-requires c κs = search needs
-
-refused-requires : tie.Need-refused-requires Inv-loop μ-loop
-refused-requires c κs = search needs
 
 returns : tie.Need-returns Inv-loop μ-loop
 returns c = c .refused .ensures ∙ call-refused _ _ (sym (c .before .before .table-fits .ensures) ∙ not-true _ (c .before .if1 .taken))
@@ -48,14 +42,8 @@ step-requires c κs =
     let l = c .before in
     (slot-there _ _ _ _ (l .loop .inv) (few (l .before)) (c .loop-test .taken), l .loop .inv .near)
 
-enum-known-turn : tie.Need-enum-known-turn Inv-loop μ-loop
-enum-known-turn c = search needs
-
 cast-refused : tie.Need-cast-refused Inv-loop μ-loop
 cast-refused c = let l = c .before .before .before .before .before in omega (arith, l .loop .inv .near .few)
-
-refused-requires-2 : tie.Need-refused-requires-2 Inv-loop μ-loop
-refused-requires-2 c κs = search needs
 
 returns-2 : tie.Need-returns-2 Inv-loop μ-loop
 returns-2 c =
@@ -63,9 +51,6 @@ returns-2 c =
     let s = told .before .before in
     let l = s .before .before in
     served (l .before) _ (c .refused2 .ensures ∙ walking-stop _ _ _ _ (l .loop .inv) (few (l .before)) (s .before .loop-test .taken) _ (sym (told .turn .given .1) ∙ s .step .ensures))
-
-enum-known-turn-2 : tie.Need-enum-known-turn-2 Inv-loop μ-loop
-enum-known-turn-2 c = search needs
 
 loop-again : tie.Need-loop-again Inv-loop μ-loop
 loop-again c =
@@ -76,15 +61,6 @@ loop-again c =
 
 add-k : tie.Need-add-k Inv-loop μ-loop
 add-k c = let n = loop-again c .near in omega (arith, n .few)
-
-loop-less : tie.Need-loop-less Inv-loop μ-loop
-loop-less c = omega arith
-
-accepted-requires : tie.Need-accepted-requires Inv-loop μ-loop
-accepted-requires c κs = search needs
-
-mean-of-tally-requires : tie.Need-mean-of-tally-requires Inv-loop μ-loop
-mean-of-tally-requires c κs = search needs
 
 returns-3 : tie.Need-returns-3 Inv-loop μ-loop
 returns-3 c =
@@ -98,19 +74,19 @@ mean-spec =
     (tie.spec
     Inv-loop
     μ-loop
-    table-fits-requires
-    refused-requires
+    (λ c κs. search needs)
+    (λ c κs. search needs)
     returns
     loop-holds
     step-requires
-    enum-known-turn
+    (λ c. search needs)
     cast-refused
-    refused-requires-2
+    (λ c κs. search needs)
     returns-2
-    enum-known-turn-2
+    (λ c. search needs)
     add-k
-    loop-less
+    (λ c. omega arith)
     loop-again
-    accepted-requires
-    mean-of-tally-requires
+    (λ c κs. search needs)
+    (λ c κs. search needs)
     returns-3)

@@ -12,19 +12,10 @@ use borrow.Author.Needs.{needs}
 use Rattle.mean.proofs.step.Statement.{statement}
 use Rattle.mean.proofs.step.Tie as tie
 
-slot-at-requires : tie.Need-slot-at-requires
-slot-at-requires c κs = search needs
-
-add-t8 : tie.Need-add-t8
-add-t8 c = search needs
-
 returns : tie.Need-returns
 returns c =
     let slot = c .before .before .before .slot-at in
     rw (← slot .ensures .same) (not-set _ _ (slot .result) _ (eq-eqb _ _ (c .before .if1 .taken)))
-
-is-inside-requires : tie.Need-is-inside-requires
-is-inside-requires c κs = search needs
 
 set : (c : tie.Else1) → eqb (c .before .before .slot-at .result .kind) unset ≡ false
 set c = ne-eqb _ _ (c .if1 .left)
@@ -36,9 +27,6 @@ returns-2 c =
 
 inside : (c : tie.Else2) → isInside (c .before .before .before .before .slot-at .result) (length (c .before .before .before .before .before .before .before .args .area .now)) ≡ true
 inside c = sym (c .before .is-inside .ensures) ∙ not-false _ (c .if2 .left)
-
-is-integers-requires : tie.Need-is-integers-requires
-is-integers-requires c κs = search needs
 
 returns-3 : tie.Need-returns-3
 returns-3 c =
@@ -76,15 +64,6 @@ returns-5 c =
     rw (← slot .ensures .same)
     (out-of-range _ _ (slot .result) _ (set (tested .before .before)) (inside tested) (integers third) (one fourth) (c .before .number-at .ensures .0) (lt-leb _ _ (c .if5 .taken)))
 
-cast-t16 : tie.Need-cast-t16
-cast-t16 c = search needs
-
-add-t17 : tie.Need-add-t17
-add-t17 c = search needs
-
-add-t18 : tie.Need-add-t18
-add-t18 c = search needs
-
 returns-6 : tie.Need-returns-6
 returns-6 c =
     let fifth = c .before .before in
@@ -99,17 +78,17 @@ pub step-spec : {M : Type 1} → statement M
 step-spec =
     tie.close
     (tie.spec
-    slot-at-requires
-    add-t8
+    (λ c κs. search needs)
+    (λ c. search needs)
     returns
-    is-inside-requires
+    (λ c κs. search needs)
     returns-2
-    is-integers-requires
+    (λ c κs. search needs)
     returns-3
     returns-4
     number-at-requires
     returns-5
-    cast-t16
-    add-t17
-    add-t18
+    (λ c. search needs)
+    (λ c. search needs)
+    (λ c. search needs)
     returns-6)

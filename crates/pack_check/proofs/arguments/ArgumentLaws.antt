@@ -12,7 +12,7 @@ use lib.Seq.{take-take, take-all}
 use Rattle.layout.specs.declared.Shape.{Shape}
 use Rattle.layout.specs.declared.Shape.the-variants.{Digits, Reals}
 use Rattle.layout.specs.declared.Count.{Count}
-use Rattle.layout.specs.declared.Refusal.the-variants.{NotSet, BadSlot, WrongKind, WrongAmount, BadDigit, BadReal}
+use Rattle.layout.specs.declared.Refusal.the-variants.{NotSet, BadSlot, WrongKind, BadList, BadDigit, BadReal}
 use Rattle.layout.specs.Refusals.{ok}
 use Rattle.layout.proofs.Laws.{demanded}
 use Rattle.record.specs.Bytes.{part, pieces, number, ordered, bigEndianIn}
@@ -22,9 +22,10 @@ use Rattle.record.specs.Table.{maxKind, real, shown, itemSize, integerSize, int
 use Rattle.record.proofs.NumberLaws.{length-bigEndianIn}
 use Rattle.record.specs.Geometry.{amount}
 use Rattle.record.proofs.Tables.{reals-kind}
-use Rattle.record.specs.Packing.{kindFits, amountFits, digitsFit, allDigits, realsFit, noNaN, insideArea, argumentFits}
+use Rattle.record.specs.Packing.{kindFits, amountFits, digitsFit, allDigits, realsFit, noNaN, argumentFits}
+use Rattle.record.specs.inside.Slots.{insideArea}
 use Rattle.record.proofs.Fields.{split}
-use Rattle.pack_check.specs.arguments.{verdictOf}
+use Rattle.pack_check.specs.inside.arguments.{verdictOf}
 use Rattle.pack_check.specs.declared.arguments.Verdict.the-variants.{Fits, Refused}
 
 -- ---- each answer of the check
@@ -45,7 +46,7 @@ module _ (area : List ℕ) (s : Shape) (n : Count) (k : ℕ) (a : Slot) where
       wrong-kind e = simp (e₁, e₂, e)
 
       module _ (e₃ : kindFits s (a .kind) ≡ true) where
-        pub wrong-amount : amountFits s n (a .len) ≡ false → Refused WrongAmount k ≡ verdictOf (argumentFits area s n k a)
+        pub wrong-amount : amountFits s n (a .len) ≡ false → Refused BadList k ≡ verdictOf (argumentFits area s n k a)
         unfolding argumentFits
         wrong-amount e = simp (e₁, e₂, e₃, e)
 
@@ -76,7 +77,7 @@ checked-argument area s n k a e =
     let x₁ = demanded (not (eqb (a .kind) 0)) NotSet k _ tt e in
     let x₂ = demanded (leb (a .kind) maxKind && insideArea area a) BadSlot k _ tt (x₁ .1) in
     let x₃ = demanded (kindFits s (a .kind)) WrongKind k _ tt (x₂ .1) in
-    let x₄ = demanded (amountFits s n (a .len)) WrongAmount k _ tt (x₃ .1) in
+    let x₄ = demanded (amountFits s n (a .len)) BadList k _ tt (x₃ .1) in
     let x₅ = demanded (digitsFit s (amount n (a .len)) (shown area a .items)) BadDigit k _ tt (x₄ .1) in
     record {
       inside = and-true (leb (a .kind) maxKind) (insideArea area a) (x₂ .0) .1;

@@ -11,17 +11,19 @@ use Rattle.layout.specs.declared.Shape.{Shape}
 use Rattle.layout.specs.declared.Shape.the-variants.{Text, Digits, Integers, Reals}
 use Rattle.layout.specs.declared.Count.{Count}
 use Rattle.layout.specs.Refusals.{ok}
-use Rattle.layout.specs.Words.{lastText, lastBinary, lastDigits, lastIntegers, lastSingle, lastData, widthNumbered, shapeNumbered}
+use Rattle.layout.specs.Codes.{lastText, lastBinary, lastDigits, lastIntegers, lastSingle, lastData, widthNumbered}
+use Rattle.layout.specs.inside.Parsing.{shapeNumbered}
 use Rattle.layout.proofs.Numbered.{shape-text, shape-digits, shape-integers, shape-reals}
 use Rattle.record.specs.Bytes.{part}
 use Rattle.record.specs.declared.slots.Slot.{Slot}
 use Rattle.record.specs.Table.{maxKind, real, shown}
 use Rattle.record.specs.Geometry.{amount, bytesFor}
 use Rattle.record.proofs.Tables.{kind-integers}
-use Rattle.record.specs.Packing.{kindFits, enough, amountFits, digitsFit, allDigits, realsFit, insideArea, argumentFits}
+use Rattle.record.specs.Packing.{kindFits, enough, amountFits, digitsFit, allDigits, realsFit, argumentFits}
+use Rattle.record.specs.inside.Slots.{insideArea}
 use Rattle.pack_check.proofs.arguments.ArgumentLaws.{digits-part}
 use Rattle.pack_check.specs.declared.quick_check.Quick.the-variants.{Bytes, Unsure}
-use Rattle.pack_check.specs.quick_check.{Sound}
+use Rattle.pack_check.specs.inside.quick_check.{Sound}
 
 module _ (area : List ℕ) (n : Count) (a : Slot) where
   -- a test that does not pass says nothing

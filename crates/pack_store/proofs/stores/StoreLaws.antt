@@ -11,18 +11,19 @@ use Rattle.layout.specs.declared.Shape.{Shape}
 use Rattle.layout.specs.declared.Shape.the-variants.{Text, Digits, Integers, Reals}
 use Rattle.layout.specs.declared.Count.{Count}
 use Rattle.layout.specs.declared.Count.the-variants.{Absent, Star, Times}
-use Rattle.layout.specs.Words.{realSize}
+use Rattle.layout.specs.Layout.{realSize}
 use Rattle.real.specs.Narrowing.{singleOf}
 use Rattle.record.specs.Bytes.{part, ceilDiv}
 use Rattle.record.specs.declared.slots.Slot.{Slot}
 use Rattle.record.specs.Table.{maxArea, shown, integerSize, integersIn, maxRecord}
 use Rattle.record.specs.Geometry.{amount, perByte}
-use Rattle.record.specs.Packing.{stored, lowBytes, patterns, enough, amountFits, allDigits, digitsFit, insideArea}
+use Rattle.record.specs.Packing.{stored, lowBytes, patterns, enough, amountFits, allDigits, digitsFit}
+use Rattle.record.specs.inside.Slots.{insideArea}
 use Rattle.record.proofs.NumberLaws.{length-bigEndianIn}
 use Rattle.record.proofs.Fields.{Served}
 use Rattle.record.proofs.Tables.{integers-kind, reals-kind}
 use Rattle.record.proofs.Stores.{length-part}
-use Rattle.pack_store.specs.stores.{Enough, Storable}
+use Rattle.pack_store.specs.inside.stores.{Enough, Storable}
 use Rattle.record.proofs.Bounds.{few-digits}
 use Rattle.pack_check.proofs.arguments.ArgumentLaws.{string-inside, integers-inside, shown-string, shown-integers, take-integers, Checked}
 
@@ -97,7 +98,7 @@ module _ (area : List ℕ) (n : ℕ) (a : Slot) (at size : ℕ) where
     integers = integers-kind (a .kind) (s .kind)
 
     pub integers-asks : (w ≤ 8) × (at + n * w ≤ size) × (a .start + n * 8 ≤ length area)
-    integers-asks = (s .code .1, s .room, omega (arith, s .amounts, integers-inside area a (s .inside) integers))
+    integers-asks = (s .role .1, s .room, omega (arith, s .amounts, integers-inside area a (s .inside) integers))
 
     pub integers-value : stored (Integers w big) n (integersIn n (drop (a .start) area)) ≡ stored (Integers w big) n (shown area a .items)
     integers-value = stored-integers w big n (a .len) (drop (a .start) area) (s .amounts) ∙ ap (stored (Integers w big) n) (sym (shown-integers area a integers))

@@ -5,17 +5,18 @@ use mathlib.Core.Path.{_≡_, refl, sym, _∙_, subst}
 use mathlib.Core.List.{List, _∷_}
 use lib.ListN.{length, getD, drop}
 use lib.Seq.{drop-drop}
-use Rattle.layout.specs.declared.Code.{Code}
-use Rattle.layout.specs.declared.Code.the-variants.{Data, Move}
+use Rattle.layout.specs.declared.Role.{Role}
+use Rattle.layout.specs.declared.Role.the-variants.{Data, Move}
 use Rattle.layout.specs.declared.Motion.{Motion}
 use Rattle.layout.specs.declared.Shape.{Shape}
 use Rattle.layout.specs.declared.Count.{Count}
 use Rattle.layout.specs.declared.Field.{Field}
 use Rattle.layout.specs.Refusals.{ok, _>>=_}
-use Rattle.layout.specs.Layout.{takesSlot, toNat}
-use Rattle.layout.specs.Words.{lastData, shapeNumbered, countFrom, fieldOf, slotsTaken, decoded, FieldOf, flagUnit, countUnit}
+use Rattle.layout.specs.Layout.{takesSlot, toNat, slotsTaken}
+use Rattle.layout.specs.Codes.{lastData, countFrom, fieldOf, flagUnit, countUnit}
+use Rattle.layout.specs.inside.Parsing.{shapeNumbered, decoded, FieldOf}
 use Rattle.layout.proofs.Laws.{bound, ok-inj}
-use Rattle.layout.proofs.Decoded.{word-shape, word-count, word-slotless, no-field}
+use Rattle.layout.proofs.Decoded.{code-shape, code-count, code-slotless, no-field}
 use Rattle.record.specs.declared.Cursor.{Cursor}
 use Rattle.record.specs.Bytes.{storeAt}
 use Rattle.record.specs.declared.slots.Slot.{Slot}
@@ -23,10 +24,10 @@ use Rattle.record.specs.Table.{slotsOf, slotWidth, shown}
 use Rattle.record.specs.Geometry.{amount, bytesFor}
 use Rattle.record.specs.Packing.{stored, argumentFits, nextSlot}
 use Rattle.record.specs.Slots.{slotAt}
-use Rattle.record.specs.Cursor.{origin, past}
-use Rattle.pack_check.specs.measuring.{advance, stepped, checked, HasRoom}
-use Rattle.pack_store.specs.stores.{Storable}
-use Rattle.pack_store.specs.writing.{put, written, Movable, Puttable, Writable}
+use Rattle.record.specs.inside.Cursor.{origin, past}
+use Rattle.pack_check.specs.inside.measuring.{advance, fieldChecked, argumentsChecked, HasRoom}
+use Rattle.pack_store.specs.inside.stores.{Storable}
+use Rattle.pack_store.specs.inside.writing.{put, written, Movable, Puttable, Writable}
 use Rattle.record.proofs.SlotLaws.{next-slot}
 use Rattle.pack_check.proofs.measuring.Bounds.{advance-within}
 use Rattle.pack_check.proofs.arguments.ArgumentLaws.{checked-argument}
@@ -36,29 +37,29 @@ use Rattle.pack_store.proofs.writing.RunLaws.{room-ok, room-step, room-
 
 -- ---- one field
 
--- a word's field by the number of its type
-pub puttable-data : (area ns : List ℕ) (k w : ℕ) (c : Cursor) (size : ℕ) → Puttable area ns k c (fieldOf w .code) (fieldOf w .count) size → w % flagUnit ≤ lastData
+-- a code's field by the number of its type
+pub puttable-data : (area ns : List ℕ) (k w : ℕ) (c : Cursor) (size : ℕ) → Puttable area ns k c (fieldOf w .role) (fieldOf w .count) size → w % flagUnit ≤ lastData
     → Puttable area ns k c (Data (shapeNumbered (w % flagUnit))) (countFrom (w / countUnit)) size
-puttable-data area ns k w c size p h = rw (word-shape w h, word-count w) at p
+puttable-data area ns k w c size p h = rw (code-shape w h, code-count w) at p
 
-pub no-value : (w : ℕ) (f : Field) (s : Shape) → f ≡ fieldOf w → lastData < w % flagUnit → f .code ≡ Data s → ⊥
+pub no-value : (w : ℕ) (f : Field) (s : Shape) → f ≡ fieldOf w → lastData < w % flagUnit → f .role ≡ Data s → ⊥
 no-value w f s e h q =
-    let none : slotsTaken f ≡ 0 = rw e (word-slotless w h) in
+    let none : slotsTaken f ≡ 0 = rw e (code-slotless w h) in
     let one : slotsTaken f ≡ 1 = rw q in
     omega arith
 
--- where the next slot is, by the number of the word's type
+-- where the next slot is, by the number of the code's type
 module _ (w k k′ : ℕ) where
   pub slot-taken : w % flagUnit ≤ lastData → k′ ≡ k + 1 → k′ ≡ k + slotsTaken (fieldOf w)
-  slot-taken h e = rw (word-shape w h) e
+  slot-taken h e = rw (code-shape w h) e
 
   pub slot-kept : lastData < w % flagUnit → k′ ≡ k → k′ ≡ k + slotsTaken (fieldOf w)
-  slot-kept h e = omega (arith, word-slotless w h)
+  slot-kept h e = omega (arith, code-slotless w h)
 
 module _ (area ns : List ℕ) (k : ℕ) (c : Cursor) (n : Count) (size : ℕ) where
   module _ (s : Shape) (p : Puttable area ns k c (Data s) n size) where
     storable-slot : Storable area s (amount n (slotAt ns k .len)) (slotAt ns k) (c .at) size
-    unfolding stepped
+    unfolding fieldChecked
     storable-slot =
         let t = slotAt ns k in
         let (d, e, l) = room-ok (argumentFits area s n k t >>= (λ _. ok (advance c (Data s) n (t .len)))) size (p .room) in
@@ -71,7 +72,7 @@ module _ (area ns : List ℕ) (k : ℕ) (c : Cursor) (n : Count) (size : ℕ) wh
           kind = f .kind;
           amounts = amounts-enough s n (t .len) (f .amounts);
           digits = f .digits;
-          code = p .ready .codeFits;
+          role = p .ready .roleFits;
           room = omega arith;
           limit = p .limit;
         }
@@ -88,7 +89,7 @@ module _ (area ns : List ℕ) (k : ℕ) (c : Cursor) (n : Count) (size : ℕ) wh
           subst (λ (t : Slot). (r ≡ advance c (Data s) n (t .len)) × (out′ ≡ put area t out c (Data s) n)) same (q ∙ rw (b, e), o ∙ rw e)
 
   pub movable : (m : Motion) → Puttable area ns k c (Move m) n size → Movable c m n size
-  unfolding stepped
+  unfolding fieldChecked
   movable m p = record { within = p .within; room = p .room }
 
 -- ---- the loop
@@ -97,12 +98,12 @@ pub record Writing (area : List ℕ) (n : ℕ) (ws ns lent out : List ℕ) (i k 
   pub standing : Standing n ws ns i k
   pub within : c .at ≤ c .end
   pub long : length out ≡ length lent
-  pub room : HasRoom (checked area k (drop k (slotsOf ns)) (drop i (decoded n ws)) c) (length lent)
+  pub room : HasRoom (argumentsChecked area k (drop k (slotsOf ns)) (drop i (decoded n ws)) c) (length lent)
   pub same : written area (drop k (slotsOf ns)) (drop i (decoded n ws)) c out ≡ written area (slotsOf ns) (decoded n ws) origin lent
 
-put-here : (area ns out : List ℕ) (k : ℕ) (c : Cursor) (code : Code) (n : Count) → slotWidth * (k + toNat (takesSlot code)) ≤ length ns
-    → (advance c code n (nextSlot (drop k (slotsOf ns)) .len) ≡ advance c code n (slotAt ns k .len))
-    × (put area (nextSlot (drop k (slotsOf ns))) out c code n ≡ put area (slotAt ns k) out c code n)
+put-here : (area ns out : List ℕ) (k : ℕ) (c : Cursor) (role : Role) (n : Count) → slotWidth * (k + toNat (takesSlot role)) ≤ length ns
+    → (advance c role n (nextSlot (drop k (slotsOf ns)) .len) ≡ advance c role n (slotAt ns k .len))
+    × (put area (nextSlot (drop k (slotsOf ns))) out c role n ≡ put area (slotAt ns k) out c role n)
 unfolding put
 put-here area ns out k c (Data s) n h = let e = next-slot ns k (omega arith) in (rw e, rw e)
 put-here area ns out k c (Move m) n h = (refl, refl)
@@ -124,39 +125,39 @@ module _ (area : List ℕ) (n : ℕ) (ws ns lent : List ℕ) (fine : Writable ar
       here = field-here n ws ns i k (fine .prepared) (w .standing) l f (e .same)
 
       -- the step that the field takes, and the room after it
-      stepping : (d : Cursor) × (stepped area k (slotAt ns k) c (f .code) (f .count) ≡ ok d)
-          × HasRoom (checked area (k + slotsTaken f) (drop (k + slotsTaken f) (slotsOf ns)) (drop (i + 1) (decoded n ws)) d) (length lent)
-      unfolding checked
+      stepping : (d : Cursor) × (fieldChecked area k (slotAt ns k) c (f .role) (f .count) ≡ ok d)
+          × HasRoom (argumentsChecked area (k + slotsTaken f) (drop (k + slotsTaken f) (slotsOf ns)) (drop (i + 1) (decoded n ws)) d) (length lent)
+      unfolding argumentsChecked
       stepping =
-          let s = slot-here area ns k c (f .code) (f .count) slot in
-          room-step (stepped area k (slotAt ns k) c (f .code) (f .count)) (checked area (k + slotsTaken f) (drop (k + slotsTaken f) (slotsOf ns)) (drop (i + 1) (decoded n ws))) (length lent)
+          let s = slot-here area ns k c (f .role) (f .count) slot in
+          room-step (fieldChecked area k (slotAt ns k) c (f .role) (f .count)) (argumentsChecked area (k + slotsTaken f) (drop (k + slotsTaken f) (slotsOf ns)) (drop (i + 1) (decoded n ws))) (length lent)
           (rw (← drop-drop (slotsTaken f) k (slotsOf ns), ← s) (rw here at (w .room)))
 
-      pub writing-ready : Puttable area ns k c (f .code) (f .count) (length out)
+      pub writing-ready : Puttable area ns k c (f .role) (f .count) (length out)
       writing-ready =
           let (d, q, r) = stepping in
           let end : d .end ≤ length lent = room-end area (drop (i + 1) (decoded n ws)) (k + slotsTaken f) (drop (k + slotsTaken f) (slotsOf ns)) d (length lent) r in
           let now : c .end ≤ length lent = room-end area (drop i (decoded n ws)) k (drop k (slotsOf ns)) c (length lent) (w .room) in
           record {
-            ready = record { codeFits = e .code; countFits = e .count; slot = slot; near = omega (arith, w .within, fine .limit) };
+            ready = record { roleFits = e .role; countFits = e .count; slot = slot; near = omega (arith, w .within, fine .limit) };
             within = w .within;
             room = rw (q, w .long) end;
             limit = omega (arith, w .long, fine .limit);
           }
 
-      pub writing-next : (d : Cursor) (out′ : List ℕ) → (d ≡ advance c (f .code) (f .count) (slotAt ns k .len)) × (out′ ≡ put area (slotAt ns k) out c (f .code) (f .count))
+      pub writing-next : (d : Cursor) (out′ : List ℕ) → (d ≡ advance c (f .role) (f .count) (slotAt ns k .len)) × (out′ ≡ put area (slotAt ns k) out c (f .role) (f .count))
           → length out′ ≡ length out → (k′ : ℕ) → k′ ≡ k + slotsTaken f → Writing area n ws ns lent out′ (i + 1) k′ d
       unfolding written
       writing-next d out′ p long k′ t =
           let (d′, q, r) = stepping in
-          let a : d′ ≡ d = stepped-advance area k (slotAt ns k) c (f .code) (f .count) d′ q ∙ sym (p .0) in
-          let h = put-here area ns out k c (f .code) (f .count) slot in
-          let s : written area (drop (slotsTaken f) (drop k (slotsOf ns))) (drop (i + 1) (decoded n ws)) (advance c (f .code) (f .count) (nextSlot (drop k (slotsOf ns)) .len)) (put area (nextSlot (drop k (slotsOf ns))) out c (f .code) (f .count))
+          let a : d′ ≡ d = stepped-advance area k (slotAt ns k) c (f .role) (f .count) d′ q ∙ sym (p .0) in
+          let h = put-here area ns out k c (f .role) (f .count) slot in
+          let s : written area (drop (slotsTaken f) (drop k (slotsOf ns))) (drop (i + 1) (decoded n ws)) (advance c (f .role) (f .count) (nextSlot (drop k (slotsOf ns)) .len)) (put area (nextSlot (drop k (slotsOf ns))) out c (f .role) (f .count))
           ≡ written area (slotsOf ns) (decoded n ws) origin lent = rw here at (w .same) in
           rw t
           (record {
             standing = standing-next n ws ns i k (fine .prepared) (w .standing) l f (e .same);
-            within = rw (p .0) (advance-within c (f .code) (f .count) (slotAt ns k .len) (w .within));
+            within = rw (p .0) (advance-within c (f .role) (f .count) (slotAt ns k .len) (w .within));
             long = long ∙ w .long;
             room = rw (← a) r;
             same = rw (p .0, p .1, ← h .0, ← h .1, ← drop-drop (slotsTaken f) k (slotsOf ns)) s;

@@ -1,4 +1,4 @@
--- A layout that is served has room in the words.
+-- A layout that is served has room in the codes.
 use mathlib.Core.Path.{_≡_, sym, _∙_}
 use mathlib.Core.Bool.{true}
 use borrow.Author.Tests.{not-true, not-false}
@@ -10,12 +10,6 @@ use borrow.Author.Needs.{needs}
 use Rattle.packer.proofs.pack.Statement.{statement}
 use Rattle.packer.proofs.pack.Tie as tie
 
-lengths-fit-requires : tie.Need-lengths-fit-requires
-lengths-fit-requires c κs = search needs
-
-refused-requires : tie.Need-refused-requires
-refused-requires c κs = search needs
-
 fine : (c : tie.Else1) → lengthsFit (length (c .before .before .before .before .before .before .args .layout .now)) (length (c .before .before .before .before .before .before .args .slots .now)) (length (c .before .before .before .before .before .before .args .output .now)) (length (c .before .before .before .before .before .before .args .area .now)) ≡ true
 fine c = sym (c .before .lengths-fit .ensures) ∙ not-false _ (c .if1 .left)
 
@@ -25,22 +19,13 @@ limits c = sized (fine c)
 returns : tie.Need-returns
 returns c = rw (c .refused .ensures) (layout-sizes _ _ _ _ (sym (c .before .before .lengths-fit .ensures) ∙ not-true _ (c .before .if1 .taken)))
 
-slice-aggregate-parse : tie.Need-slice-aggregate-parse
-slice-aggregate-parse c = search needs
-
 parse-requires : tie.Need-parse-requires
 parse-requires c κs = (limits (c .before) .text, search needs)
-
-slice-aggregate-packed : tie.Need-slice-aggregate-packed
-slice-aggregate-packed c = search needs
 
 packed-requires : tie.Need-packed-requires
 packed-requires c κs =
     let p = c .before .before .before in
     (_, _, layout-read _ _ _ _ (fine (p .before .before)) (p .parse .ensures))
-
-same-length : tie.Need-same-length
-same-length c = search needs
 
 returns-2 : tie.Need-returns-2
 returns-2 c =
@@ -52,12 +37,12 @@ pub pack-spec : {M : Type 1} → statement M
 pack-spec =
     tie.close
     (tie.spec
-    lengths-fit-requires
-    refused-requires
+    (λ c κs. search needs)
+    (λ c κs. search needs)
     returns
-    slice-aggregate-parse
+    (λ c. search needs)
     parse-requires
-    slice-aggregate-packed
+    (λ c. search needs)
     packed-requires
-    same-length
+    (λ c. search needs)
     returns-2)

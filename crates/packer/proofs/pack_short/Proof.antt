@@ -1,4 +1,4 @@
--- A long layout is left to `pack`. A short one has room in the words; the rest is as in `pack`.
+-- A long layout is left to `pack`. A short one has room in the codes; the rest is as in `pack`.
 use mathlib.Core.Path.{_≡_, sym, _∙_}
 use mathlib.Core.Bool.{true}
 use native.Mathlib.Omega.{arith}
@@ -10,20 +10,8 @@ use borrow.Author.Needs.{needs}
 use Rattle.packer.proofs.pack_short.Statement.{statement}
 use Rattle.packer.proofs.pack_short.Tie as tie
 
-pack-requires : tie.Need-pack-requires
-pack-requires c κs = search needs
-
-same-length : tie.Need-same-length
-same-length c = search needs
-
 returns : tie.Need-returns
 returns c = c .before .before .pack .ensures
-
-lengths-fit-requires : tie.Need-lengths-fit-requires
-lengths-fit-requires c κs = search needs
-
-refused-requires : tie.Need-refused-requires
-refused-requires c κs = search needs
 
 fine : (c : tie.Else2) → lengthsFit (length (c .before .before .before .before .before .before .before .args .layout .now)) (length (c .before .before .before .before .before .before .before .args .slots .now)) (length (c .before .before .before .before .before .before .before .args .output .now)) (length (c .before .before .before .before .before .before .before .args .area .now)) ≡ true
 fine c = sym (c .before .lengths-fit .ensures) ∙ not-false _ (c .if2 .left)
@@ -31,22 +19,13 @@ fine c = sym (c .before .lengths-fit .ensures) ∙ not-false _ (c .if2 .left)
 returns-2 : tie.Need-returns-2
 returns-2 c = rw (c .refused .ensures) (layout-sizes _ _ _ _ (sym (c .before .before .lengths-fit .ensures) ∙ not-true _ (c .before .if2 .taken)))
 
-slice-aggregate-parse : tie.Need-slice-aggregate-parse
-slice-aggregate-parse c = search needs
-
 parse-requires : tie.Need-parse-requires
 parse-requires c κs = (omega (arith, c .before .before .before .if1 .left), search needs)
-
-slice-aggregate-packed : tie.Need-slice-aggregate-packed
-slice-aggregate-packed c = search needs
 
 packed-requires : tie.Need-packed-requires
 packed-requires c κs =
     let p = c .before .before .before in
     (_, _, layout-read _ _ _ _ (fine (p .before .before)) (p .parse .ensures))
-
-same-length-2 : tie.Need-same-length-2
-same-length-2 c = search needs
 
 returns-3 : tie.Need-returns-3
 returns-3 c =
@@ -58,15 +37,15 @@ pub pack-short-spec : {M : Type 1} → statement M
 pack-short-spec =
     tie.close
     (tie.spec
-    pack-requires
-    same-length
+    (λ c κs. search needs)
+    (λ c. search needs)
     returns
-    lengths-fit-requires
-    refused-requires
+    (λ c κs. search needs)
+    (λ c κs. search needs)
     returns-2
-    slice-aggregate-parse
+    (λ c. search needs)
     parse-requires
-    slice-aggregate-packed
+    (λ c. search needs)
     packed-requires
-    same-length-2
+    (λ c. search needs)
     returns-3)

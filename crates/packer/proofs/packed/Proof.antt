@@ -6,7 +6,7 @@ use mathlib.Core.List.{List}
 use Rattle.layout.specs.declared.Field.{Field}
 use Rattle.layout.specs.Refusals.{Result, refused}
 use Rattle.layout.proofs.Decoded.{Learnt, parsed-fields, parsed-refused}
-use Rattle.packer.specs.Whole.{Read}
+use Rattle.packer.specs.inside.Whole.{FieldsRead}
 use Rattle.packer.proofs.WholeLaws.{pack-refused, pack-slots, pack-finish, other-slots, same-slots, read-sized}
 use borrow.Author.Needs.{needs}
 use Rattle.packer.proofs.packed.Statement.{statement}
@@ -14,30 +14,18 @@ use Rattle.packer.proofs.packed.Tie as tie
 
 -- fields that are read as these arguments say
 abbrev ReadFrom : (c : tie.After-slice-known) → ℕ → Result (List Field) → Type 0
-ReadFrom c size o = let a = c .before .before .before .before .args in Read (a .p) (a .words .now) (a .slots .now) (a .area .now) (a .output .now) size o
+ReadFrom c size o = let a = c .before .before .before .before .args in FieldsRead (a .p) (a .codes .now) (a .slots .now) (a .area .now) (a .output .now) size o
 
 bad : (c : tie.After-p) (size : ℕ) (o : Result (List Field)) → ReadFrom (c .before .before) size o → o ≡ refused (c .p .given .0 .0) (c .p .given .0 .1 .0)
 bad c size o j = parsed-refused _ _ _ _ _ (j .parsed) (c .p .given .1)
 
-learnt : (c : tie.After-p2) (size : ℕ) (o : Result (List Field)) → ReadFrom (c .before .before) size o → Learnt o (c .p2 .given .0 .0) (c .p2 .given .0 .1 .0) (c .before .before .before .before .before .before .args .words .now)
+learnt : (c : tie.After-p2) (size : ℕ) (o : Result (List Field)) → ReadFrom (c .before .before) size o → Learnt o (c .p2 .given .0 .0) (c .p2 .given .0 .1 .0) (c .before .before .before .before .before .before .args .codes .now)
 learnt c size o j = parsed-fields _ _ _ _ _ (j .parsed) (c .p2 .given .1)
-
-enum-known-p : tie.Need-enum-known-p
-enum-known-p c = search needs
 
 cast-refused : tie.Need-cast-refused
 cast-refused c =
     let (size, o, j) = c .before .before .before .before .before .before .before .pre in
     omega (arith, read-sized j .text, j .inside _ _ (bad (c .before) size o j))
-
-refused-requires : tie.Need-refused-requires
-refused-requires c κs = search needs
-
-enum-known-p-2 : tie.Need-enum-known-p-2
-enum-known-p-2 c = search needs
-
-refused-requires-2 : tie.Need-refused-requires-2
-refused-requires-2 c κs = search needs
 
 returns : tie.Need-returns
 returns c size o j =
@@ -55,9 +43,6 @@ pack-requires c κs =
 returns-2 : tie.Need-returns-2
 returns-2 c size o j = rw (c .refused .ensures) (pack-refused _ _ _ _ _ (j .fine) _ _ (bad (c .before .before) size o j))
 
-same-length : tie.Need-same-length
-same-length c = search needs
-
 returns-3 : tie.Need-returns-3
 returns-3 c size o j =
     let f = c .before .before in
@@ -69,13 +54,13 @@ pub packed-spec : {M : Type 1} → statement M
 packed-spec =
     tie.close
     (tie.spec
-    enum-known-p
+    (λ c. search needs)
     cast-refused
-    refused-requires
-    enum-known-p-2
-    refused-requires-2
+    (λ c κs. search needs)
+    (λ c. search needs)
+    (λ c κs. search needs)
     returns
     pack-requires
     returns-2
-    same-length
+    (λ c. search needs)
     returns-3)

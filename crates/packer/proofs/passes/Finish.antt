@@ -11,11 +11,11 @@ use Rattle.layout.specs.declared.Refusal.the-variants.{NoRoom}
 use Rattle.layout.specs.Refusals.{Result, ok, refused, _>>=_}
 use Rattle.record.specs.declared.Cursor.{Cursor}
 use Rattle.record.specs.declared.slots.Slot.{Slot}
-use Rattle.record.specs.Packing.{finished, start, cursorOf, packAll, filled, packed, argumentsFit, accepted, refusal, packEffect}
+use Rattle.record.specs.Packing.{finished, start, packAll, filled, packed, argumentsFit, accepted, refusal, packEffect}
+use Rattle.record.specs.inside.Cursor.{cursorOf, origin}
 use Rattle.pack_check.specs.declared.measuring.Measured.the-variants.{Length, Refused}
-use Rattle.record.specs.Cursor.{origin}
-use Rattle.pack_check.specs.measuring.{checked, HasRoom, measuredOf}
-use Rattle.pack_store.specs.writing.{written}
+use Rattle.pack_check.specs.inside.measuring.{argumentsChecked, HasRoom, measuredOf}
+use Rattle.pack_store.specs.inside.writing.{written}
 use Rattle.pack_store.proofs.writing.RunLaws.{measured-as, written-as}
 
 measured-refused : (o : Result (Unit {0})) (c : Cursor) (why : Refusal) (k : ℕ) → Refused why k ≡ measuredOf (o >>= (λ _. ok c)) → o ≡ refused why k
@@ -27,17 +27,17 @@ measured-ok (ok u) c len e = let z : len ≡ c .end = cc in (refl, z)
 measured-ok (refused w p) c len e = let z : _≡_ {A = ℕ} 0 1 = cc in absurd (omega arith)
 
 module _ (area : List ℕ) (ts : List Slot) (fs : List Field) (output : List ℕ) where
-  measured : checked area 0 ts fs origin ≡ (argumentsFit area 0 ts fs >>= (λ _. ok (cursorOf (packAll start (filled area ts fs)))))
+  measured : argumentsChecked area 0 ts fs origin ≡ (argumentsFit area 0 ts fs >>= (λ _. ok (cursorOf (packAll start (filled area ts fs)))))
   measured = measured-as area fs 0 ts start (omega arith)
 
-  pub finish-refused : (why : Refusal) (k : ℕ) → Refused why k ≡ measuredOf (checked area 0 ts fs origin)
+  pub finish-refused : (why : Refusal) (k : ℕ) → Refused why k ≡ measuredOf (argumentsChecked area 0 ts fs origin)
       → record { answer = refusal why k; output = output } ≡ packEffect output (finished area ts fs output)
   unfolding finished
   finish-refused why k e =
       let a : argumentsFit area 0 ts fs ≡ refused why k = measured-refused (argumentsFit area 0 ts fs) (cursorOf (packAll start (filled area ts fs))) why k (e ∙ ap measuredOf measured) in
       rw a
 
-  module _ (len : ℕ) (e : Length len ≡ measuredOf (checked area 0 ts fs origin)) where
+  module _ (len : ℕ) (e : Length len ≡ measuredOf (argumentsChecked area 0 ts fs origin)) where
     passed : (argumentsFit area 0 ts fs ≡ ok tt) × (len ≡ length (packed (filled area ts fs)))
     unfolding packed
     passed = measured-ok (argumentsFit area 0 ts fs) (cursorOf (packAll start (filled area ts fs))) len (e ∙ ap measuredOf measured)
@@ -49,7 +49,7 @@ module _ (area : List ℕ) (ts : List Slot) (fs : List Field) (output : List ℕ
         rw (passed .0, lt-leb _ _ l)
 
     module _ (h : len ≤ length output) where
-      pub finish-room : HasRoom (checked area 0 ts fs origin) (length output)
+      pub finish-room : HasRoom (argumentsChecked area 0 ts fs origin) (length output)
       unfolding packed
       finish-room = rw (measured, passed .0) (omega (arith, passed .1))
 

@@ -10,8 +10,8 @@ use lib.Seq.{length-take-le, length-paste-head, take-append-le, take-length, get
 use Rattle.layout.specs.Layout.{maxLayout}
 use Rattle.record.specs.Bytes.{part, storeAt}
 use Rattle.record.proofs.Stores.{Put, put-none, put-more, put-done, store-none, store-store, length-storeAt, length-part}
-use Rattle.perl.specs.items.Writing.{repeated, flagText}
-use Rattle.perl.specs.items.Readers.{Stored}
+use Rattle.perl.specs.Writing.{repeated, flagText}
+use Rattle.perl.specs.inside.Readers.{Stored}
 use Rattle.perl.proofs.items.Texts.{length-repeated, repeated-last}
 
 pub stored-none : (d : List ℕ) (to : ℕ) → to ≤ suc maxLayout → Stored [] to d to d
@@ -60,7 +60,7 @@ module _ (d text : List ℕ) (to b : ℕ) (u : Bool) (start n size : ℕ) (sized
       let whole : d₂ ≡ storeAt d to item = e₂ ∙ (rw (e₁, sized) (store-store d to (b ∷ flagText u) (part text start n) (omega arith))) in
       record { place = omega (arith, item-length); long = ap length whole ∙ length-storeAt d to item (omega (arith, item-length)); bytes = λ k. whole }
 
--- ---- so many times
+-- ---- a text again and again
 
 -- byte k of what was put in
 put-at : (d₀ : List ℕ) (to : ℕ) (s d : List ℕ) (j k : ℕ) → Put d₀ to s d j → to ≤ length d₀ → j ≤ length s → k < j → getD d (to + k) 0 ≡ getD s k 0

@@ -11,17 +11,17 @@ use Rattle.perl.specs.declared.tokens.Letter.{Letter}
 use Rattle.perl.specs.declared.tokens.Letter.the-variants.{Taken, Unknown}
 use Rattle.perl.specs.declared.items.Span.{Span}
 use Rattle.perl.specs.declared.items.Span.the-variants.{Read, Stray}
-use Rattle.perl.specs.tokens.{maxTemplateCount, digitsIn}
-use Rattle.perl.specs.items.Template.{Item, single, Reading, read, stray, letterAt}
-use Rattle.perl.specs.items.Writing.{flagText}
-use Rattle.perl.specs.items.Readers.{itemText, Stored, spanFrom, Written}
+use Rattle.perl.specs.Tokens.{maxTemplateCount, digitsIn}
+use Rattle.perl.specs.Template.{Item, single, ReadTo, read, stray, letterAt}
+use Rattle.perl.specs.Writing.{flagText}
+use Rattle.perl.specs.inside.Readers.{itemText, Stored, spanFrom, Written}
 use Rattle.perl.proofs.tokens.Numbers.{digits-within}
 use Rattle.perl.proofs.items.Texts.{text-single}
 
 -- ---- what was read, by what the reader says
 
 module _ {A : Type 0} {text : A → List ℕ} {to : ℕ} {old : List ℕ} {r : Span} {new : List ℕ} where
-  pub was-read : (o : Reading A) → Written text o to old r new → (e end : ℕ) → r ≡ Read e end → (a : A) × (o ≡ read a e) × Stored (text a) to old end new
+  pub was-read : (o : ReadTo A) → Written text o to old r new → (e end : ℕ) → r ≡ Read e end → (a : A) × (o ≡ read a e) × Stored (text a) to old end new
   unfolding spanFrom
   was-read (read a e′) w e end q =
       let s : Read e end ≡ Read e′ (min (suc maxLayout) (to + length (text a))) = sym q ∙ w .says in
@@ -30,12 +30,12 @@ module _ {A : Type 0} {text : A → List ℕ} {to : ℕ} {old : List ℕ} {r : S
       (a, ap (read a) same, record { place = last; long = w .long; bytes = w .bytes a e′ refl })
   was-read (stray p) w e end q = let s : Read e end ≡ Stray p = sym q ∙ w .says in let z : _≡_ {A = ℕ} 0 1 = cc in absurd (omega arith)
 
-  pub was-stray : (o : Reading A) → Written text o to old r new → (p : ℕ) → r ≡ Stray p → o ≡ stray p
+  pub was-stray : (o : ReadTo A) → Written text o to old r new → (p : ℕ) → r ≡ Stray p → o ≡ stray p
   unfolding spanFrom
   was-stray (read a e) w p q = let s : Stray p ≡ Read e (min (suc maxLayout) (to + length (text a))) = sym q ∙ w .says in let z : _≡_ {A = ℕ} 0 1 = cc in absurd (omega arith)
   was-stray (stray p′) w p q = let s : Stray p ≡ Stray p′ = sym q ∙ w .says in let same : p′ ≡ p = cc in ap stray same
 
-module _ {A : Type 0} {text : A → List ℕ} {o : Reading A} {to : ℕ} {old new : List ℕ} where
+module _ {A : Type 0} {text : A → List ℕ} {o : ReadTo A} {to : ℕ} {old new : List ℕ} where
   pub writes : {a : A} {e end : ℕ} → o ≡ read a e → Stored (text a) to old end new → Written text o to old (Read e end) new
   unfolding spanFrom
   writes {a} {e} {end} q s =

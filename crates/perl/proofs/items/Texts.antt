@@ -5,9 +5,9 @@ use native.Mathlib.Omega.{arith}
 use mathlib.Core.Path.{_≡_, refl, sym, ap, _∙_}
 use mathlib.Core.List.{List, [], _∷_, _++_, append-assoc, append-nil}
 use lib.ListN.{length, length-append}
-use Rattle.perl.specs.items.Template.{Single, Template, Item, done, next, single, group}
-use Rattle.perl.specs.items.Writing.{repeated, writtenOut, writtenOutItem, singleText, textOf}
-use Rattle.perl.specs.items.Readers.{templateText, itemText}
+use Rattle.perl.specs.Template.{Single, Template, Item, done, next, single, group}
+use Rattle.perl.specs.Writing.{repeated, writtenOut, writtenOutItem, singleText, textOf}
+use Rattle.perl.specs.inside.Readers.{templateText, itemText}
 
 text-append : (xs ys : List Single) → textOf (xs ++ ys) ≡ textOf xs ++ textOf ys
 unfolding textOf

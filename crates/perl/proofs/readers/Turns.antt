@@ -7,12 +7,12 @@ use mathlib.Core.Bool.{Bool, true, false}
 use mathlib.Core.List.{List, [], _++_, append-nil, append-assoc}
 use lib.ListN.{length, getD, drop}
 use Rattle.layout.specs.Layout.{maxLayout}
-use Rattle.perl.specs.tokens.{maxRepeat, maxDepth, letterOf, numberIn, digitsIn, repeatOf}
+use Rattle.perl.specs.Tokens.{maxRepeat, maxDepth, letterOf, numberIn, digitsIn, repeatOf}
 use Rattle.perl.specs.declared.items.Span.{Span}
 use Rattle.perl.specs.declared.items.Span.the-variants.{Read, Stray}
-use Rattle.perl.specs.items.Template.{Template, Item, done, next, group, Reading, read, stray, letterAt, groupAt, andThen}
-use Rattle.perl.specs.items.Writing.{repeated}
-use Rattle.perl.specs.items.Readers.{itemsFrom, itemFrom, templateText, itemText, Stored, Again, Written}
+use Rattle.perl.specs.Template.{Template, Item, done, next, group, ReadTo, read, stray, letterAt, groupAt, andThen}
+use Rattle.perl.specs.Writing.{repeated}
+use Rattle.perl.specs.inside.Readers.{itemsFrom, itemFrom, templateText, itemText, Stored, Again, Written}
 use Rattle.perl.proofs.items.Texts.{text-done, text-next, text-group}
 use Rattle.perl.proofs.items.Blocks.{stored-none, stored-append}
 use Rattle.perl.proofs.items.Letters.{was-read, was-stray, writes, strays}
@@ -31,7 +31,7 @@ too-deep depth text p to d e h = strays (item-deep depth text p e h) refl
 
 module _ (depth : ℕ) (text : List ℕ) (p : ℕ) (opening : getD text p 0 ≡ 40) (shallow : depth < maxDepth) (inside : p < length text) (to : ℕ) (old : List ℕ) (r : Span) (new : List ℕ)
     (gave : Written templateText (itemsFrom (depth + 1) false text (p + 1)) to old r new) where
-  abbrev inner : Reading Template
+  abbrev inner : ReadTo Template
   inner = itemsFrom (suc depth) false text (suc p)
 
   wrote : Written templateText inner to old r new
@@ -63,15 +63,15 @@ module _ (depth : ℕ) (text : List ℕ) (p : ℕ) (opening : getD text p 0 ≡ 
 -- ---- the loop over the items
 
 -- the whole reading, where the text `so-far` was read before the rest
-abbrev Rest : Reading Template → List ℕ → Reading Template → Type 0
+abbrev Rest : ReadTo Template → List ℕ → ReadTo Template → Type 0
 Rest whole so-far (read t e) = (u : Template) × (whole ≡ read u e) × (templateText u ≡ so-far ++ templateText t)
 Rest whole so-far (stray p) = whole ≡ stray p
 
-rest-none : (r : Reading Template) → Rest r [] r
+rest-none : (r : ReadTo Template) → Rest r [] r
 rest-none (read t e) = (t, refl, refl)
 rest-none (stray p) = refl
 
-rest-item : (whole : Reading Template) (so-far : List ℕ) (i : Item) (r : Reading Template) → Rest whole so-far (andThen i r) → Rest whole (so-far ++ itemText i) r
+rest-item : (whole : ReadTo Template) (so-far : List ℕ) (i : Item) (r : ReadTo Template) → Rest whole so-far (andThen i r) → Rest whole (so-far ++ itemText i) r
 rest-item whole so-far i (read t e) (u, q, s) = (u, q, s ∙ ap (λ (x : List ℕ). so-far ++ x) (text-next i t) ∙ sym (append-assoc so-far (itemText i) (templateText t)))
 rest-item whole so-far i (stray p) h = h
 

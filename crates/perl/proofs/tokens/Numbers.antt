@@ -11,7 +11,7 @@ use lib.Seq.{drop-cons}
 use Rattle.layout.specs.Refusals.{if_then_else_}
 use Rattle.layout.specs.Layout.{isDecimal}
 use Rattle.layout.proofs.Steps.{is-decimal}
-use Rattle.perl.specs.tokens.{maxRepeat, withDigit, continues, numberIn, digitsIn, repeatOf}
+use Rattle.perl.specs.Tokens.{maxRepeat, withDigit, continues, numberIn, digitsIn, repeatOf}
 
 -- ---- whether a digit continues a number
 

@@ -1,4 +1,4 @@
--- Turn i stores word i: the loop keeps `Put`, with the first n words as its run.
+-- Turn i stores code i: the loop keeps `Put`, with the first n codes as its run.
 use Prim.Native.Nat.{_-_, _≤_}
 use native.Mathlib.Nat.{zero-add}
 use native.Mathlib.Omega.{arith}
@@ -12,38 +12,20 @@ use Rattle.plans.proofs.copy.Statement.{statement}
 use Rattle.plans.proofs.copy.Tie as tie
 
 abbrev Inv-loop : tie.InvT-loop
-Inv-loop run₀ words n i₀ run i = (i ≤ n) × Put run₀ 0 (take n words) run i
+Inv-loop run₀ codes n i₀ run i = (i ≤ n) × Put run₀ 0 (take n codes) run i
 
 abbrev μ-loop : tie.MeasureT-loop
-μ-loop run₀ words n i₀ run i = n - i
+μ-loop run₀ codes n i₀ run i = n - i
 
 loop-holds : tie.Need-loop-holds Inv-loop μ-loop
 loop-holds c = (omega arith, put-none)
-
-mul-run : tie.Need-mul-run Inv-loop μ-loop
-mul-run c = search needs
-
-shared-slice-read-run : tie.Need-shared-slice-read-run Inv-loop μ-loop
-shared-slice-read-run c = omega arith
-
-mul-run-2 : tie.Need-mul-run-2 Inv-loop μ-loop
-mul-run-2 c = search needs
-
-slice-write-run : tie.Need-slice-write-run Inv-loop μ-loop
-slice-write-run c = omega arith
-
-add-i : tie.Need-add-i Inv-loop μ-loop
-add-i c = omega arith
-
-loop-less : tie.Need-loop-less Inv-loop μ-loop
-loop-less c = omega arith
 
 loop-again : tie.Need-loop-again Inv-loop μ-loop
 loop-again c =
     let a = c .before .before .before .args in
     let loop = c .before .before .loop in
-    let long = length-take-le (a .n) (a .words .now) (c .before .before .before .pre .1) in
-    (omega arith, rw zero-add at (put-more (loop .inv .1) (omega arith) (omega arith) (sym (getD-take (a .n) (a .words .now) (loop .i) 0 (c .before .loop-test .taken)))))
+    let long = length-take-le (a .n) (a .codes .now) (c .before .before .before .pre .1) in
+    (omega arith, rw zero-add at (put-more (loop .inv .1) (omega arith) (omega arith) (sym (getD-take (a .n) (a .codes .now) (loop .i) 0 (c .before .loop-test .taken)))))
 
 same-length : tie.Need-same-length Inv-loop μ-loop
 same-length c = c .before .loop .inv .1 .long
@@ -51,8 +33,8 @@ same-length c = c .before .loop .inv .1 .long
 returns : tie.Need-returns Inv-loop μ-loop
 returns c =
     let a = c .before .before .args in
-    let long = length-take-le (a .n) (a .words .now) (c .before .before .pre .1) in
-    stored-front (a .run .now) (take (a .n) (a .words .now)) (a .n) long (put-done (c .before .loop .inv .1) (omega (arith, long)))
+    let long = length-take-le (a .n) (a .codes .now) (c .before .before .pre .1) in
+    stored-front (a .run .now) (take (a .n) (a .codes .now)) (a .n) long (put-done (c .before .loop .inv .1) (omega (arith, long)))
 
 pub copy-spec : {M : Type 1} → statement M
 copy-spec =
@@ -61,12 +43,12 @@ copy-spec =
     Inv-loop
     μ-loop
     loop-holds
-    mul-run
-    shared-slice-read-run
-    mul-run-2
-    slice-write-run
-    add-i
-    loop-less
+    (λ c. search needs)
+    (λ c. omega arith)
+    (λ c. search needs)
+    (λ c. omega arith)
+    (λ c. omega arith)
+    (λ c. omega arith)
     loop-again
     same-length
     returns)

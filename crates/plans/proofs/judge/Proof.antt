@@ -4,9 +4,9 @@ use native.Mathlib.Omega.{arith}
 use mathlib.Core.Path.{_∙_, subst}
 use lib.ListN.{length}
 use borrow.Author.Needs.{needs}
-use Rattle.layout.proofs.Decoded.{word-slots}
-use Rattle.plans.specs.Plans.{Judges}
-use Rattle.plans.proofs.Fields.{good-word}
+use Rattle.layout.proofs.Decoded.{code-slots}
+use Rattle.plans.specs.inside.Judging.{Judges}
+use Rattle.plans.proofs.Fields.{good-code}
 use Rattle.plans.proofs.Judging.{Judging, judging-none, judging-more, judging-bad, judging-done}
 use Rattle.plans.proofs.judge.Statement.{statement}
 use Rattle.plans.proofs.judge.Tie as tie
@@ -20,18 +20,6 @@ abbrev μ-loop : tie.MeasureT-loop
 loop-holds : tie.Need-loop-holds Inv-loop μ-loop
 loop-holds c = judging-none _ _
 
-mul-w : tie.Need-mul-w Inv-loop μ-loop
-mul-w c = search needs
-
-shared-slice-read-w : tie.Need-shared-slice-read-w Inv-loop μ-loop
-shared-slice-read-w c = search needs
-
-judge-one-requires : tie.Need-judge-one-requires Inv-loop μ-loop
-judge-one-requires c κs = search needs
-
-enum-known-v : tie.Need-enum-known-v Inv-loop μ-loop
-enum-known-v c = search needs
-
 returns : tie.Need-returns Inv-loop μ-loop
 returns c =
     let called = c .before .before .before in
@@ -39,18 +27,12 @@ returns c =
     judging-bad _ _ _ _ (turn .before .loop .inv) _ (turn .loop-test .taken) (turn .before .before .before .pre)
     (subst (Judges _ _) (c .before .v .given .1) (called .judge-one .ensures) _)
 
-enum-told : tie.Need-enum-told Inv-loop μ-loop
-enum-told c = search needs
-
-slots-in-requires : tie.Need-slots-in-requires Inv-loop μ-loop
-slots-in-requires c κs = search needs
-
 loop-again : tie.Need-loop-again Inv-loop μ-loop
 loop-again c =
     let called = c .before .before .before in
     let turn = called .before .before in
     let good = subst (Judges _ _) (c .before .enum-told .given .1) (called .judge-one .ensures) _ in
-    judging-more _ _ _ _ (turn .before .loop .inv) _ (turn .loop-test .taken) good (c .slots-in .ensures ∙ word-slots _) (good-word _ _ _ good)
+    judging-more _ _ _ _ (turn .before .loop .inv) _ (turn .loop-test .taken) good (c .slots-in .ensures ∙ code-slots _) (good-code _ _ _ good)
 
 add-taken : tie.Need-add-taken Inv-loop μ-loop
 add-taken c = omega (arith, loop-again c .less, loop-again c .within, c .before .before .before .before .before .before .before .before .pre)
@@ -71,13 +53,13 @@ judge-spec =
     Inv-loop
     μ-loop
     loop-holds
-    mul-w
-    shared-slice-read-w
-    judge-one-requires
-    enum-known-v
+    (λ c. search needs)
+    (λ c. search needs)
+    (λ c κs. search needs)
+    (λ c. search needs)
     returns
-    enum-told
-    slots-in-requires
+    (λ c. search needs)
+    (λ c κs. search needs)
     add-taken
     add-i
     loop-less

@@ -4,7 +4,7 @@ use mathlib.Core.Path.{_≡_, sym, _∙_}
 use mathlib.Core.Bool.{true}
 use borrow.Author.Tests.{not-true, not-false}
 use borrow.Author.Needs.{needs}
-use Rattle.layout.specs.Words.{flagUnit}
+use Rattle.layout.specs.Codes.{flagUnit}
 use Rattle.layout.proofs.Numbered.{meaning-data}
 use Rattle.plans.specs.Plans.{isType}
 use Rattle.plans.proofs.Fields.{type-data, type-spare, type-gap, type-past, type-move, judged-type, judged-over, judged-misused, judged-good}
@@ -33,9 +33,6 @@ returns-5 c = judged-type _ _ (type-past _ (c .before .before .if1 .left) (c .if
 returns-6 : tie.Need-returns-6
 returns-6 c = judged-over _ _ (moves (c .before)) (c .if6 .taken)
 
-has-meaning-requires : tie.Need-has-meaning-requires
-has-meaning-requires c κs = search needs
-
 returns-7 : tie.Need-returns-7
 returns-7 c = judged-misused _ _ (moves (c .before .before .before)) (c .before .before .if6 .left) (sym (c .before .has-meaning .ensures) ∙ not-true _ (c .if7 .taken))
 
@@ -52,6 +49,6 @@ judge-one-spec =
     returns-4
     returns-5
     returns-6
-    has-meaning-requires
+    (λ c κs. search needs)
     returns-7
     returns-8)

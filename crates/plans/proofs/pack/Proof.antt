@@ -1,4 +1,4 @@
--- A plan that is served has room in the words; the rest is as in `packer::pack`.
+-- A plan that is served has room in the codes; the rest is as in `packer::pack`.
 use mathlib.Core.Path.{_≡_, sym, _∙_}
 use mathlib.Core.Bool.{true}
 use borrow.Author.Tests.{not-true, not-false}
@@ -9,12 +9,6 @@ use Rattle.plans.proofs.Calls.{plan-sizes, plan-read, plan-packed}
 use borrow.Author.Needs.{needs}
 use Rattle.plans.proofs.pack.Statement.{statement}
 use Rattle.plans.proofs.pack.Tie as tie
-
-lengths-fit-requires : tie.Need-lengths-fit-requires
-lengths-fit-requires c κs = search needs
-
-refused-requires : tie.Need-refused-requires
-refused-requires c κs = search needs
 
 fine : (c : tie.Else1) → lengthsFit (length (c .before .before .before .before .before .before .args .plan .now)) (length (c .before .before .before .before .before .before .args .slots .now)) (length (c .before .before .before .before .before .before .args .output .now)) (length (c .before .before .before .before .before .before .args .area .now)) ≡ true
 fine c = sym (c .before .lengths-fit .ensures) ∙ not-false _ (c .if1 .left)
@@ -33,9 +27,6 @@ packed-requires c κs =
     let p = c .before in
     (_, _, plan-read _ _ _ _ (fine (p .before)) (p .judge .ensures))
 
-same-length : tie.Need-same-length
-same-length c = search needs
-
 returns-2 : tie.Need-returns-2
 returns-2 c =
     let r = c .before .before in
@@ -44,4 +35,4 @@ returns-2 c =
 
 pub pack-spec : {M : Type 1} → statement M
 pack-spec =
-    tie.close (tie.spec lengths-fit-requires refused-requires returns judge-requires packed-requires same-length returns-2)
+    tie.close (tie.spec (λ c κs. search needs) (λ c κs. search needs) returns judge-requires packed-requires (λ c. search needs) returns-2)

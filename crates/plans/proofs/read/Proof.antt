@@ -7,19 +7,13 @@ use borrow.Author.Tests.{not-true, not-false}
 use Rattle.layout.proofs.Decoded.{parsed-fields, parsed-refused}
 use Rattle.reader.proofs.checking.Calls.{Fit, fit, sizes-refuse-fields, fields-refuse}
 use Rattle.reader.proofs.passes.Whole.{ready}
-use Rattle.plans.proofs.Calls.{plan-inside, plan-refused, plan-words}
+use Rattle.plans.proofs.Calls.{plan-inside, plan-refused, plan-codes}
 use borrow.Author.Needs.{needs}
 use Rattle.plans.proofs.read.Statement.{statement}
 use Rattle.plans.proofs.read.Tie as tie
 
 sized : (c : tie.Else1) → Fit (length (c .before .before .before .before .before .before .args .plan .now)) (length (c .before .before .before .before .before .before .args .slots .now)) (length (c .before .before .before .before .before .before .args .bytes .now)) (length (c .before .before .before .before .before .before .args .area .now)) (c .before .before .before .before .before .before .args .mark)
 sized c = fit (sym (c .before .sizes-fit .ensures) ∙ not-false _ (c .if1 .left))
-
-sizes-fit-requires : tie.Need-sizes-fit-requires
-sizes-fit-requires c κs = search needs
-
-refused-requires : tie.Need-refused-requires
-refused-requires c κs = search needs
 
 returns : tie.Need-returns
 returns c =
@@ -28,19 +22,10 @@ returns c =
 judge-requires : tie.Need-judge-requires
 judge-requires c κs = sized c .text
 
-enum-known-p : tie.Need-enum-known-p
-enum-known-p c = search needs
-
 cast-refused : tie.Need-cast-refused
 cast-refused c =
     let judged = c .before .before .before in
     omega (arith, sized (judged .before) .text, plan-inside false _ _ _ (parsed-refused _ _ _ _ _ (judged .judge .ensures) (c .before .p .given .1)))
-
-refused-requires-2 : tie.Need-refused-requires-2
-refused-requires-2 c κs = search needs
-
-enum-known-p-2 : tie.Need-enum-known-p-2
-enum-known-p-2 c = search needs
 
 read-requires : tie.Need-read-requires
 read-requires c κs =
@@ -52,32 +37,26 @@ returns-2 c =
     let judged = c .before .before .before .before in
     plan-refused _ _ _ _ _ (fields-refuse _ _ _ _ _ _ (sized (judged .before)) (parsed-refused _ _ _ _ _ (judged .judge .ensures) (c .before .before .p .given .1))) (c .refused2 .ensures)
 
-same-length : tie.Need-same-length
-same-length c = search needs
-
-same-length-2 : tie.Need-same-length-2
-same-length-2 c = search needs
-
 returns-3 : tie.Need-returns-3
 returns-3 c =
     let read = c .before .before .before .before in
     let judged = read .before .before .before .before .before .before in
-    plan-words _ _ _ _ _ (sized (judged .before)) (parsed-fields _ _ _ _ _ (judged .judge .ensures) (read .before .before .before .before .p2 .given .1)) (read .read .ensures)
+    plan-codes _ _ _ _ _ (sized (judged .before)) (parsed-fields _ _ _ _ _ (judged .judge .ensures) (read .before .before .before .before .p2 .given .1)) (read .read .ensures)
 
 pub read-spec : {M : Type 1} → statement M
 read-spec =
     tie.close
     (tie.spec
-    sizes-fit-requires
-    refused-requires
+    (λ c κs. search needs)
+    (λ c κs. search needs)
     returns
     judge-requires
-    enum-known-p
+    (λ c. search needs)
     cast-refused
-    refused-requires-2
-    enum-known-p-2
+    (λ c κs. search needs)
+    (λ c. search needs)
     read-requires
     returns-2
-    same-length
-    same-length-2
+    (λ c. search needs)
+    (λ c. search needs)
     returns-3)

@@ -2,7 +2,7 @@
 use mathlib.Core.Path.{_∙_}
 use native.Mathlib.Omega.{arith}
 use Rattle.layout.specs.declared.Parsed.the-variants.{Fields, Refused}
-use Rattle.promises.specs.Walk.{ReadAs}
+use Rattle.promises.specs.inside.Walk.{ReadAs}
 use Rattle.promises.proofs.Calls.{extends-refused, extends-by}
 use borrow.Author.Needs.{needs}
 use Rattle.promises.proofs.extends.Statement.{statement}
@@ -22,47 +22,29 @@ good : (c : tie.After-known-told2)
     (c .before .before .before .before .read-layout .last .1 .0)
 good c = rw (c .before .p2 .given .1) at (c .before .before .before .before .read-layout .ensures)
 
-slice-aggregate-read-layout : tie.Need-slice-aggregate-read-layout
-slice-aggregate-read-layout c = search needs
-
-read-layout-requires : tie.Need-read-layout-requires
-read-layout-requires c κs = search needs
-
-enum-known-p : tie.Need-enum-known-p
-enum-known-p c = search needs
-
 cast-refused : tie.Need-cast-refused
 cast-refused c = omega (arith, bad c .1)
 
-refused-requires : tie.Need-refused-requires
-refused-requires c κs = search needs
-
-enum-known-p-2 : tie.Need-enum-known-p-2
-enum-known-p-2 c = search needs
-
-slice-aggregate-extends-words : tie.Need-slice-aggregate-extends-words
-slice-aggregate-extends-words c = search needs
-
-extends-words-requires : tie.Need-extends-words-requires
-extends-words-requires c κs = (good (c .before) .few, good (c .before) .room)
+extends-codes-requires : tie.Need-extends-codes-requires
+extends-codes-requires c κs = (good (c .before) .few, good (c .before) .room)
 
 returns : tie.Need-returns
 returns c = rw (c .refused .ensures) (extends-refused _ _ _ _ (bad (c .before) .0))
 
 returns-2 : tie.Need-returns-2
-returns-2 c = c .extends-words .ensures ∙ extends-by _ _ _ _ (good (c .before .before))
+returns-2 c = c .extends-codes .ensures ∙ extends-by _ _ _ _ (good (c .before .before))
 
 pub extends-spec : {M : Type 1} → statement M
 extends-spec =
     tie.close
     (tie.spec
-    slice-aggregate-read-layout
-    read-layout-requires
-    enum-known-p
+    (λ c. search needs)
+    (λ c κs. search needs)
+    (λ c. search needs)
     cast-refused
-    refused-requires
-    enum-known-p-2
-    slice-aggregate-extends-words
-    extends-words-requires
+    (λ c κs. search needs)
+    (λ c. search needs)
+    (λ c. search needs)
+    extends-codes-requires
     returns
     returns-2)

@@ -4,18 +4,6 @@ use borrow.Author.Needs.{needs}
 use Rattle.promises.proofs.fills_motion.Statement.{statement}
 use Rattle.promises.proofs.fills_motion.Tie as tie
 
-enum-told : tie.Need-enum-told
-enum-told c = search needs
-
-amount-requires : tie.Need-amount-requires
-amount-requires c κs = search needs
-
-enum-told-2 : tie.Need-enum-told-2
-enum-told-2 c = search needs
-
-enum-told-3 : tie.Need-enum-told-3
-enum-told-3 c = search needs
-
 returns : tie.Need-returns
 unfolding fills
 returns c = rw (c .before .enum-told .given .1) (c .amount .ensures)
@@ -31,4 +19,4 @@ returns-3 c = rw (c .enum-told3 .given .1)
 pub fills-motion-spec : {M : Type 1} → statement M
 fills-motion-spec =
     tie.close
-    (tie.spec enum-told amount-requires enum-told-2 enum-told-3 returns returns-2 returns-3)
+    (tie.spec (λ c. search needs) (λ c κs. search needs) (λ c. search needs) (λ c. search needs) returns returns-2 returns-3)

@@ -1,5 +1,5 @@
--- What the loop keeps is `Kept`: the fields before i keep the promise and have come so far, and so many more keep it as
--- those from i on say.
+-- What the loop keeps is `Kept`: the first i fields keep the promise and have come as far as r, and the number looked
+-- for is i and what the fields from i on give.
 use Prim.Native.Nat.{_-_}
 use native.Mathlib.Omega.{arith}
 use borrow.Author.Tests.{not-true, not-false}
@@ -9,13 +9,10 @@ use Rattle.promises.proofs.kept_front.Statement.{statement}
 use Rattle.promises.proofs.kept_front.Tie as tie
 
 abbrev Inv-loop : tie.InvT-loop
-Inv-loop words n q r₀ i₀ r i = Kept q n words i r
+Inv-loop codes n q r₀ i₀ r i = Kept q n codes i r
 
 abbrev μ-loop : tie.MeasureT-loop
-μ-loop words n q r₀ i₀ r i = n - i
-
-nothing-requires : tie.Need-nothing-requires Inv-loop μ-loop
-nothing-requires c κs = search needs
+μ-loop codes n q r₀ i₀ r i = n - i
 
 loop-holds : tie.Need-loop-holds Inv-loop μ-loop
 loop-holds c = rw (c .nothing .ensures) (kept-none _ _ _)
@@ -26,19 +23,13 @@ mul-field-of c = omega (arith, c .before .before .before .before .pre)
 shared-slice-read-field-of : tie.Need-shared-slice-read-field-of Inv-loop μ-loop
 shared-slice-read-field-of c = omega (arith, c .before .before .before .before .before .pre)
 
-field-of-requires : tie.Need-field-of-requires Inv-loop μ-loop
-field-of-requires c κs = search needs
-
 with-requires : tie.Need-with-requires Inv-loop μ-loop
 with-requires c κs =
     let l = c .before .before .before in
     let pre = l .before .before .before .pre in
     let inv = l .loop .inv in
     let field = c .field-of .ensures in
-    (field .code, field .count, omega (arith, inv .few, inv .within, pre), omega (arith, inv .near, inv .within, pre))
-
-kept-by-requires : tie.Need-kept-by-requires Inv-loop μ-loop
-kept-by-requires c κs = search needs
+    (field .role, field .count, omega (arith, inv .few, inv .within, pre), omega (arith, inv .near, inv .within, pre))
 
 returns : tie.Need-returns Inv-loop μ-loop
 returns c =
@@ -48,12 +39,6 @@ returns c =
     kept-stop _ _ _ (test .before .before .before .before .pre .0) _ _ (test .before .loop .inv)
     (test .loop-test .taken) _ (field .field-of .ensures) _ (with .with .ensures) _
     (c .before .kept-by .ensures) (not-true _ (c .if1 .taken))
-
-add-i : tie.Need-add-i Inv-loop μ-loop
-add-i c = search needs
-
-loop-less : tie.Need-loop-less Inv-loop μ-loop
-loop-less c = omega arith
 
 loop-again : tie.Need-loop-again Inv-loop μ-loop
 loop-again c =
@@ -74,15 +59,15 @@ kept-front-spec =
     (tie.spec
     Inv-loop
     μ-loop
-    nothing-requires
+    (λ c κs. search needs)
     loop-holds
     mul-field-of
     shared-slice-read-field-of
-    field-of-requires
+    (λ c κs. search needs)
     with-requires
-    kept-by-requires
+    (λ c κs. search needs)
     returns
-    add-i
-    loop-less
+    (λ c. search needs)
+    (λ c. omega arith)
     loop-again
     returns-2)

@@ -1,7 +1,7 @@
 -- A layout that is refused is refused so here; of one that is read the three places are told.
 use native.Mathlib.Omega.{arith}
 use Rattle.layout.specs.declared.Parsed.the-variants.{Fields, Refused}
-use Rattle.promises.specs.Walk.{ReadAs}
+use Rattle.promises.specs.inside.Walk.{ReadAs}
 use Rattle.promises.proofs.Calls.{promises-refused, promises-told}
 use borrow.Author.Needs.{needs}
 use Rattle.promises.proofs.promises.Statement.{statement}
@@ -21,44 +21,17 @@ good : (c : tie.After-known-told2)
     (c .before .before .before .before .read-layout .last .1 .0)
 good c = rw (c .before .p2 .given .1) at (c .before .before .before .before .read-layout .ensures)
 
-slice-aggregate-read-layout : tie.Need-slice-aggregate-read-layout
-slice-aggregate-read-layout c = search needs
-
-read-layout-requires : tie.Need-read-layout-requires
-read-layout-requires c κs = search needs
-
-enum-known-p : tie.Need-enum-known-p
-enum-known-p c = search needs
-
 cast-refused : tie.Need-cast-refused
 cast-refused c = omega (arith, bad c .1)
-
-refused-requires : tie.Need-refused-requires
-refused-requires c κs = search needs
-
-enum-known-p-2 : tie.Need-enum-known-p-2
-enum-known-p-2 c = search needs
-
-slice-aggregate-first-break : tie.Need-slice-aggregate-first-break
-slice-aggregate-first-break c = search needs
 
 first-break-requires : tie.Need-first-break-requires
 first-break-requires c κs = good (c .before)
 
-slice-aggregate-first-break-2 : tie.Need-slice-aggregate-first-break-2
-slice-aggregate-first-break-2 c = search needs
-
 first-break-requires-2 : tie.Need-first-break-requires-2
 first-break-requires-2 c κs = good (c .before .before .before)
 
-slice-aggregate-first-break-3 : tie.Need-slice-aggregate-first-break-3
-slice-aggregate-first-break-3 c = search needs
-
 first-break-requires-3 : tie.Need-first-break-requires-3
 first-break-requires-3 c κs = good (c .before .before .before .before .before)
-
-accepted-requires : tie.Need-accepted-requires
-accepted-requires c κs = search needs
 
 returns : tie.Need-returns
 returns c = rw (c .refused .ensures) (promises-refused _ _ _ (bad (c .before) .0))
@@ -75,18 +48,18 @@ pub promises-spec : {M : Type 1} → statement M
 promises-spec =
     tie.close
     (tie.spec
-    slice-aggregate-read-layout
-    read-layout-requires
-    enum-known-p
+    (λ c. search needs)
+    (λ c κs. search needs)
+    (λ c. search needs)
     cast-refused
-    refused-requires
-    enum-known-p-2
-    slice-aggregate-first-break
+    (λ c κs. search needs)
+    (λ c. search needs)
+    (λ c. search needs)
     first-break-requires
-    slice-aggregate-first-break-2
+    (λ c. search needs)
     first-break-requires-2
-    slice-aggregate-first-break-3
+    (λ c. search needs)
     first-break-requires-3
-    accepted-requires
+    (λ c κs. search needs)
     returns
     returns-2)

@@ -7,14 +7,8 @@ use Rattle.promises.proofs.read_layout.Tie as tie
 returns : tie.Need-returns
 returns c = read-long _ (c .if1 .taken)
 
-parse-requires : tie.Need-parse-requires
-parse-requires c κs = search needs
-
-same-length : tie.Need-same-length
-same-length c = search needs
-
 returns-2 : tie.Need-returns-2
 returns-2 c = read-short _ _ _ (c .before .before .before .before .if1 .left) (c .before .before .parse .ensures)
 
 pub read-layout-spec : {M : Type 1} → statement M
-read-layout-spec = tie.close (tie.spec returns parse-requires same-length returns-2)
+read-layout-spec = tie.close (tie.spec returns (λ c κs. search needs) (λ c. search needs) returns-2)

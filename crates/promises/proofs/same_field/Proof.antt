@@ -5,12 +5,6 @@ use borrow.Author.Needs.{needs}
 use Rattle.promises.proofs.same_field.Statement.{statement}
 use Rattle.promises.proofs.same_field.Tie as tie
 
-type-in-requires : tie.Need-type-in-requires
-type-in-requires c κs = search needs
-
-type-in-requires-2 : tie.Need-type-in-requires-2
-type-in-requires-2 c κs = search needs
-
 returns : tie.Need-returns
 returns c = types-differ _ _ (λ e. c .if1 .taken (c .before .before .type-in .ensures ∙ e ∙ sym (c .before .type-in2 .ensures)))
 
@@ -18,4 +12,4 @@ returns-2 : tie.Need-returns-2
 returns-2 c = types-same _ _ (sym (c .before .before .type-in .ensures) ∙ c .if1 .left ∙ c .before .type-in2 .ensures)
 
 pub same-field-spec : {M : Type 1} → statement M
-same-field-spec = tie.close (tie.spec type-in-requires type-in-requires-2 returns returns-2)
+same-field-spec = tie.close (tie.spec (λ c κs. search needs) (λ c κs. search needs) returns returns-2)

@@ -1,4 +1,5 @@
--- What the loop keeps is `Alike`: the fields before i are the same, and so many more as those from i on say.
+-- What the loop keeps is `Alike`: the first i fields are the same, and the number looked for is i and what the fields
+-- from i on give.
 use Prim.Native.Nat.{_-_}
 use mathlib.Core.Path.{sym, _∙_}
 use native.Mathlib.Omega.{arith}
@@ -13,9 +14,6 @@ Inv-loop old m new n e i₀ i = Alike m old n new i
 
 abbrev μ-loop : tie.MeasureT-loop
 μ-loop old m new n e i₀ i = e - i
-
-least-requires : tie.Need-least-requires Inv-loop μ-loop
-least-requires c κs = search needs
 
 loop-holds : tie.Need-loop-holds Inv-loop μ-loop
 loop-holds c = alike-none _ _ _ _
@@ -32,9 +30,6 @@ mul-same-field-2 c = omega (arith, c .before .before .before .least .ensures, c 
 shared-slice-read-same-field-2 : tie.Need-shared-slice-read-same-field-2 Inv-loop μ-loop
 shared-slice-read-same-field-2 c = omega (arith, c .before .before .before .before .least .ensures, c .before .before .before .before .before .before .before .pre)
 
-same-field-requires : tie.Need-same-field-requires Inv-loop μ-loop
-same-field-requires c κs = search needs
-
 returns : tie.Need-returns Inv-loop μ-loop
 returns c =
     let test = c .before .before .before .before in
@@ -42,12 +37,6 @@ returns c =
     let start = least .before .before .before in
     alike-stop _ _ (start .pre .0) _ _ (start .pre .1) _ (test .before .loop .inv) (omega (arith, least .least .ensures, test .loop-test .taken))
     (sym (c .before .same-field .ensures) ∙ not-true _ (c .if1 .taken))
-
-add-i : tie.Need-add-i Inv-loop μ-loop
-add-i c = search needs
-
-loop-less : tie.Need-loop-less Inv-loop μ-loop
-loop-less c = omega arith
 
 loop-again : tie.Need-loop-again Inv-loop μ-loop
 loop-again c =
@@ -69,15 +58,15 @@ same-front-spec =
     (tie.spec
     Inv-loop
     μ-loop
-    least-requires
+    (λ c κs. search needs)
     loop-holds
     mul-same-field
     shared-slice-read-same-field
     mul-same-field-2
     shared-slice-read-same-field-2
-    same-field-requires
+    (λ c κs. search needs)
     returns
-    add-i
-    loop-less
+    (λ c. search needs)
+    (λ c. omega arith)
     loop-again
     returns-2)

@@ -1,5 +1,5 @@
 -- Each way out is the law of a range of numbers.
-use Rattle.layout.specs.Words.{fieldOf}
+use Rattle.layout.specs.Codes.{fieldOf}
 use Rattle.promises.proofs.Same.{type-low, type-skip, type-goto, type-rest}
 use Rattle.promises.proofs.type_in.Statement.{statement}
 use Rattle.promises.proofs.type_in.Tie as tie

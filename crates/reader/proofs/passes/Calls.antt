@@ -1,4 +1,4 @@
--- What each way out of a reading by the fields of the words leaves.
+-- What each way out of a reading by the fields of the codes leaves.
 use Prim.Native.Nat.{ℕ, _-_, _*_, _/_, _≤_, _<_}
 use native.Mathlib.Nat.{le-trans}
 use native.Mathlib.Omega.{arith}
@@ -8,21 +8,21 @@ use mathlib.Core.List.{List}
 use borrow.Author.Tests.{leb-true, le-leb, lt-leb, eq-eqb, ne-eqb, le-ltb}
 use lib.Dec.{leb}
 use lib.ListN.{length}
-use Rattle.layout.specs.Words.{decoded}
+use Rattle.layout.specs.inside.Parsing.{decoded}
 use Rattle.record.specs.declared.Answer.{Answer}
 use Rattle.record.proofs.Bytes.{and-true}
 use Rattle.record.specs.Table.{slotWidth, valueBytes}
 use Rattle.record.specs.Reading.{ReadAll}
 use Rattle.record.proofs.Readings.{values-few}
-use Rattle.reading.specs.measure.Run.{valuesOf}
-use Rattle.reading.specs.Tables.{putAll, TableRoom}
-use Rattle.reading.specs.measure.Bounds.{valueBound}
+use Rattle.reading.specs.inside.Run.{valuesOf}
+use Rattle.reading.specs.inside.Tables.{putAll, TableRoom}
+use Rattle.reading.specs.inside.Bounds.{valueBound}
 use Rattle.reading.proofs.measure.Room.{values-room}
 use Rattle.reading.proofs.measure.Bounds.{values-bound}
-use Rattle.reader.specs.checking.Sizes.{surelyFits}
-use Rattle.reader.specs.checking.Checks.{fitting}
+use Rattle.reader.specs.inside.Sizes.{surelyFits}
+use Rattle.reader.specs.inside.Checks.{fitting}
 use Rattle.reader.proofs.checking.Calls.{fitting-cases}
-use Rattle.reader.specs.passes.{Ready, surelyRead, readFitting, readWords}
+use Rattle.reader.specs.inside.passes.{ReadReady, surelyRead, readFitting, readCodes}
 
 module _ (a : Answer) (all : ReadAll) (slots area : List ℕ) where
   pub by-refusal : (a .number ≡ 0 → ⊥) → readFitting a all slots area ≡ record { answer = record { answer = a; steps = 0 }; slots = slots; area = area }
@@ -50,14 +50,14 @@ module _ (n taken : ℕ) (ws : List ℕ) (bytes slots room : ℕ) {t : Bool} (e 
     unfolding surelyRead
     by-fields l q = rw (sym e ∙ h, le-leb _ _ l, q)
 
-module _ {n taken : ℕ} {ws bs slots area : List ℕ} {mark : ℕ} (k : Ready n taken ws bs slots area mark) where
+module _ {n taken : ℕ} {ws bs slots area : List ℕ} {mark : ℕ} (k : ReadReady n taken ws bs slots area mark) where
   module _ (rows : taken ≤ length slots / slotWidth) (size : length (valueBytes (valuesOf n ws bs)) ≤ length area - mark) where
     table-room : TableRoom (valuesOf n ws bs) slots area mark
     table-room = record { rows = omega (arith, k .count, values-few bs 0 (decoded n ws)); table = k .table; room = omega (arith, k .start); limit = k .limit }
 
-    words-put : {e : ReadAll} → e ≡ putAll n ws bs slots area mark → e ≡ readWords n taken ws bs slots area mark
-    unfolding readWords fitting
-    words-put q = q ∙ rw (le-ltb _ _ rows, le-ltb _ _ size)
+    codes-put : {e : ReadAll} → e ≡ putAll n ws bs slots area mark → e ≡ readCodes n taken ws bs slots area mark
+    unfolding readCodes fitting
+    codes-put q = q ∙ rw (le-ltb _ _ rows, le-ltb _ _ size)
 
   -- where they surely fit
   module _ (t : surelyFits n taken (length bs) (length slots) (length area - mark) ≡ true) where
@@ -73,8 +73,8 @@ module _ {n taken : ℕ} {ws bs slots area : List ℕ} {mark : ℕ} (k : Ready n
     pub sure-room : TableRoom (valuesOf n ws bs) slots area mark
     sure-room = table-room sure-rows sure-size
 
-    pub sure-put : {e : ReadAll} → e ≡ putAll n ws bs slots area mark → e ≡ readWords n taken ws bs slots area mark
-    sure-put q = words-put sure-rows sure-size q
+    pub sure-put : {e : ReadAll} → e ≡ putAll n ws bs slots area mark → e ≡ readCodes n taken ws bs slots area mark
+    sure-put q = codes-put sure-rows sure-size q
 
   -- by the lengths alone or by the fields
   surely {ℓ} : {X : Type ℓ} → surelyRead n taken ws (length bs) (length slots) (length area - mark) ≡ true → (taken ≤ length slots / slotWidth → length (valueBytes (valuesOf n ws bs)) ≤ length area - mark → X) → X
@@ -90,13 +90,13 @@ module _ {n taken : ℕ} {ws bs slots area : List ℕ} {mark : ℕ} (k : Ready n
     pub surely-room : TableRoom (valuesOf n ws bs) slots area mark
     surely-room = surely t (λ h l. table-room h l)
 
-    pub surely-put : {e : ReadAll} → e ≡ putAll n ws bs slots area mark → e ≡ readWords n taken ws bs slots area mark
-    surely-put q = surely t (λ h l. words-put h l q)
+    pub surely-put : {e : ReadAll} → e ≡ putAll n ws bs slots area mark → e ≡ readCodes n taken ws bs slots area mark
+    surely-put q = surely t (λ h l. codes-put h l q)
 
   -- and by the answer of `fits`
   module _ {r : Answer} (e : r ≡ fitting (length slots) taken (length area - mark) (length (valueBytes (valuesOf n ws bs)))) where
-    pub unfit-left : (r .number ≡ 0 → ⊥) → record { answer = record { answer = r; steps = 0 }; slots = slots; area = area } ≡ readWords n taken ws bs slots area mark
-    unfolding readWords
+    pub unfit-left : (r .number ≡ 0 → ⊥) → record { answer = record { answer = r; steps = 0 }; slots = slots; area = area } ≡ readCodes n taken ws bs slots area mark
+    unfolding readCodes
     unfit-left h = sym (by-refusal r (putAll n ws bs slots area mark) slots area h) ∙ ap (λ (a : Answer). readFitting a (putAll n ws bs slots area mark) slots area) e
 
     fit-by {ℓ} : {X : Type ℓ} → r .number ≡ 0 → (taken ≤ length slots / slotWidth → length (valueBytes (valuesOf n ws bs)) ≤ length area - mark → X) → X
@@ -109,5 +109,5 @@ module _ {n taken : ℕ} {ws bs slots area : List ℕ} {mark : ℕ} (k : Ready n
     pub fit-room : r .number ≡ 0 → TableRoom (valuesOf n ws bs) slots area mark
     fit-room z = fit-by z (λ h l. table-room h l)
 
-    pub fit-put : r .number ≡ 0 → {x : ReadAll} → x ≡ putAll n ws bs slots area mark → x ≡ readWords n taken ws bs slots area mark
-    fit-put z q = fit-by z (λ h l. words-put h l q)
+    pub fit-put : r .number ≡ 0 → {x : ReadAll} → x ≡ putAll n ws bs slots area mark → x ≡ readCodes n taken ws bs slots area mark
+    fit-put z q = fit-by z (λ h l. codes-put h l q)

@@ -1,4 +1,5 @@
--- What a whole call leaves, by fields that stand in a run of so many bytes or numbers: a refusal, or what a reading by the words of the fields leaves.
+-- What a whole call leaves, by fields that stand in a run of `size` bytes or numbers: a refusal, or what a reading by
+-- the codes of the fields leaves.
 use Prim.Native.Nat.{ℕ, _-_}
 use native.Mathlib.Omega.{arith}
 use mathlib.Core.Path.{_≡_, refl, ap, _∙_}
@@ -7,17 +8,17 @@ use lib.ListN.{length}
 use Rattle.layout.specs.declared.Field.{Field}
 use Rattle.layout.specs.declared.Refusal.{Refusal}
 use Rattle.layout.specs.Refusals.{Result, ok, refused}
-use Rattle.layout.specs.Words.{decoded}
+use Rattle.layout.specs.inside.Parsing.{decoded}
 use Rattle.layout.proofs.Decoded.{Learnt}
 use Rattle.record.specs.declared.Answer.{Answer}
 use Rattle.record.specs.Table.{Value, valueBytes}
 use Rattle.record.specs.Packing.{refusal}
 use Rattle.record.specs.Reading.{positionsFrom, stepsFrom, readsFields, putInto, ReadAll, withSteps, readFields}
-use Rattle.reading.specs.measure.Run.{valuesOf}
-use Rattle.reading.specs.Tables.{putAll}
-use Rattle.reader.specs.checking.Checks.{fitting}
+use Rattle.reading.specs.inside.Run.{valuesOf}
+use Rattle.reading.specs.inside.Tables.{putAll}
+use Rattle.reader.specs.inside.Checks.{fitting}
 use Rattle.reader.proofs.checking.Calls.{Fit, fitted}
-use Rattle.reader.specs.passes.{Ready, readWords}
+use Rattle.reader.specs.inside.passes.{ReadReady, readCodes}
 use Rattle.reader.proofs.passes.Calls.{by-refusal, by-accepted}
 
 module _ (size : ℕ) (o : Result (List Field)) (bs slots area : List ℕ) (mark : ℕ) where
@@ -32,9 +33,9 @@ module _ (size : ℕ) (o : Result (List Field)) (bs slots area : List ℕ) (mark
   fields-put l h q = q ∙ rw (h, l .fields)
 
   module _ (sizes : Fit size (length slots) (length bs) (length area) mark) {n taken : ℕ} {ws : List ℕ} (l : Learnt o n taken ws) where
-    -- a reading by the fields of the words is the reading by the fields
-    pub fields-read : {e : ReadAll} → e ≡ readWords n taken ws bs slots area mark → e ≡ readFields size o bs slots area mark
-    unfolding readWords
+    -- a reading by the fields of the codes is the reading by the fields
+    pub fields-read : {e : ReadAll} → e ≡ readCodes n taken ws bs slots area mark → e ≡ readFields size o bs slots area mark
+    unfolding readCodes
     fields-read {e} q =
         let a : Answer = fitting (length slots) taken (length area - mark) (length (valueBytes (valuesOf n ws bs))) in
         let all : ReadAll = putAll n ws bs slots area mark in
@@ -42,7 +43,7 @@ module _ (size : ℕ) (o : Result (List Field)) (bs slots area : List ℕ) (mark
         (λ why h x z. q ∙ by-refusal a all slots area (λ zero. absurd (omega arith)) ∙ fields-refused h x)
         (λ h x. fields-put l h (q ∙ by-accepted a all slots area (ap (λ (y : Answer). y .number) x)))
 
-    pub ready : Ready n taken ws bs slots area mark
+    pub ready : ReadReady n taken ws bs slots area mark
     ready =
         record {
           few = l .few;

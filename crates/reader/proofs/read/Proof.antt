@@ -8,7 +8,7 @@ use borrow.Author.Tests.{not-true, not-false}
 use Rattle.layout.proofs.Decoded.{parsed-fields, parsed-refused}
 use Rattle.layout.proofs.Places.{refused-inside}
 use Rattle.reader.proofs.checking.Calls.{Fit, fit, sizes-refuse, parse-refuses}
-use Rattle.reader.proofs.Calls.{read-refused, ready, words-read}
+use Rattle.reader.proofs.Calls.{read-refused, ready, codes-read}
 use borrow.Author.Needs.{needs}
 use Rattle.layout.specs.Layout.{maxLayout}
 use Rattle.reader.proofs.read.Statement.{statement}
@@ -17,35 +17,14 @@ use Rattle.reader.proofs.read.Tie as tie
 sized : (c : tie.Else1) → Fit (length (c .before .before .before .before .before .before .args .layout .now)) (length (c .before .before .before .before .before .before .args .slots .now)) (length (c .before .before .before .before .before .before .args .bytes .now)) (length (c .before .before .before .before .before .before .args .area .now)) (c .before .before .before .before .before .before .args .mark)
 sized c = fit (sym (c .before .sizes-fit .ensures) ∙ not-false _ (c .if1 .left))
 
-sizes-fit-requires : tie.Need-sizes-fit-requires
-sizes-fit-requires c κs = search needs
-
-refused-requires : tie.Need-refused-requires
-refused-requires c κs = search needs
-
 returns : tie.Need-returns
 returns c = read-refused _ _ _ _ _ (sizes-refuse _ _ _ _ _ (sym (c .before .before .sizes-fit .ensures) ∙ not-true _ (c .before .if1 .taken))) (c .refused .ensures)
-
-slice-aggregate-parse : tie.Need-slice-aggregate-parse
-slice-aggregate-parse c = search needs
 
 parse-requires : tie.Need-parse-requires
 parse-requires c κs = (sized (c .before) .text, le-refl maxLayout)
 
-enum-known-p : tie.Need-enum-known-p
-enum-known-p c = search needs
-
 cast-refused : tie.Need-cast-refused
 cast-refused c = omega (arith, sized (c .before .before .before .before .before .before) .text, refused-inside false _ _ _ (parsed-refused _ _ _ _ _ (c .before .before .before .before .parse .ensures) (c .before .p .given .1)))
-
-refused-requires-2 : tie.Need-refused-requires-2
-refused-requires-2 c κs = search needs
-
-enum-known-p-2 : tie.Need-enum-known-p-2
-enum-known-p-2 c = search needs
-
-slice-aggregate-read : tie.Need-slice-aggregate-read
-slice-aggregate-read c = search needs
 
 read-requires : tie.Need-read-requires
 read-requires c κs = ready _ _ _ _ _ (sized (c .before .before .before .before .before .before .before .before .before)) (parsed-fields _ _ _ _ _ (c .before .before .before .before .before .before .before .parse .ensures) (c .before .before .before .before .p2 .given .1))
@@ -53,31 +32,25 @@ read-requires c κs = ready _ _ _ _ _ (sized (c .before .before .before .before 
 returns-2 : tie.Need-returns-2
 returns-2 c = read-refused _ _ _ _ _ (parse-refuses _ _ _ _ _ (sized (c .before .before .before .before .before .before .before)) (parsed-refused _ _ _ _ _ (c .before .before .before .before .before .parse .ensures) (c .before .before .p .given .1))) (c .refused2 .ensures)
 
-same-length : tie.Need-same-length
-same-length c = search needs
-
-same-length-2 : tie.Need-same-length-2
-same-length-2 c = search needs
-
 returns-3 : tie.Need-returns-3
-returns-3 c = words-read _ _ _ _ _ (sized (c .before .before .before .before .before .before .before .before .before .before .before .before .before .before)) (parsed-fields _ _ _ _ _ (c .before .before .before .before .before .before .before .before .before .before .before .before .parse .ensures) (c .before .before .before .before .before .before .before .before .before .p2 .given .1)) (c .before .before .before .before .read .ensures)
+returns-3 c = codes-read _ _ _ _ _ (sized (c .before .before .before .before .before .before .before .before .before .before .before .before .before .before)) (parsed-fields _ _ _ _ _ (c .before .before .before .before .before .before .before .before .before .before .before .before .parse .ensures) (c .before .before .before .before .before .before .before .before .before .p2 .given .1)) (c .before .before .before .before .read .ensures)
 
 pub read-spec : {M : Type 1} → statement M
 read-spec =
     tie.close
     (tie.spec
-    sizes-fit-requires
-    refused-requires
+    (λ c κs. search needs)
+    (λ c κs. search needs)
     returns
-    slice-aggregate-parse
+    (λ c. search needs)
     parse-requires
-    enum-known-p
+    (λ c. search needs)
     cast-refused
-    refused-requires-2
-    enum-known-p-2
-    slice-aggregate-read
+    (λ c κs. search needs)
+    (λ c. search needs)
+    (λ c. search needs)
     read-requires
     returns-2
-    same-length
-    same-length-2
+    (λ c. search needs)
+    (λ c. search needs)
     returns-3)

@@ -1,4 +1,5 @@
--- A long layout is left to `read`. Of the rest each way out is one law of the reading; what was tested on the way is its premise.
+-- A long layout is left to `read`. Of the rest each way out is one law of the reading; what was tested on the way is
+-- its premise.
 use lib.ListN.{length}
 use native.Mathlib.Omega.{arith}
 use mathlib.Core.Path.{sym, _∙_}
@@ -8,7 +9,7 @@ use Rattle.layout.proofs.Decoded.{parsed-fields, parsed-refused}
 use Rattle.layout.proofs.Places.{refused-inside}
 use Rattle.reader.proofs.checking.Calls.{Fit, fit, sizes-refuse, parse-refuses}
 use Rattle.reader.proofs.passes.Calls.{sure-room, sure-put}
-use Rattle.reader.proofs.Calls.{read-refused, ready, words-read}
+use Rattle.reader.proofs.Calls.{read-refused, ready, codes-read}
 use borrow.Author.Needs.{needs}
 use Rattle.reader.proofs.read_short.Statement.{statement}
 use Rattle.reader.proofs.read_short.Tie as tie
@@ -16,44 +17,17 @@ use Rattle.reader.proofs.read_short.Tie as tie
 sized : (c : tie.Else2) → Fit (length (c .before .before .before .before .before .before .before .args .layout .now)) (length (c .before .before .before .before .before .before .before .args .slots .now)) (length (c .before .before .before .before .before .before .before .args .bytes .now)) (length (c .before .before .before .before .before .before .before .args .area .now)) (c .before .before .before .before .before .before .before .args .mark)
 sized c = fit (sym (c .before .sizes-fit .ensures) ∙ not-false _ (c .if2 .left))
 
-read-requires : tie.Need-read-requires
-read-requires c κs = search needs
-
-same-length : tie.Need-same-length
-same-length c = search needs
-
-same-length-2 : tie.Need-same-length-2
-same-length-2 c = search needs
-
 returns : tie.Need-returns
 returns c = c .before .before .before .before .read .ensures
-
-sizes-fit-requires : tie.Need-sizes-fit-requires
-sizes-fit-requires c κs = search needs
-
-refused-requires : tie.Need-refused-requires
-refused-requires c κs = search needs
 
 returns-2 : tie.Need-returns-2
 returns-2 c = read-refused _ _ _ _ _ (sizes-refuse _ _ _ _ _ (sym (c .before .before .sizes-fit .ensures) ∙ not-true _ (c .before .if2 .taken))) (c .refused .ensures)
 
-slice-aggregate-parse : tie.Need-slice-aggregate-parse
-slice-aggregate-parse c = search needs
-
 parse-requires : tie.Need-parse-requires
 parse-requires c κs = (omega (arith, c .before .before .before .if1 .left), search needs)
 
-enum-known-p : tie.Need-enum-known-p
-enum-known-p c = search needs
-
 cast-refused : tie.Need-cast-refused
 cast-refused c = omega (arith, sized (c .before .before .before .before .before .before) .text, refused-inside false _ _ _ (parsed-refused _ _ _ _ _ (c .before .before .before .before .parse .ensures) (c .before .p .given .1)))
-
-refused-requires-2 : tie.Need-refused-requires-2
-refused-requires-2 c κs = search needs
-
-enum-known-p-2 : tie.Need-enum-known-p-2
-enum-known-p-2 c = search needs
 
 sub-surely-fits : tie.Need-sub-surely-fits
 sub-surely-fits c = omega (arith, sized (c .before .before .before .before .before .before) .start)
@@ -63,29 +37,17 @@ surely-fits-requires c κs =
     let l = parsed-fields _ _ _ _ _ (c .before .before .before .before .parse .ensures) (c .before .p2 .given .1) in
     (omega (arith, l .few, l .room), sized (c .before .before .before .before .before .before) .whole)
 
-slice-aggregate-fill : tie.Need-slice-aggregate-fill
-slice-aggregate-fill c = search needs
-
 fill-requires : tie.Need-fill-requires
 fill-requires c κs =
     let k = sized (c .before .before .before .before .before .before .before .before .before .before .before) in
     let l = parsed-fields _ _ _ _ _ (c .before .before .before .before .before .before .before .before .before .parse .ensures) (c .before .before .before .before .before .before .p2 .given .1) in
     ((l .few, l .room, k .whole), sure-room (ready _ _ _ _ _ k l) (sym (c .before .before .before .before .surely-fits .ensures) ∙ c .before .before .before .if3 .taken))
 
-same-length-3 : tie.Need-same-length-3
-same-length-3 c = search needs
-
-same-length-4 : tie.Need-same-length-4
-same-length-4 c = search needs
-
 returns-3 : tie.Need-returns-3
 returns-3 c =
     let k = sized (c .before .before .before .before .before .before .before .before .before .before .before .before .before .before .before .before) in
     let l = parsed-fields _ _ _ _ _ (c .before .before .before .before .before .before .before .before .before .before .before .before .before .before .parse .ensures) (c .before .before .before .before .before .before .before .before .before .before .before .p2 .given .1) in
-    words-read _ _ _ _ _ k l (sure-put (ready _ _ _ _ _ k l) (sym (c .before .before .before .before .before .before .before .before .before .surely-fits .ensures) ∙ c .before .before .before .before .before .before .before .before .if3 .taken) (c .before .before .before .before .fill .ensures))
-
-slice-aggregate-read : tie.Need-slice-aggregate-read
-slice-aggregate-read c = search needs
+    codes-read _ _ _ _ _ k l (sure-put (ready _ _ _ _ _ k l) (sym (c .before .before .before .before .before .before .before .before .before .surely-fits .ensures) ∙ c .before .before .before .before .before .before .before .before .if3 .taken) (c .before .before .before .before .fill .ensures))
 
 read-requires-2 : tie.Need-read-requires-2
 read-requires-2 c κs = ready _ _ _ _ _ (sized (c .before .before .before .before .before .before .before .before .before .before .before)) (parsed-fields _ _ _ _ _ (c .before .before .before .before .before .before .before .before .before .parse .ensures) (c .before .before .before .before .before .before .p2 .given .1))
@@ -93,42 +55,36 @@ read-requires-2 c κs = ready _ _ _ _ _ (sized (c .before .before .before .befor
 returns-4 : tie.Need-returns-4
 returns-4 c = read-refused _ _ _ _ _ (parse-refuses _ _ _ _ _ (sized (c .before .before .before .before .before .before .before)) (parsed-refused _ _ _ _ _ (c .before .before .before .before .before .parse .ensures) (c .before .before .p .given .1))) (c .refused2 .ensures)
 
-same-length-5 : tie.Need-same-length-5
-same-length-5 c = search needs
-
-same-length-6 : tie.Need-same-length-6
-same-length-6 c = search needs
-
 returns-5 : tie.Need-returns-5
-returns-5 c = words-read _ _ _ _ _ (sized (c .before .before .before .before .before .before .before .before .before .before .before .before .before .before .before .before)) (parsed-fields _ _ _ _ _ (c .before .before .before .before .before .before .before .before .before .before .before .before .before .before .parse .ensures) (c .before .before .before .before .before .before .before .before .before .before .before .p2 .given .1)) (c .before .before .before .before .read2 .ensures)
+returns-5 c = codes-read _ _ _ _ _ (sized (c .before .before .before .before .before .before .before .before .before .before .before .before .before .before .before .before)) (parsed-fields _ _ _ _ _ (c .before .before .before .before .before .before .before .before .before .before .before .before .before .before .parse .ensures) (c .before .before .before .before .before .before .before .before .before .before .before .p2 .given .1)) (c .before .before .before .before .read2 .ensures)
 
 pub read-short-spec : {M : Type 1} → statement M
 read-short-spec =
     tie.close
     (tie.spec
-    read-requires
-    same-length
-    same-length-2
+    (λ c κs. search needs)
+    (λ c. search needs)
+    (λ c. search needs)
     returns
-    sizes-fit-requires
-    refused-requires
+    (λ c κs. search needs)
+    (λ c κs. search needs)
     returns-2
-    slice-aggregate-parse
+    (λ c. search needs)
     parse-requires
-    enum-known-p
+    (λ c. search needs)
     cast-refused
-    refused-requires-2
-    enum-known-p-2
+    (λ c κs. search needs)
+    (λ c. search needs)
     sub-surely-fits
     surely-fits-requires
-    slice-aggregate-fill
+    (λ c. search needs)
     fill-requires
-    same-length-3
-    same-length-4
+    (λ c. search needs)
+    (λ c. search needs)
     returns-3
-    slice-aggregate-read
+    (λ c. search needs)
     read-requires-2
     returns-4
-    same-length-5
-    same-length-6
+    (λ c. search needs)
+    (λ c. search needs)
     returns-5)

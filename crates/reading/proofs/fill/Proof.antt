@@ -1,8 +1,9 @@
--- The values so far are a ghost of the invariant: table and area are those lent with these values put in, and the fields that are left complete them.
+-- The values so far are a ghost of the invariant: table and area are those lent with these values put in, and the
+-- fields that are left complete them.
 use Prim.Native.Nat.{_-_, _≤_}
 use native.Mathlib.Omega.{arith}
 use borrow.Author.Needs.{needs}
-use Rattle.layout.specs.Words.{decoded}
+use Rattle.layout.specs.inside.Parsing.{decoded}
 use Rattle.reading.proofs.positions.Turns.{ran-end, ran-short, ran-moved, ran-found}
 use Rattle.reading.proofs.measure.Run.{found-inside}
 use Rattle.reading.proofs.Tables.{Written, written-start, written-bounds, written-moved, written-room, written-more, written-done}
@@ -10,34 +11,19 @@ use Rattle.reading.proofs.fill.Statement.{statement}
 use Rattle.reading.proofs.fill.Tie as tie
 
 abbrev Inv-loop : tie.InvT-loop
-Inv-loop words n bytes slots₀ area₀ mark c₀ set₀ place₀ i₀ slots area c set place i = (i ≤ n) × Written bytes (decoded n words) slots₀ area₀ mark i c set place slots area
+Inv-loop codes n bytes slots₀ area₀ mark c₀ set₀ place₀ i₀ slots area c set place i = (i ≤ n) × Written bytes (decoded n codes) slots₀ area₀ mark i c set place slots area
 
 abbrev μ-loop : tie.MeasureT-loop
-μ-loop words n bytes slots₀ area₀ mark c₀ set₀ place₀ i₀ slots area c set place i = n - i
-
-new-requires : tie.Need-new-requires Inv-loop μ-loop
-new-requires c κs = search needs
+μ-loop codes n bytes slots₀ area₀ mark c₀ set₀ place₀ i₀ slots area c set place i = n - i
 
 loop-holds : tie.Need-loop-holds Inv-loop μ-loop
 loop-holds c = (omega arith, written-start _ _ _ _ (c .new .ensures))
-
-mul-word : tie.Need-mul-word Inv-loop μ-loop
-mul-word c = omega arith
-
-shared-slice-read-word : tie.Need-shared-slice-read-word Inv-loop μ-loop
-shared-slice-read-word c = omega arith
-
-add-i : tie.Need-add-i Inv-loop μ-loop
-add-i c = omega arith
 
 moved-by-requires : tie.Need-moved-by-requires Inv-loop μ-loop
 moved-by-requires c κs =
     let l = c .before .before .before in
     let ran = l .loop .inv .1 .ran in
     (ran .inside, omega (arith, ran .size, l .before .before .before .before .before .before .pre .0 .2))
-
-loop-less : tie.Need-loop-less Inv-loop μ-loop
-loop-less c = omega arith
 
 loop-again : tie.Need-loop-again Inv-loop μ-loop
 loop-again c =
@@ -101,9 +87,6 @@ add-set c =
     let l = c .before .before .before .before .before .before .before .before .before .before .before .before .before .before .before in
     omega (arith, written-bounds (l .before .before .before .before .before .before .pre .1) (l .loop .inv .1) .0)
 
-loop-less-2 : tie.Need-loop-less-2 Inv-loop μ-loop
-loop-less-2 c = omega arith
-
 loop-again-2 : tie.Need-loop-again-2 Inv-loop μ-loop
 loop-again-2 c =
     let l = c .before .before .before .before .before .before .before .before .before .before .before .before .before .before .before in
@@ -137,13 +120,13 @@ fill-spec =
     (tie.spec
     Inv-loop
     μ-loop
-    new-requires
+    (λ c κs. search needs)
     loop-holds
-    mul-word
-    shared-slice-read-word
-    add-i
+    (λ c. omega arith)
+    (λ c. omega arith)
+    (λ c. omega arith)
     moved-by-requires
-    loop-less
+    (λ c. omega arith)
     loop-again
     sub-left
     items-requires
@@ -155,7 +138,7 @@ fill-spec =
     load-requires
     put-requires
     add-set
-    loop-less-2
+    (λ c. omega arith)
     loop-again-2
     answer-requires-2
     same-length-3

@@ -8,14 +8,15 @@ use mathlib.Core.List.{List, [], _∷_, map}
 use borrow.Author.Tests.{leb-true}
 use lib.Dec.{eqb, leb}
 use lib.ListN.{length, take, length-take, length-drop, length-append}
-use Rattle.layout.specs.declared.Code.{Code}
-use Rattle.layout.specs.declared.Code.the-variants.{Data, Move}
+use Rattle.layout.specs.declared.Role.{Role}
+use Rattle.layout.specs.declared.Role.the-variants.{Data, Move}
 use Rattle.layout.specs.declared.Shape.{Shape}
 use Rattle.layout.specs.declared.Shape.the-variants.{Text, Digits, Integers, Reals}
 use Rattle.layout.specs.declared.Count.{Count}
 use Rattle.layout.specs.declared.Field.{Field}
 use Rattle.layout.specs.Refusals.{if_then_else_}
-use Rattle.layout.specs.Words.{typeNumbered, fieldOf, decoded, FitCode, flagUnit}
+use Rattle.layout.specs.Codes.{typeNumbered, fieldOf, flagUnit}
+use Rattle.layout.specs.inside.Parsing.{decoded, FitRole}
 use Rattle.layout.proofs.Steps.{type-fits, known-fits}
 use Rattle.record.specs.Bytes.{part, join}
 use Rattle.record.specs.Table.{Value, areaBytes, valueBytes}
@@ -54,7 +55,7 @@ pub digits-short : (hex high : Bool) (n : ℕ) (bs : List ℕ) → length (loade
 unfolding loaded
 digits-short hex high n bs = simp length-take (omega arith)
 
-pub value-room : (bs : List ℕ) (at : ℕ) (s : Shape) (u : Bool) (n : ℕ) → FitCode (Data s) → length (areaBytes (valueAt bs at s u n)) ≤ 8 * bytesFor s n
+pub value-room : (bs : List ℕ) (at : ℕ) (s : Shape) (u : Bool) (n : ℕ) → FitRole (Data s) → length (areaBytes (valueAt bs at s u n)) ≤ 8 * bytesFor s n
 value-room bs at (Text pad) u n h = rw (text-bytes pad u n (part bs at n)) (omega (arith, text-short pad n (part bs at n) (part-short n at bs)))
 value-room bs at (Digits hex high) u n h =
     let fs : List ℕ = part bs at (bytesFor (Digits hex high) n) in
@@ -68,17 +69,17 @@ value-room bs at (Reals single big) u n h =
 
 -- ---- the values of the run
 
-pub word-fits : (w : ℕ) → FitCode (fieldOf w .code)
+pub code-fits : (w : ℕ) → FitRole (fieldOf w .role)
 unfolding fieldOf
-word-fits w = known-fits (typeNumbered (w % flagUnit)) (type-fits (w % flagUnit))
+code-fits w = known-fits (typeNumbered (w % flagUnit)) (type-fits (w % flagUnit))
 
 pub found-room : (t : Bool) (v : Value) (vs : List Value) (k m : ℕ) → (t ≡ true → length (areaBytes v) ≤ k) → length (valueBytes vs) ≤ m → length (valueBytes (if t then v ∷ vs else [])) ≤ k + m
 unfolding valueBytes join
 found-room true v vs k m h l = rw length-append (omega (arith, h refl))
 found-room false v vs k m h l = omega arith
 
-step-room : (bs : List ℕ) (at : ℕ) (k : Code) (u : Bool) (n : Count) (fs : List Field) (m : ℕ) → FitCode k → ((to : ℕ) → length (valueBytes (valuesFrom bs to fs)) ≤ m)
-    → length (valueBytes (valuesFrom bs at (record { code = k; unsigned = u; count = n } ∷ fs))) ≤ 8 * length bs + m
+step-room : (bs : List ℕ) (at : ℕ) (k : Role) (u : Bool) (n : Count) (fs : List Field) (m : ℕ) → FitRole k → ((to : ℕ) → length (valueBytes (valuesFrom bs to fs)) ≤ m)
+    → length (valueBytes (valuesFrom bs at (record { role = k; unsigned = u; count = n } ∷ fs))) ≤ 8 * length bs + m
 unfolding valuesFrom
 step-room bs at (Data s) u n fs m f h =
     let i : ℕ = itemsOf s n (length bs - at) in
@@ -86,13 +87,13 @@ step-room bs at (Data s) u n fs m f h =
     (λ t. omega (arith, leb-true (bytesFor s i) (length bs - at) t, value-room bs at s u i f)) (h (at + bytesFor s i))
 step-room bs at (Move g) u n fs m f h = omega (arith, h (movedIn (length bs) g n at))
 
-words-room : (bs : List ℕ) (at : ℕ) (ws : List ℕ) → length (valueBytes (valuesFrom bs at (map fieldOf ws))) ≤ 8 * (length ws * length bs)
+codes-room : (bs : List ℕ) (at : ℕ) (ws : List ℕ) → length (valueBytes (valuesFrom bs at (map fieldOf ws))) ≤ 8 * (length ws * length bs)
 unfolding valuesFrom valueBytes join
-words-room bs at [] = omega arith
-words-room bs at (w ∷ ws) =
+codes-room bs at [] = omega arith
+codes-room bs at (w ∷ ws) =
     let f : Field = fieldOf w in
     let all : suc (length ws) * length bs ≡ length ws * length bs + length bs = suc-mul (length ws) (length bs) in
-    omega (arith, step-room bs at (f .code) (f .unsigned) (f .count) (map fieldOf ws) (8 * (length ws * length bs)) (word-fits w) (λ to. words-room bs to ws))
+    omega (arith, step-room bs at (f .role) (f .unsigned) (f .count) (map fieldOf ws) (8 * (length ws * length bs)) (code-fits w) (λ to. codes-room bs to ws))
 
 -- the values of n fields take no more than eight bytes each for every byte of the record
 pub values-room : (n : ℕ) (ws bs : List ℕ) → length (valueBytes (valuesFrom bs 0 (decoded n ws))) ≤ 8 * (n * length bs)
@@ -100,4 +101,4 @@ unfolding decoded
 values-room n ws bs =
     let few : length (take n ws) ≤ n = simp length-take (omega arith) in
     let all : length (take n ws) * length bs ≤ n * length bs = mul-le-mul few (le-refl (length bs)) in
-    omega (arith, words-room bs 0 (take n ws))
+    omega (arith, codes-room bs 0 (take n ws))

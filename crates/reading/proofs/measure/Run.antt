@@ -4,13 +4,14 @@ use native.Mathlib.Omega.{arith}
 use mathlib.Core.Path.{_≡_, refl, sym, ap, _∙_}
 use mathlib.Core.List.{List, [], _∷_, _++_, append-assoc, append-nil}
 use lib.ListN.{length, getD}
-use Rattle.layout.specs.Words.{lastData, shapeNumbered, countFrom, decoded, flagUnit, countUnit}
+use Rattle.layout.specs.Codes.{lastData, countFrom, flagUnit, countUnit}
+use Rattle.layout.specs.inside.Parsing.{shapeNumbered, decoded}
 use Rattle.layout.proofs.Numbered.{shape-fits}
 use Rattle.record.specs.declared.Cursor.{Cursor}
 use Rattle.record.specs.Bytes.{join}
 use Rattle.record.specs.Table.{maxRecord, Value, areaBytes, valueBytes}
 use Rattle.record.specs.Geometry.{bytesFor, itemsOf}
-use Rattle.reading.specs.value.{Inside}
+use Rattle.reading.specs.inside.value.{Inside}
 use Rattle.reading.proofs.positions.Turns.{Ran}
 
 pub value-bytes-append : (vs ws : List Value) → valueBytes (vs ++ ws) ≡ valueBytes vs ++ valueBytes ws

@@ -9,8 +9,8 @@ use borrow.Author.Tests.{le-leb, lt-leb}
 use lib.Dec.{eqb}
 use lib.ListN.{length, getD, drop, length-append}
 use lib.Seq.{drop-drop}
-use Rattle.layout.specs.declared.Code.{Code}
-use Rattle.layout.specs.declared.Code.the-variants.{Data, Move}
+use Rattle.layout.specs.declared.Role.{Role}
+use Rattle.layout.specs.declared.Role.the-variants.{Data, Move}
 use Rattle.layout.specs.declared.Motion.{Motion}
 use Rattle.layout.specs.declared.Motion.the-variants.{Skip, Back, Goto}
 use Rattle.layout.specs.declared.Shape.{Shape}
@@ -18,17 +18,18 @@ use Rattle.layout.specs.declared.Shape.the-variants.{Text, Digits, Integers, Re
 use Rattle.layout.specs.declared.Count.{Count}
 use Rattle.layout.specs.declared.Count.the-variants.{Times}
 use Rattle.layout.specs.declared.Field.{Field}
-use Rattle.layout.specs.Layout.{takesSlot}
-use Rattle.layout.specs.Words.{lastData, realSize, shapeNumbered, fieldOf, countFrom, decoded, FieldOf, flagUnit, countUnit}
+use Rattle.layout.specs.Layout.{takesSlot, realSize}
+use Rattle.layout.specs.Codes.{lastData, fieldOf, countFrom, flagUnit, countUnit}
+use Rattle.layout.specs.inside.Parsing.{shapeNumbered, decoded, FieldOf}
 use Rattle.layout.proofs.Decoded.{next-field, no-field}
 use Rattle.record.specs.Table.{maxRecord, noPosition, Value}
 use Rattle.record.specs.declared.Cursor.{Cursor}
-use Rattle.record.specs.Cursor.{over}
+use Rattle.record.specs.inside.Cursor.{over}
 use Rattle.record.specs.Geometry.{perByte, bytesFor, itemsIn, movedIn, itemsOf}
 use Rattle.record.specs.Reading.{valuesFrom, positionsFrom, stepsFrom, valueAt}
 use Rattle.record.proofs.Bounds.{per-byte-small, product-small}
-use Rattle.reading.specs.positions.{movedBy}
-use Rattle.layout.proofs.Numbered.{data-code, move-code}
+use Rattle.reading.specs.inside.positions.{movedBy}
+use Rattle.layout.proofs.Numbered.{data-role, move-role}
 
 -- ---- sizes
 
@@ -51,16 +52,16 @@ count-times (suc (suc n)) h k = let e : n ≡ suc (suc n) - 2 = omega arith in a
 
 module _ (bs : List ℕ) (at : ℕ) (u : Bool) (n : Count) (fs : List Field) where
   module _ (s : Shape) {k b : ℕ} (items : k ≡ itemsOf s n (length bs - at)) (bytes : b ≡ bytesFor s k) where
-    values-short : length bs - at < b → valuesFrom bs at (record { code = Data s; unsigned = u; count = n } ∷ fs) ≡ []
+    values-short : length bs - at < b → valuesFrom bs at (record { role = Data s; unsigned = u; count = n } ∷ fs) ≡ []
     unfolding valuesFrom
     values-short h = let l : length bs - at < bytesFor s (itemsOf s n (length bs - at)) = rw (← items, ← bytes) h in rw (lt-leb _ _ l)
 
-    values-found : b ≤ length bs - at → valuesFrom bs at (record { code = Data s; unsigned = u; count = n } ∷ fs) ≡ valueAt bs at s u k ∷ valuesFrom bs (at + b) fs
+    values-found : b ≤ length bs - at → valuesFrom bs at (record { role = Data s; unsigned = u; count = n } ∷ fs) ≡ valueAt bs at s u k ∷ valuesFrom bs (at + b) fs
     unfolding valuesFrom
     values-found h = let l : bytesFor s (itemsOf s n (length bs - at)) ≤ length bs - at = rw (← items, ← bytes) h in rw (le-leb _ _ l, bytes, items)
 
-values-moved : (bs : List ℕ) (c : Cursor) → c .end ≡ length bs → (k : Code) (u : Bool) (n : Count) (fs : List Field) → takesSlot k ≡ false
-    → valuesFrom bs (c .at) (record { code = k; unsigned = u; count = n } ∷ fs) ≡ valuesFrom bs (movedBy c k n .at) fs
+values-moved : (bs : List ℕ) (c : Cursor) → c .end ≡ length bs → (k : Role) (u : Bool) (n : Count) (fs : List Field) → takesSlot k ≡ false
+    → valuesFrom bs (c .at) (record { role = k; unsigned = u; count = n } ∷ fs) ≡ valuesFrom bs (movedBy c k n .at) fs
 unfolding valuesFrom movedBy
 values-moved bs c size (Data s) u n fs e = let z : _≡_ {A = ℕ} 0 1 = cc (e) in absurd (omega arith)
 values-moved bs c size (Move m) u n fs e = rw size
@@ -68,12 +69,12 @@ values-moved bs c size (Move m) u n fs e = rw size
 -- and the positions
 
 positions-found : (size at : ℕ) (s : Shape) (u : Bool) (n : Count) (fs : List Field) {k b : ℕ} → k ≡ itemsOf s n (size - at) → b ≡ bytesFor s k
-    → positionsFrom size at (record { code = Data s; unsigned = u; count = n } ∷ fs) ≡ at ∷ positionsFrom size (at + b) fs
+    → positionsFrom size at (record { role = Data s; unsigned = u; count = n } ∷ fs) ≡ at ∷ positionsFrom size (at + b) fs
 unfolding positionsFrom
 positions-found size at s u n fs items bytes = rw (bytes, items)
 
-positions-moved : (c : Cursor) (k : Code) (u : Bool) (n : Count) (fs : List Field) → takesSlot k ≡ false
-    → positionsFrom (c .end) (c .at) (record { code = k; unsigned = u; count = n } ∷ fs) ≡ positionsFrom (c .end) (movedBy c k n .at) fs
+positions-moved : (c : Cursor) (k : Role) (u : Bool) (n : Count) (fs : List Field) → takesSlot k ≡ false
+    → positionsFrom (c .end) (c .at) (record { role = k; unsigned = u; count = n } ∷ fs) ≡ positionsFrom (c .end) (movedBy c k n .at) fs
 unfolding positionsFrom movedBy
 positions-moved c (Data s) u n fs e = let z : _≡_ {A = ℕ} 0 1 = cc (e) in absurd (omega arith)
 positions-moved c (Move m) u n fs e = refl
@@ -82,16 +83,16 @@ positions-moved c (Move m) u n fs e = refl
 
 module _ (size at : ℕ) (u : Bool) (n : Count) (fs : List Field) where
   module _ (s : Shape) {k b : ℕ} (items : k ≡ itemsOf s n (size - at)) (bytes : b ≡ bytesFor s k) where
-    steps-short : size - at < b → stepsFrom size at (record { code = Data s; unsigned = u; count = n } ∷ fs) ≡ 1
+    steps-short : size - at < b → stepsFrom size at (record { role = Data s; unsigned = u; count = n } ∷ fs) ≡ 1
     unfolding stepsFrom
     steps-short h = let l : size - at < bytesFor s (itemsOf s n (size - at)) = rw (← items, ← bytes) h in rw (lt-leb _ _ l)
 
-    steps-found : b ≤ size - at → stepsFrom size at (record { code = Data s; unsigned = u; count = n } ∷ fs) ≡ suc (stepsFrom size (at + b) fs)
+    steps-found : b ≤ size - at → stepsFrom size at (record { role = Data s; unsigned = u; count = n } ∷ fs) ≡ suc (stepsFrom size (at + b) fs)
     unfolding stepsFrom
     steps-found h = let l : bytesFor s (itemsOf s n (size - at)) ≤ size - at = rw (← items, ← bytes) h in rw (le-leb _ _ l, bytes, items)
 
-steps-moved : (c : Cursor) (k : Code) (u : Bool) (n : Count) (fs : List Field) → takesSlot k ≡ false
-    → stepsFrom (c .end) (c .at) (record { code = k; unsigned = u; count = n } ∷ fs) ≡ suc (stepsFrom (c .end) (movedBy c k n .at) fs)
+steps-moved : (c : Cursor) (k : Role) (u : Bool) (n : Count) (fs : List Field) → takesSlot k ≡ false
+    → stepsFrom (c .end) (c .at) (record { role = k; unsigned = u; count = n } ∷ fs) ≡ suc (stepsFrom (c .end) (movedBy c k n .at) fs)
 unfolding stepsFrom movedBy
 steps-moved c (Data s) u n fs e = let z : _≡_ {A = ℕ} 0 1 = cc (e) in absurd (omega arith)
 steps-moved c (Move m) u n fs e = refl
@@ -101,23 +102,23 @@ moved-within Skip n size at h = omega arith
 moved-within Back n size at h = omega arith
 moved-within Goto n size at h = omega arith
 
-within : (k : Code) (n : Count) (c : Cursor) → c .at ≤ c .end → (movedBy c k n .at ≤ c .end) × (movedBy c k n .end ≡ c .end)
+within : (k : Role) (n : Count) (c : Cursor) → c .at ≤ c .end → (movedBy c k n .at ≤ c .end) × (movedBy c k n .end ≡ c .end)
 unfolding movedBy
 within (Data s) n c h = (h, refl)
 within (Move m) n c h = (moved-within m n (c .end) (c .at) h, refl)
 
--- a move by a word's field is a move by the word
-pub moved-as : {word : ℕ} {r : Cursor} {f : Field} (c : Cursor) → FieldOf word f → r ≡ movedBy c (f .code) (f .count) → r ≡ movedBy c (fieldOf word .code) (fieldOf word .count)
+-- a move by a code's field is a move by the code
+pub moved-as : {code : ℕ} {r : Cursor} {f : Field} (c : Cursor) → FieldOf code f → r ≡ movedBy c (f .role) (f .count) → r ≡ movedBy c (fieldOf code .role) (fieldOf code .count)
 moved-as c f e = rw (f .same) at e
 
--- the field of a word whose type takes a slot
-data-field : (w : ℕ) → w % flagUnit ≤ lastData → fieldOf w ≡ record { code = Data (shapeNumbered (w % flagUnit)); unsigned = eqb (w / flagUnit % 2) 1; count = countFrom (w / countUnit) }
+-- the field of a code whose type takes a slot
+data-field : (w : ℕ) → w % flagUnit ≤ lastData → fieldOf w ≡ record { role = Data (shapeNumbered (w % flagUnit)); unsigned = eqb (w / flagUnit % 2) 1; count = countFrom (w / countUnit) }
 unfolding fieldOf
-data-field w h = rw (data-code (w % flagUnit) h)
+data-field w h = rw (data-role (w % flagUnit) h)
 
-move-field : (w : ℕ) → lastData < w % flagUnit → takesSlot (fieldOf w .code) ≡ false
+move-field : (w : ℕ) → lastData < w % flagUnit → takesSlot (fieldOf w .role) ≡ false
 unfolding fieldOf
-move-field w h = move-code (w % flagUnit) h
+move-field w h = move-role (w % flagUnit) h
 
 -- ---- the run: c is its cursor, vs are the values so far, and what follows completes them
 
@@ -133,7 +134,7 @@ pub record Ended (bs : List ℕ) (fs : List Field) (vs : List Value) (k : ℕ) :
   pub values : vs ≡ valuesFrom bs 0 fs
   pub steps : k ≡ stepsFrom (length bs) 0 fs
 
--- one more value, of a field that began at `at`; d is the cursor behind it
+-- one more value, of a field that began at `at`; d is the cursor after it
 pub record Found (bs : List ℕ) (fs : List Field) (i at : ℕ) (d : Cursor) (vs : List Value) (v : Value) : Type 0 where
   pub ran : Ran bs fs (i + 1) d (vs ++ (v ∷ []))
   pub begins : getD (drop (length vs) (positionsFrom (length bs) 0 fs)) 0 noPosition ≡ at
@@ -168,24 +169,24 @@ module _ {bs : List ℕ} (n : ℕ) (ws : List ℕ) {i : ℕ} {c : Cursor} {vs : 
       f = fieldOf (getD ws i 0)
 
       abbrev next : Cursor
-      next = movedBy c (f .code) (f .count)
+      next = movedBy c (f .role) (f .count)
 
       still : next .end ≡ c .end
-      still = within (f .code) (f .count) c (ran .inside) .1
+      still = within (f .role) (f .count) c (ran .inside) .1
 
       after-move : Ran bs (decoded n ws) (i + 1) next vs
       after-move =
           let here : i + stepsFrom (c .end) (c .at) (f ∷ rest) ≡ stepsFrom (c .end) 0 (decoded n ws) = step-on refl in
-          let one : stepsFrom (c .end) (c .at) (f ∷ rest) ≡ suc (stepsFrom (c .end) (next .at) rest) = steps-moved c (f .code) (f .unsigned) (f .count) rest (move-field (getD ws i 0) h) in
+          let one : stepsFrom (c .end) (c .at) (f ∷ rest) ≡ suc (stepsFrom (c .end) (next .at) rest) = steps-moved c (f .role) (f .unsigned) (f .count) rest (move-field (getD ws i 0) h) in
           record {
             size = still ∙ ran .size;
-            inside = rw still (within (f .code) (f .count) c (ran .inside) .0);
-            same = rw (← values-moved bs c (ran .size) (f .code) (f .unsigned) (f .count) rest (move-field (getD ws i 0) h)) (on refl);
-            begin = rw (still, ← positions-moved c (f .code) (f .unsigned) (f .count) rest (move-field (getD ws i 0) h)) (begin-on refl);
+            inside = rw still (within (f .role) (f .count) c (ran .inside) .0);
+            same = rw (← values-moved bs c (ran .size) (f .role) (f .unsigned) (f .count) rest (move-field (getD ws i 0) h)) (on refl);
+            begin = rw (still, ← positions-moved c (f .role) (f .unsigned) (f .count) rest (move-field (getD ws i 0) h)) (begin-on refl);
             stepped = rw still (omega arith);
           }
 
-      pub ran-moved : {d : Cursor} → d ≡ movedBy c (fieldOf (getD ws i 0) .code) (fieldOf (getD ws i 0) .count) → Ran bs (decoded n ws) (i + 1) d vs
+      pub ran-moved : {d : Cursor} → d ≡ movedBy c (fieldOf (getD ws i 0) .role) (fieldOf (getD ws i 0) .count) → Ran bs (decoded n ws) (i + 1) d vs
       ran-moved e = rw e after-move
 
     module _ (slot : getD ws i 0 % flagUnit ≤ lastData) {k b : ℕ} (items : k ≡ itemsOf (shapeNumbered (getD ws i 0 % flagUnit)) (countFrom (getD ws i 0 / countUnit)) (c .end - c .at))

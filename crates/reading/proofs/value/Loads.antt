@@ -7,7 +7,7 @@ use mathlib.Core.Bool.{Bool, true, false}
 use mathlib.Core.List.{List, map}
 use borrow.Author.Tests.{eq-eqb, ne-eqb}
 use lib.ListN.{length, length-take, length-map}
-use Rattle.layout.specs.declared.Code.the-variants.{Data}
+use Rattle.layout.specs.declared.Role.the-variants.{Data}
 use Rattle.layout.specs.declared.Shape.{Shape}
 use Rattle.layout.specs.declared.Shape.the-variants.{Text, Digits, Integers, Reals}
 use Rattle.record.specs.Bytes.{part, storeAt, join, digits, ordered, ceilDiv}
@@ -18,8 +18,9 @@ use Rattle.record.proofs.Bytes.{length-digits, length-ordered, length-join, len
 use Rattle.record.proofs.NumberLaws.{length-bigEndian}
 use Rattle.record.proofs.Stores.{length-part}
 use Rattle.record.proofs.Fields.{split}
-use Rattle.layout.specs.Words.{lastDigits, lastIntegers, lastData, shapeNumbered, FitCode}
-use Rattle.reading.specs.value.{Inside, TextOf, SizeOf, LoadedAs}
+use Rattle.layout.specs.Codes.{lastDigits, lastIntegers, lastData}
+use Rattle.layout.specs.inside.Parsing.{shapeNumbered, FitRole}
+use Rattle.reading.specs.inside.value.{Inside, TextOf, SizeOf, LoadedAs}
 use Rattle.layout.proofs.Numbered.{shape-digits, shape-kept, shape-integers, shape-reals}
 
 -- ---- a text
@@ -72,7 +73,7 @@ integers-length : (w : ℕ) (big u : Bool) (n : ℕ) (bs : List ℕ) → length 
 unfolding loaded
 integers-length w big u n bs = simp (length-map, length-pieces)
 
-pub integers-eight : (w : ℕ) (big : Bool) → FitCode (Data (Integers w big)) → Eights (Integers w big)
+pub integers-eight : (w : ℕ) (big : Bool) → FitRole (Data (Integers w big)) → Eights (Integers w big)
 integers-eight w big h =
     record {
       bytes = λ u n bs. integers-bytes w big u n bs;
@@ -102,7 +103,7 @@ reals-eight single big =
     }
 
 -- the form of a number above those of the digits
-eights-numbered : (d : ℕ) → lastDigits < d → d ≤ lastData → FitCode (Data (shapeNumbered d)) → Eights (shapeNumbered d)
+eights-numbered : (d : ℕ) → lastDigits < d → d ≤ lastData → FitRole (Data (shapeNumbered d)) → Eights (shapeNumbered d)
 eights-numbered d l h f =
     split d lastIntegers
     (λ k. let e = shape-integers d l k in rw e (integers-eight _ _ (rw e at f)))
@@ -118,7 +119,7 @@ digits-few : (hex : Bool) (n : ℕ) → n ≤ 8 * ceilDiv n (perByte hex)
 digits-few true n = omega arith
 digits-few false n = omega arith
 
-pub items-few : (s : Shape) (n : ℕ) → FitCode (Data s) → n ≤ 8 * bytesFor s n
+pub items-few : (s : Shape) (n : ℕ) → FitRole (Data s) → n ≤ 8 * bytesFor s n
 items-few (Text pad) n h = omega arith
 items-few (Digits hex high) n h = digits-few hex n
 items-few (Integers w big) n h = omega (arith, integers-eight w big h .few n)

@@ -4,12 +4,6 @@ use borrow.Author.Needs.{needs}
 use Rattle.reals.proofs.double_at.Statement.{statement}
 use Rattle.reals.proofs.double_at.Tie as tie
 
-low-first-requires : tie.Need-low-first-requires
-low-first-requires c κs = search needs
-
-turned-requires : tie.Need-turned-requires
-turned-requires c κs = search needs
-
 returns : tie.Need-returns
 returns c =
     let low = c .before in
@@ -19,4 +13,4 @@ returns c =
     double-is (a .area .now) (a .at) _ _ (λ i. known .shared-slice-known .given i .fits) (start .pre) (low .low-first .ensures) (c .turned .ensures)
 
 pub double-at-spec : {M : Type 1} → statement M
-double-at-spec = tie.close (tie.spec low-first-requires turned-requires returns)
+double-at-spec = tie.close (tie.spec (λ c κs. search needs) (λ c κs. search needs) returns)

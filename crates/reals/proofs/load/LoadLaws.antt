@@ -15,7 +15,7 @@ use Rattle.record.proofs.Bytes.{number-digits}
 use Rattle.record.proofs.NumberLaws.{length-numberBytes}
 use Rattle.record.proofs.Stores.{runs}
 use Rattle.integers.proofs.IntegerLaws.{joined, pieces-take}
-use Rattle.reals.specs.load.{doubleBytes}
+use Rattle.reals.specs.inside.load.{doubleBytes}
 
 -- ---- one real
 

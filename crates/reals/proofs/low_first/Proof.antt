@@ -1,4 +1,4 @@
--- Each byte stands below the number of those behind it.
+-- Each byte stands below the number of those after it.
 use native.Mathlib.Omega.{arith}
 use Rattle.reals.proofs.RealLaws.{EightBytes, eight-bytes, low-eight}
 use borrow.Author.Needs.{needs}
@@ -8,20 +8,8 @@ use Rattle.reals.proofs.low_first.Tie as tie
 small : (c : tie.After-shared-slice-known) → EightBytes (c .before .args .area .now) (c .before .args .at)
 small c = eight-bytes (c .before .args .area .now) (c .before .args .at) (λ i. c .shared-slice-known .given i .fits)
 
-add-x7 : tie.Need-add-x7
-add-x7 c = search needs
-
-shared-slice-read-x7 : tie.Need-shared-slice-read-x7
-shared-slice-read-x7 c = search needs
-
 cast-x7 : tie.Need-cast-x7
 cast-x7 c = omega (arith, small c)
-
-add-x6 : tie.Need-add-x6
-add-x6 c = search needs
-
-shared-slice-read-x6 : tie.Need-shared-slice-read-x6
-shared-slice-read-x6 c = search needs
 
 cast-x6 : tie.Need-cast-x6
 cast-x6 c = omega (arith, small (c .before))
@@ -32,12 +20,6 @@ mul-x6 c = omega (arith, small (c .before))
 add-x6-2 : tie.Need-add-x6-2
 add-x6-2 c = omega (arith, small (c .before))
 
-add-x5 : tie.Need-add-x5
-add-x5 c = search needs
-
-shared-slice-read-x5 : tie.Need-shared-slice-read-x5
-shared-slice-read-x5 c = search needs
-
 cast-x5 : tie.Need-cast-x5
 cast-x5 c = omega (arith, small (c .before .before))
 
@@ -46,12 +28,6 @@ mul-x5 c = omega (arith, small (c .before .before))
 
 add-x5-2 : tie.Need-add-x5-2
 add-x5-2 c = omega (arith, small (c .before .before))
-
-add-x4 : tie.Need-add-x4
-add-x4 c = search needs
-
-shared-slice-read-x4 : tie.Need-shared-slice-read-x4
-shared-slice-read-x4 c = search needs
 
 cast-x4 : tie.Need-cast-x4
 cast-x4 c = omega (arith, small (c .before .before .before))
@@ -62,12 +38,6 @@ mul-x4 c = omega (arith, small (c .before .before .before))
 add-x4-2 : tie.Need-add-x4-2
 add-x4-2 c = omega (arith, small (c .before .before .before))
 
-add-x3 : tie.Need-add-x3
-add-x3 c = search needs
-
-shared-slice-read-x3 : tie.Need-shared-slice-read-x3
-shared-slice-read-x3 c = search needs
-
 cast-x3 : tie.Need-cast-x3
 cast-x3 c = omega (arith, small (c .before .before .before .before))
 
@@ -76,12 +46,6 @@ mul-x3 c = omega (arith, small (c .before .before .before .before))
 
 add-x3-2 : tie.Need-add-x3-2
 add-x3-2 c = omega (arith, small (c .before .before .before .before))
-
-add-x2 : tie.Need-add-x2
-add-x2 c = search needs
-
-shared-slice-read-x2 : tie.Need-shared-slice-read-x2
-shared-slice-read-x2 c = search needs
 
 cast-x2 : tie.Need-cast-x2
 cast-x2 c = omega (arith, small (c .before .before .before .before .before))
@@ -92,12 +56,6 @@ mul-x2 c = omega (arith, small (c .before .before .before .before .before))
 add-x2-2 : tie.Need-add-x2-2
 add-x2-2 c = omega (arith, small (c .before .before .before .before .before))
 
-add-x1 : tie.Need-add-x1
-add-x1 c = search needs
-
-shared-slice-read-x1 : tie.Need-shared-slice-read-x1
-shared-slice-read-x1 c = search needs
-
 cast-x1 : tie.Need-cast-x1
 cast-x1 c = omega (arith, small (c .before .before .before .before .before .before))
 
@@ -106,9 +64,6 @@ mul-x1 c = omega (arith, small (c .before .before .before .before .before .befor
 
 add-x1-2 : tie.Need-add-x1-2
 add-x1-2 c = omega (arith, small (c .before .before .before .before .before .before))
-
-shared-slice-read-result : tie.Need-shared-slice-read-result
-shared-slice-read-result c = search needs
 
 cast-result : tie.Need-cast-result
 cast-result c = omega (arith, small (c .before .before .before .before .before .before .before))
@@ -126,40 +81,40 @@ pub low-first-spec : {M : Type 1} → statement M
 low-first-spec =
     tie.close
     (tie.spec
-    add-x7
-    shared-slice-read-x7
+    (λ c. search needs)
+    (λ c. search needs)
     cast-x7
-    add-x6
-    shared-slice-read-x6
+    (λ c. search needs)
+    (λ c. search needs)
     cast-x6
     mul-x6
     add-x6-2
-    add-x5
-    shared-slice-read-x5
+    (λ c. search needs)
+    (λ c. search needs)
     cast-x5
     mul-x5
     add-x5-2
-    add-x4
-    shared-slice-read-x4
+    (λ c. search needs)
+    (λ c. search needs)
     cast-x4
     mul-x4
     add-x4-2
-    add-x3
-    shared-slice-read-x3
+    (λ c. search needs)
+    (λ c. search needs)
     cast-x3
     mul-x3
     add-x3-2
-    add-x2
-    shared-slice-read-x2
+    (λ c. search needs)
+    (λ c. search needs)
     cast-x2
     mul-x2
     add-x2-2
-    add-x1
-    shared-slice-read-x1
+    (λ c. search needs)
+    (λ c. search needs)
     cast-x1
     mul-x1
     add-x1-2
-    shared-slice-read-result
+    (λ c. search needs)
     cast-result
     mul-result
     add-result

@@ -19,29 +19,11 @@ abbrev μ-loop : tie.MeasureT-loop
 loop-holds : tie.Need-loop-holds Inv-loop μ-loop
 loop-holds c = let a = c .before .args in (omega arith, from-start (a .area .now) (a .start) (a .n))
 
-mul-double-at : tie.Need-mul-double-at Inv-loop μ-loop
-mul-double-at c = omega arith
-
-add-double-at : tie.Need-add-double-at Inv-loop μ-loop
-add-double-at c = omega arith
-
-double-at-requires : tie.Need-double-at-requires Inv-loop μ-loop
-double-at-requires c κs = omega arith
-
-is-nan-requires : tie.Need-is-nan-requires Inv-loop μ-loop
-is-nan-requires c κs = search needs
-
 returns : tie.Need-returns Inv-loop μ-loop
 returns c =
     let turn = c .before .before .before in
     let a = turn .before .before .before .args in
     stops-at (a .area .now) (a .start) (a .n) (turn .before .loop .i) (turn .loop-test .taken) (c .before .before .double-at .ensures) (c .before .is-nan .ensures) (c .if1 .taken) ∙ sym (turn .before .loop .inv .1)
-
-add-i : tie.Need-add-i Inv-loop μ-loop
-add-i c = omega arith
-
-loop-less : tie.Need-loop-less Inv-loop μ-loop
-loop-less c = omega arith
 
 loop-again : tie.Need-loop-again Inv-loop μ-loop
 loop-again c =
@@ -61,12 +43,12 @@ no-nan-spec =
     Inv-loop
     μ-loop
     loop-holds
-    mul-double-at
-    add-double-at
-    double-at-requires
-    is-nan-requires
+    (λ c. omega arith)
+    (λ c. omega arith)
+    (λ c κs. omega arith)
+    (λ c κs. search needs)
     returns
-    add-i
-    loop-less
+    (λ c. omega arith)
+    (λ c. omega arith)
     loop-again
     returns-2)

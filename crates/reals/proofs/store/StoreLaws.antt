@@ -14,7 +14,7 @@ use Rattle.record.specs.Packing.{stored, lowBytes}
 use Rattle.record.proofs.Bytes.{length-pieces, length-digits, length-ordered}
 use Rattle.record.proofs.Stores.{runs}
 use Rattle.integers.proofs.IntegerLaws.{joined}
-use Rattle.reals.specs.store.{singleBytes}
+use Rattle.reals.specs.inside.store.{singleBytes}
 
 -- ---- one real
 

@@ -7,8 +7,5 @@ use Rattle.rescue.proofs.has_header.Tie as tie
 returns : tie.Need-returns
 returns c = refl
 
-add-result : tie.Need-add-result
-add-result c = search needs
-
 pub has-header-spec : {M : Type 1} → statement M
-has-header-spec = tie.close (tie.spec add-result returns)
+has-header-spec = tie.close (tie.spec (λ c. search needs) returns)

@@ -3,30 +3,15 @@ use native.Mathlib.Omega.{arith}
 use mathlib.Core.Path.{sym, _∙_}
 use borrow.Author.Tests.{not-true, not-false}
 use Rattle.record.proofs.Tables.{length-slots}
-use Rattle.rescue.specs.fill.Steps.{Ready}
+use Rattle.rescue.specs.inside.Steps.{RescueReady}
 use Rattle.rescue.proofs.fill.Calls.{rescue-sizes, rescue-version, rescue-slots}
 use Rattle.rescue.proofs.Tests.{known-as, width-as, no-header, a-header}
 use borrow.Author.Needs.{needs}
 use Rattle.rescue.proofs.rescue.Statement.{statement}
 use Rattle.rescue.proofs.rescue.Tie as tie
 
-sizes-fit-requires : tie.Need-sizes-fit-requires
-sizes-fit-requires c κs = search needs
-
-refused-requires : tie.Need-refused-requires
-refused-requires c κs = search needs
-
 returns : tie.Need-returns
 returns c = rw (c .refused .ensures) (rescue-sizes _ _ _ _ _ (sym (c .before .before .sizes-fit .ensures) ∙ not-true _ (c .before .if1 .taken)))
-
-version-of-requires : tie.Need-version-of-requires
-version-of-requires c κs = search needs
-
-version-known-requires : tie.Need-version-known-requires
-version-known-requires c κs = search needs
-
-refused-requires-2 : tie.Need-refused-requires-2
-refused-requires-2 c κs = search needs
 
 returns-2 : tie.Need-returns-2
 returns-2 c =
@@ -36,9 +21,6 @@ returns-2 c =
     let start = sized .before .before .before .before .before in
     rw (c .refused2 .ensures) (rescue-version _ _ _ _ _ (sym (sized .before .sizes-fit .ensures) ∙ not-false _ (sized .if1 .left)) (known-as (start .args .sheet .now) (named .version-of .ensures) (known .version-known .ensures) (not-true _ (c .before .if2 .taken))))
 
-refused-requires-3 : tie.Need-refused-requires-3
-refused-requires-3 c κs = search needs
-
 returns-3 : tie.Need-returns-3
 returns-3 c =
     let told = c .before .before in
@@ -47,14 +29,11 @@ returns-3 c =
     let start = sized .before .before .before .before .before in
     rw (c .refused3 .ensures) (rescue-slots _ _ _ _ _ (sym (sized .before .sizes-fit .ensures) ∙ not-false _ (sized .if1 .left)) (known-as (start .args .sheet .now) (named .version-of .ensures) (told .before .version-known .ensures) (not-false _ (told .if2 .left))) (omega (arith, length-slots (start .args .slots .now), c .before .if3 .taken)))
 
-width-of-requires : tie.Need-width-of-requires
-width-of-requires c κs = search needs
-
 has-header-requires : tie.Need-has-header-requires
 has-header-requires c κs = omega (arith, c .width-of .ensures .1)
 
 -- what was tested before the header is
-ready : (c : tie.After-width-of) → Ready (c .before .before .before .before .before .before .before .before .before .before .args .sheet .now) (c .before .before .before .before .before .before .before .before .before .before .args .legs) (c .before .before .before .before .before .before .before .before .before .before .args .slots .now) (c .before .before .before .before .before .before .before .before .before .before .args .area .now) (c .before .before .before .before .before .before .before .before .before .before .args .mark)
+ready : (c : tie.After-width-of) → RescueReady (c .before .before .before .before .before .before .before .before .before .before .args .sheet .now) (c .before .before .before .before .before .before .before .before .before .before .args .legs) (c .before .before .before .before .before .before .before .before .before .before .args .slots .now) (c .before .before .before .before .before .before .before .before .before .before .args .area .now) (c .before .before .before .before .before .before .before .before .before .before .args .mark)
 ready c =
     let told = c .before .before in
     let named = told .before .before in
@@ -74,15 +53,6 @@ rescue-nothing-requires c κs =
     let start = named .before .before .before .before .before .before in
     (ready wide, no-header (start .args .sheet .now) (named .version-of .ensures) (wide .width-of .ensures .0) (tested .before .has-header .ensures) (not-true _ (tested .if4 .taken)))
 
-same-length : tie.Need-same-length
-same-length c = search needs
-
-same-length-2 : tie.Need-same-length-2
-same-length-2 c = search needs
-
-returns-4 : tie.Need-returns-4
-returns-4 c = search needs
-
 rescue-entries-requires : tie.Need-rescue-entries-requires
 rescue-entries-requires c κs =
     let tested = c .before .before in
@@ -92,35 +62,26 @@ rescue-entries-requires c κs =
     let width = wide .width-of .ensures in
     (ready wide, width-as (start .args .sheet .now) (named .version-of .ensures) (width .0), width .1, a-header (start .args .sheet .now) (named .version-of .ensures) (width .0) (tested .before .has-header .ensures) (not-false _ (tested .if4 .left)))
 
-same-length-3 : tie.Need-same-length-3
-same-length-3 c = search needs
-
-same-length-4 : tie.Need-same-length-4
-same-length-4 c = search needs
-
-returns-5 : tie.Need-returns-5
-returns-5 c = search needs
-
 pub rescue-spec : {M : Type 1} → statement M
 rescue-spec =
     tie.close
     (tie.spec
-    sizes-fit-requires
-    refused-requires
+    (λ c κs. search needs)
+    (λ c κs. search needs)
     returns
-    version-of-requires
-    version-known-requires
-    refused-requires-2
+    (λ c κs. search needs)
+    (λ c κs. search needs)
+    (λ c κs. search needs)
     returns-2
-    refused-requires-3
+    (λ c κs. search needs)
     returns-3
-    width-of-requires
+    (λ c κs. search needs)
     has-header-requires
     rescue-nothing-requires
-    same-length
-    same-length-2
-    returns-4
+    (λ c. search needs)
+    (λ c. search needs)
+    (λ c. search needs)
     rescue-entries-requires
-    same-length-3
-    same-length-4
-    returns-5)
+    (λ c. search needs)
+    (λ c. search needs)
+    (λ c. search needs))

@@ -5,9 +5,6 @@ use borrow.Author.Needs.{needs}
 use Rattle.sheet.proofs.lengths_fit.Statement.{statement}
 use Rattle.sheet.proofs.lengths_fit.Tie as tie
 
-table-fits-requires : tie.Need-table-fits-requires
-table-fits-requires c κs = search needs
-
 returns : tie.Need-returns
 returns c = rw (sym (c .before .table-fits .ensures) ∙ not-true _ (c .if1 .taken))
 
@@ -15,4 +12,4 @@ returns-2 : tie.Need-returns-2
 returns-2 c = rw (sym (c .before .table-fits .ensures) ∙ not-false _ (c .if1 .left))
 
 pub lengths-fit-spec : {M : Type 1} → statement M
-lengths-fit-spec = tie.close (tie.spec table-fits-requires returns returns-2)
+lengths-fit-spec = tie.close (tie.spec (λ c κs. search needs) returns returns-2)

@@ -1,4 +1,5 @@
--- What a run over the entries keeps, and what the pass that measures them keeps: the entries so far, and their values measured.
+-- What a run over the entries keeps, and what the pass that measures them keeps: the entries so far, and their values
+-- measured.
 use Prim.Native.Nat.{ℕ, zero, suc, _+_, _-_, _≤_, _<_}
 use native.Mathlib.Nat.{zero-add}
 use native.Mathlib.Omega.{arith}
@@ -11,10 +12,10 @@ use lib.ListN.{length, take, drop, getD, length-append, length-take, length-drop
 use lib.Seq.{take-nil, take-append-add, drop-drop, getD-drop}
 use Rattle.record.specs.Bytes.{part, join, numberAt}
 use Rattle.record.proofs.Bytes.{and-true}
-use Rattle.sheet_read.specs.declared.check.Extent.{Extent}
-use Rattle.sheet.specs.Entries.{Entry, entryBytes, bodyBytes, valueBytes, beginsEntry, entryIn, entriesIn}
+use Rattle.sheet_read.specs.declared.check.SheetExtent.{SheetExtent}
+use Rattle.sheet.specs.Entries.{Entry, entryBytes, bodyBytes, entryValues, beginsEntry, entryIn, entriesIn}
 use Rattle.sheet.specs.Sheet.{headerSize, entriesEnd, entriesAt}
-use Rattle.sheet_read.specs.check.{frontOf, entryDue, ExtentOf}
+use Rattle.sheet_read.specs.inside.check.{frontOf, entryDue, ExtentOf}
 use Rattle.sheet.proofs.Entries.{begins, length-entry, entries-none, entries-more}
 use Rattle.sheet.proofs.Tables.{values-append}
 
@@ -26,9 +27,9 @@ body-more w [] e = ap length (append-nil (entryBytes w e)) ∙ sym (zero-add (le
 body-more w (d ∷ es) e =
     length-append (entryBytes w d) (bodyBytes w (es ++ (e ∷ []))) ∙ rw (body-more w es e, length-append (entryBytes w d) (bodyBytes w es)) (omega arith)
 
-pub values-more : (es : List Entry) (e : Entry) → valueBytes (es ++ (e ∷ [])) ≡ valueBytes es ++ e .value
-unfolding valueBytes join
-values-more es e = values-append es (e ∷ []) ∙ ap (λ (r : List ℕ). valueBytes es ++ r) (append-nil (e .value))
+pub values-more : (es : List Entry) (e : Entry) → entryValues (es ++ (e ∷ [])) ≡ entryValues es ++ e .value
+unfolding entryValues join
+values-more es e = values-append es (e ∷ []) ∙ ap (λ (r : List ℕ). entryValues es ++ r) (append-nil (e .value))
 
 -- ---- the entry at a place
 
@@ -118,11 +119,11 @@ pub record Measuring (w : ℕ) (sheet : List ℕ) (most at entries values : ℕ)
   pub walk : Walked w sheet at es
   pub count : entries ≡ length es
   pub few : entries ≤ most
-  pub size : values ≡ length (valueBytes es)
+  pub size : values ≡ length (entryValues es)
   pub small : entries + values ≤ at
 
 pub measuring-start : (w : ℕ) (sheet : List ℕ) (most : ℕ) → headerSize w ≤ length sheet → Measuring w sheet most (headerSize w) 0 0
-unfolding valueBytes join
+unfolding entryValues join
 measuring-start w sheet most h = record { es = []; walk = walked-start w sheet h; count = refl; few = omega arith; size = refl; small = omega arith }
 
 module _ {w : ℕ} {sheet : List ℕ} {most at entries values : ℕ} (m : Measuring w sheet most at entries values) where
@@ -135,7 +136,7 @@ module _ {w : ℕ} {sheet : List ℕ} {most at entries values : ℕ} (m : Measur
       let e : Entry = entryIn w (drop at sheet) in
       let t = measuring-there due in
       let one : length (m .es ++ (e ∷ [])) ≡ length (m .es) + 1 = length-append (m .es) (e ∷ []) in
-      let grown : length (valueBytes (m .es ++ (e ∷ []))) ≡ length (valueBytes (m .es)) + length (e .value) = ap length (values-more (m .es) e) ∙ length-append (valueBytes (m .es)) (e .value) in
+      let grown : length (entryValues (m .es ++ (e ∷ []))) ≡ length (entryValues (m .es)) + length (e .value) = ap length (values-more (m .es) e) ∙ length-append (entryValues (m .es)) (e .value) in
       record {
         es = m .es ++ (e ∷ []);
         walk = walked-more (m .walk) h n q;
@@ -145,14 +146,14 @@ module _ {w : ℕ} {sheet : List ℕ} {most at entries values : ℕ} (m : Measur
         small = omega (arith, m .small, t .some, q);
       }
 
-  pub measuring-done : {r : Extent} → entryDue w sheet at entries most ≡ false → r ≡ record { entries = entries; values = values; end = at } → ExtentOf w (frontOf w most sheet) sheet r
+  pub measuring-done : {r : SheetExtent} → entryDue w sheet at entries most ≡ false → r ≡ record { entries = entries; values = values; end = at } → ExtentOf w (frontOf w most sheet) sheet r
   unfolding entriesEnd
   measuring-done {r} h e =
       let all : m .es ≡ frontOf w most sheet = walked-done (m .walk) most (rw (← m .count) (m .few)) (rw (← m .count) h) in
       rw e
       (record {
         entries = m .count ∙ ap length all;
-        values = m .size ∙ ap (λ (x : List Entry). length (valueBytes x)) all;
+        values = m .size ∙ ap (λ (x : List Entry). length (entryValues x)) all;
         end = m .walk .end ∙ ap (λ (x : List Entry). headerSize w + length (bodyBytes w x)) all;
         within = m .walk .within;
         small = m .small;
@@ -160,8 +161,8 @@ module _ {w : ℕ} {sheet : List ℕ} {most at entries values : ℕ} (m : Measur
 
 -- ---- what the first pass answers
 
--- as many as it found are there, and the first so many are those it found
-module _ {w : ℕ} {sheet : List ℕ} (most : ℕ) {x : Extent} (m : ExtentOf w (frontOf w most sheet) sheet x) where
+-- there are at least as many entries as the pass found, and these are the first ones
+module _ {w : ℕ} {sheet : List ℕ} (most : ℕ) {x : SheetExtent} (m : ExtentOf w (frontOf w most sheet) sheet x) where
   pub found-there : x .entries ≤ length (entriesAt w sheet)
   found-there = omega (arith, m .entries, length-take most (entriesAt w sheet))
 

@@ -14,21 +14,21 @@ use Rattle.record.specs.Bytes.{part, storeAt, join, numberAt}
 use Rattle.record.specs.Table.{slotWidth, noPosition, maxSlots, maxArea, itemSize}
 use Rattle.record.specs.Packing.{accepted}
 use Rattle.record.proofs.Stores.{length-storeAt, store-none}
-use Rattle.sheet.specs.Entries.{Entry, valueBytes, beginsEntry, entryIn}
-use Rattle.sheet.specs.Sheet.{headerSize, entriesAt, entryNumbers, slotNumbers, putInto}
-use Rattle.sheet_read.specs.check.{frontOf}
+use Rattle.sheet.specs.Entries.{Entry, entryValues, beginsEntry, entryIn}
+use Rattle.sheet.specs.Sheet.{headerSize, entriesAt, entryNumbers, entriesNumbers, putEntries}
+use Rattle.sheet_read.specs.inside.check.{frontOf}
 use Rattle.sheet_read.proofs.check.Walks.{values-more, There, Walked, walked-start, walked-within, walked-done, walked-there, walked-begins, walked-more}
-use Rattle.sheet_read.specs.fill.{Room, PutRoom, PutAs}
+use Rattle.sheet_read.specs.inside.fill.{Room, PutRoom, PutAs}
 use Rattle.sheet.proofs.Tables.{length-slot-numbers, store-next, front-few}
 
 -- ---- entries one after the other
 
-pub numbers-more : (start : ℕ) (es : List Entry) (e : Entry) → slotNumbers start (es ++ (e ∷ [])) ≡ slotNumbers start es ++ entryNumbers (start + length (valueBytes es)) e
-unfolding slotNumbers valueBytes join
+pub numbers-more : (start : ℕ) (es : List Entry) (e : Entry) → entriesNumbers start (es ++ (e ∷ [])) ≡ entriesNumbers start es ++ entryNumbers (start + length (entryValues es)) e
+unfolding entriesNumbers entryValues join
 numbers-more start [] e = rw add-zero
 numbers-more start (d ∷ es) e =
-    let place : start + length (d .value) + length (valueBytes es) ≡ start + length (d .value ++ valueBytes es) = rw length-append (add-assoc start (length (d .value)) (length (valueBytes es))) in
-    ap (λ (r : List ℕ). entryNumbers start d ++ r) (numbers-more (start + length (d .value)) es e ∙ ap (λ (n : ℕ). slotNumbers (start + length (d .value)) es ++ entryNumbers n e) place)
+    let place : start + length (d .value) + length (entryValues es) ≡ start + length (d .value ++ entryValues es) = rw length-append (add-assoc start (length (d .value)) (length (entryValues es))) in
+    ap (λ (r : List ℕ). entryNumbers start d ++ r) (numbers-more (start + length (d .value)) es e ∙ ap (λ (n : ℕ). entriesNumbers (start + length (d .value)) es ++ entryNumbers n e) place)
 
 -- ---- the entry at a place
 
@@ -64,14 +64,14 @@ pub record Filling (w : ℕ) (sheet : List ℕ) (most : ℕ) (slots₀ area₀ :
   pub walk : Walked w sheet at es
   pub count : set ≡ length es
   pub few : set ≤ most
-  pub next : place ≡ mark + length (valueBytes es)
-  pub table : slots ≡ storeAt slots₀ 0 (slotNumbers mark es)
-  pub values : area ≡ storeAt area₀ mark (valueBytes es)
+  pub next : place ≡ mark + length (entryValues es)
+  pub table : slots ≡ storeAt slots₀ 0 (entriesNumbers mark es)
+  pub values : area ≡ storeAt area₀ mark (entryValues es)
   pub rows : length slots ≡ length slots₀
   pub room : length area ≡ length area₀
 
 pub filling-start : (w : ℕ) (sheet : List ℕ) (most : ℕ) (slots area : List ℕ) (mark : ℕ) → headerSize w ≤ length sheet → Filling w sheet most slots area mark (headerSize w) 0 mark slots area
-unfolding valueBytes join slotNumbers
+unfolding entryValues join entriesNumbers
 filling-start w sheet most slots area mark h =
     record {
       es = [];
@@ -92,13 +92,13 @@ module _ {w : ℕ} {sheet : List ℕ} {most : ℕ} {slots₀ area₀ : List ℕ}
       let few = front-few (f .es) _ (frontOf w most sheet) (walked-within (f .walk) most (rw (← f .count) (f .few))) in
       (omega (arith, few .0, all .rows, all .table, f .count), omega (arith, few .1, all .room, all .limit, f .next))
 
-  pub filling-done : {r : Answer} → most ≤ set → r ≡ accepted set place → record { answer = r; slots = slots; area = area } ≡ putInto slots₀ area₀ mark (frontOf w most sheet)
-  unfolding putInto
+  pub filling-done : {r : Answer} → most ≤ set → r ≡ accepted set place → record { answer = r; slots = slots; area = area } ≡ putEntries slots₀ area₀ mark (frontOf w most sheet)
+  unfolding putEntries
   filling-done {r} h q =
       let e : f .es ≡ frontOf w most sheet = walked-done (f .walk) most (rw (← f .count) (f .few)) (rw (le-ltb (length (f .es)) most (rw (← f .count) h))) in
-      let a : r ≡ accepted (length (frontOf w most sheet)) (mark + length (valueBytes (frontOf w most sheet))) = q ∙ rw (f .count, f .next, e) in
-      let t : slots ≡ slotNumbers mark (frontOf w most sheet) ++ drop (slotWidth * length (frontOf w most sheet)) slots₀ = f .table ∙ rw (e, length-slot-numbers, zero-add) in
-      let v : area ≡ storeAt area₀ mark (valueBytes (frontOf w most sheet)) = f .values ∙ rw e in
+      let a : r ≡ accepted (length (frontOf w most sheet)) (mark + length (entryValues (frontOf w most sheet))) = q ∙ rw (f .count, f .next, e) in
+      let t : slots ≡ entriesNumbers mark (frontOf w most sheet) ++ drop (slotWidth * length (frontOf w most sheet)) slots₀ = f .table ∙ rw (e, length-slot-numbers, zero-add) in
+      let v : area ≡ storeAt area₀ mark (entryValues (frontOf w most sheet)) = f .values ∙ rw e in
       rw (a, t, v)
 
   module _ (due : set < most) where
@@ -116,14 +116,14 @@ module _ {w : ℕ} {sheet : List ℕ} {most : ℕ} {slots₀ area₀ : List ℕ}
     unfolding after
     longer = length-append (f .es) (entryIn w (drop at sheet) ∷ [])
 
-    grown : length (valueBytes after) ≡ length (valueBytes (f .es)) + length (entryIn w (drop at sheet) .value)
+    grown : length (entryValues after) ≡ length (entryValues (f .es)) + length (entryIn w (drop at sheet) .value)
     unfolding after
-    grown = ap length (values-more (f .es) (entryIn w (drop at sheet))) ∙ length-append (valueBytes (f .es)) (entryIn w (drop at sheet) .value)
+    grown = ap length (values-more (f .es) (entryIn w (drop at sheet))) ∙ length-append (entryValues (f .es)) (entryIn w (drop at sheet) .value)
 
     more : length after ≤ most
     more = omega (arith, longer, f .count, due)
 
-    fits : (length after ≤ length (frontOf w most sheet)) × (length (valueBytes after) ≤ length (valueBytes (frontOf w most sheet)))
+    fits : (length after ≤ length (frontOf w most sheet)) × (length (entryValues after) ≤ length (entryValues (frontOf w most sheet)))
     fits = front-few after _ (frontOf w most sheet) (walked-within walk most more)
 
     pub filling-room : PutRoom (entryIn w (drop at sheet)) slots set area place
@@ -142,17 +142,17 @@ module _ {w : ℕ} {sheet : List ℕ} {most : ℕ} {slots₀ area₀ : List ℕ}
         let e : Entry = entryIn w (drop at sheet) in
         let t = walked-there (f .walk) filling-begins in
         let size : w + numberAt w (drop at sheet) 0 ≡ suc w + r = omega (arith, t .some, t .long, p .size) in
-        let numbers : slotNumbers mark after ≡ slotNumbers mark (f .es) ++ entryNumbers place e = numbers-more mark (f .es) e ∙ rw (← f .next) in
-        let len : length (slotNumbers mark after) ≡ slotWidth * length after = length-slot-numbers mark after in
-        let len₀ : length (slotNumbers mark (f .es)) ≡ slotWidth * length (f .es) = length-slot-numbers mark (f .es) in
-        let sum : length (slotNumbers mark after) ≡ length (slotNumbers mark (f .es)) + slotWidth = ap length numbers ∙ length-append (slotNumbers mark (f .es)) (entryNumbers place e) in
-        let bytes : valueBytes after ≡ valueBytes (f .es) ++ e .value = values-more (f .es) e in
-        let table : slots′ ≡ storeAt slots₀ 0 (slotNumbers mark after) =
+        let numbers : entriesNumbers mark after ≡ entriesNumbers mark (f .es) ++ entryNumbers place e = numbers-more mark (f .es) e ∙ rw (← f .next) in
+        let len : length (entriesNumbers mark after) ≡ slotWidth * length after = length-slot-numbers mark after in
+        let len₀ : length (entriesNumbers mark (f .es)) ≡ slotWidth * length (f .es) = length-slot-numbers mark (f .es) in
+        let sum : length (entriesNumbers mark after) ≡ length (entriesNumbers mark (f .es)) + slotWidth = ap length numbers ∙ length-append (entriesNumbers mark (f .es)) (entryNumbers place e) in
+        let bytes : entryValues after ≡ entryValues (f .es) ++ e .value = values-more (f .es) e in
+        let table : slots′ ≡ storeAt slots₀ 0 (entriesNumbers mark after) =
         p .table ∙ ap (λ (s : List ℕ). storeAt s (slotWidth * set) (entryNumbers place e)) (f .table)
-        ∙ store-next slots₀ 0 (slotNumbers mark (f .es)) (entryNumbers place e) (slotWidth * set) (omega (arith, len₀, f .count)) (omega (arith, len, sum, fits .0, all .rows)) ∙ ap (storeAt slots₀ 0) (sym numbers) in
-        let values : area′ ≡ storeAt area₀ mark (valueBytes after) =
+        ∙ store-next slots₀ 0 (entriesNumbers mark (f .es)) (entryNumbers place e) (slotWidth * set) (omega (arith, len₀, f .count)) (omega (arith, len, sum, fits .0, all .rows)) ∙ ap (storeAt slots₀ 0) (sym numbers) in
+        let values : area′ ≡ storeAt area₀ mark (entryValues after) =
         p .values ∙ ap (λ (s : List ℕ). storeAt s place (e .value)) (f .values)
-        ∙ store-next area₀ mark (valueBytes (f .es)) (e .value) place (f .next) (omega (arith, grown, fits .1, all .room)) ∙ ap (storeAt area₀ mark) (sym bytes) in
+        ∙ store-next area₀ mark (entryValues (f .es)) (e .value) place (f .next) (omega (arith, grown, fits .1, all .room)) ∙ ap (storeAt area₀ mark) (sym bytes) in
         record {
           es = after;
           walk = rw size at walk;
@@ -161,6 +161,6 @@ module _ {w : ℕ} {sheet : List ℕ} {most : ℕ} {slots₀ area₀ : List ℕ}
           next = omega (arith, grown, p .size, f .next);
           table = table;
           values = values;
-          rows = ap length table ∙ length-storeAt slots₀ 0 (slotNumbers mark after) (omega (arith, fits .0, all .rows, len));
-          room = ap length values ∙ length-storeAt area₀ mark (valueBytes after) (omega (arith, fits .1, all .room));
+          rows = ap length table ∙ length-storeAt slots₀ 0 (entriesNumbers mark after) (omega (arith, fits .0, all .rows, len));
+          room = ap length values ∙ length-storeAt area₀ mark (entryValues after) (omega (arith, fits .1, all .room));
         }

@@ -8,23 +8,8 @@ use borrow.Author.Needs.{needs}
 use Rattle.sheet_read.proofs.read.Statement.{statement}
 use Rattle.sheet_read.proofs.read.Tie as tie
 
-lent-fits-requires : tie.Need-lent-fits-requires
-lent-fits-requires c κs = search needs
-
-refused-requires : tie.Need-refused-requires
-refused-requires c κs = search needs
-
 returns : tie.Need-returns
 returns c = rw (c .refused .ensures) (read-sizes _ _ _ _ (sym (c .before .before .lent-fits .ensures) ∙ not-true _ (c .before .if1 .taken)))
-
-version-of-requires : tie.Need-version-of-requires
-version-of-requires c κs = search needs
-
-version-known-requires : tie.Need-version-known-requires
-version-known-requires c κs = search needs
-
-refused-requires-2 : tie.Need-refused-requires-2
-refused-requires-2 c κs = search needs
 
 returns-2 : tie.Need-returns-2
 returns-2 c =
@@ -33,14 +18,8 @@ returns-2 c =
     let sized = named .before in
     rw (c .refused2 .ensures) (unknown _ _ _ _ (sym (sized .before .lent-fits .ensures) ∙ not-false _ (sized .if1 .left)) (named .version-of .ensures) (known .version-known .ensures) (not-true _ (c .before .if2 .taken)))
 
-width-of-requires : tie.Need-width-of-requires
-width-of-requires c κs = search needs
-
 header-fits-requires : tie.Need-header-fits-requires
 header-fits-requires c κs = omega (arith, c .width-of .ensures .1)
-
-refused-requires-3 : tie.Need-refused-requires-3
-refused-requires-3 c κs = search needs
 
 returns-3 : tie.Need-returns-3
 returns-3 c =
@@ -60,31 +39,22 @@ read-entries-requires c κs =
     let sized = named .before in
     opened-as _ _ _ _ (sym (sized .before .lent-fits .ensures) ∙ not-false _ (sized .if1 .left)) (named .version-of .ensures) (known .version-known .ensures) (not-false _ (wide .before .if2 .left)) (wide .width-of .ensures) (headed .header-fits .ensures) (not-false _ (c .before .before .if3 .left))
 
-same-length : tie.Need-same-length
-same-length c = search needs
-
-same-length-2 : tie.Need-same-length-2
-same-length-2 c = search needs
-
-returns-4 : tie.Need-returns-4
-returns-4 c = search needs
-
 pub read-spec : {M : Type 1} → statement M
 read-spec =
     tie.close
     (tie.spec
-    lent-fits-requires
-    refused-requires
+    (λ c κs. search needs)
+    (λ c κs. search needs)
     returns
-    version-of-requires
-    version-known-requires
-    refused-requires-2
+    (λ c κs. search needs)
+    (λ c κs. search needs)
+    (λ c κs. search needs)
     returns-2
-    width-of-requires
+    (λ c κs. search needs)
     header-fits-requires
-    refused-requires-3
+    (λ c κs. search needs)
     returns-3
     read-entries-requires
-    same-length
-    same-length-2
-    returns-4)
+    (λ c. search needs)
+    (λ c. search needs)
+    (λ c. search needs))

@@ -16,9 +16,6 @@ cast-refused c =
     let measured = c .before .before .before in
     omega (arith, measured .measure .ensures .within, bounds (measured .before .before .before .before .pre) .lengths .size)
 
-refused-requires : tie.Need-refused-requires
-refused-requires c κs = search needs
-
 returns : tie.Need-returns
 returns c =
     let measured = c .before .before .before .before in
@@ -29,17 +26,11 @@ version-needed-requires c κs =
     let measured = c .before .before in
     few-bytes (measured .before .before .before .before .pre) (measured .measure .ensures)
 
-refused-requires-2 : tie.Need-refused-requires-2
-refused-requires-2 c κs = search needs
-
 returns-2 : tie.Need-returns-2
 returns-2 c =
     let asked = c .before .before in
     let measured = asked .before .before .before in
     rw (c .refused2 .ensures) (needless (measured .before .before .before .before .pre) (measured .measure .ensures) (asked .before .if1 .left) (asked .version-needed .ensures) (not-true _ (c .before .if2 .taken)))
-
-refused-requires-3 : tie.Need-refused-requires-3
-refused-requires-3 c κs = search needs
 
 returns-3 : tie.Need-returns-3
 returns-3 c =
@@ -52,9 +43,6 @@ sub-if4 : tie.Need-sub-if4
 sub-if4 c =
     let measured = c .before .before .before .before .before .before in
     bounds (measured .before .before .before .before .pre) .start
-
-refused-requires-4 : tie.Need-refused-requires-4
-refused-requires-4 c κs = search needs
 
 returns-4 : tie.Need-returns-4
 returns-4 c =
@@ -74,12 +62,6 @@ fill-requires c κs =
     let o = measured .before .before .before .before .pre in
     ((o .narrow, has-header o, all-found o (measured .measure .ensures)), has-room o (measured .measure .ensures) (asked .before .if1 .left) (asked .version-needed .ensures) (not-false _ (ruled .if2 .left)) (enough .if3 .left) (c .before .before .if4 .left))
 
-same-length : tie.Need-same-length
-same-length c = search needs
-
-same-length-2 : tie.Need-same-length-2
-same-length-2 c = search needs
-
 returns-5 : tie.Need-returns-5
 returns-5 c =
     let filled = c .before .before .before .before in
@@ -96,17 +78,17 @@ read-entries-spec =
     (tie.spec
     measure-requires
     cast-refused
-    refused-requires
+    (λ c κs. search needs)
     returns
     version-needed-requires
-    refused-requires-2
+    (λ c κs. search needs)
     returns-2
-    refused-requires-3
+    (λ c κs. search needs)
     returns-3
     sub-if4
-    refused-requires-4
+    (λ c κs. search needs)
     returns-4
     fill-requires
-    same-length
-    same-length-2
+    (λ c. search needs)
+    (λ c. search needs)
     returns-5)

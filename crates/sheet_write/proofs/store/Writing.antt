@@ -14,17 +14,18 @@ use Rattle.layout.specs.Refusals.{if_then_else_, ok, refused}
 use Rattle.layout.proofs.Laws.{demanded}
 use Rattle.record.specs.Bytes.{storeAt, join, numberBytes}
 use Rattle.record.specs.declared.slots.Slot.{Slot}
-use Rattle.record.specs.Slots.{slotAt, SlotAt}
+use Rattle.record.specs.Slots.{slotAt}
+use Rattle.record.specs.inside.Slots.{SlotAt}
 use Rattle.record.specs.Table.{slotsOf, slotWidth, maxSlots, maxArea, numberLimit, itemSize}
 use Rattle.record.proofs.Stores.{length-storeAt, store-none, runs, Wrote, wrote-none, wrote-next, add-run}
 use Rattle.record.proofs.SlotLaws.{slot-here}
 use Rattle.record.proofs.Tables.{length-slots}
 use Rattle.record.proofs.NumberLaws.{length-numberBytes}
-use Rattle.sheet_write.specs.declared.store.Measured.the-variants.{Length, Bad}
+use Rattle.sheet_write.specs.declared.store.SheetMeasured.the-variants.{Length, Bad}
 use Rattle.sheet.specs.Entries.{entryBytes, bodyBytes}
-use Rattle.sheet.specs.Sheet.{headerSize, sheetBytes, valueSize, entryOf, entriesOf, slotFits, slotsFit, entriesEnd}
-use Rattle.sheet.specs.Steps.{sheetFor, bodyFor}
-use Rattle.sheet_write.specs.store.{MeasuredAs, EntryRoom, BodyRoom}
+use Rattle.sheet.specs.Sheet.{headerSize, sheetBytes, valueSize, entryOf, entriesOf, slotWritable, slotsWritable, entriesEnd}
+use Rattle.sheet.specs.inside.Steps.{sheetFor, bodyFor}
+use Rattle.sheet_write.specs.inside.store.{MeasuredAs, EntryRoom, BodyRoom}
 use Rattle.sheet.proofs.Entries.{length-entry}
 use Rattle.sheet.proofs.Tables.{slot-inside, length-value, store-next}
 use Rattle.sheet.proofs.Sheets.{length-sheet}
@@ -41,7 +42,7 @@ pub value-none : (out area : List ℕ) (at : ℕ) (s : Slot) → s .kind ≡ 0 �
 unfolding entryOf
 value-none out area at s h = rw (eq-eqb (s .kind) 0 h) (sym (store-none out at))
 
-module _ (area : List ℕ) (s : Slot) (fits : slotFits (length area) s ≡ true) where
+module _ (area : List ℕ) (s : Slot) (fits : slotWritable (length area) s ≡ true) where
   pub value-inside : (s .kind ≡ 0 → ⊥) → s .start + valueSize s ≤ length area
   value-inside h = let e : eqb (s .kind) 0 ≡ false = ne-eqb (s .kind) 0 h in rw e (slot-inside area s fits e)
 
@@ -105,28 +106,28 @@ module _ (w : ℕ) (area ns : List ℕ) where
 
   -- the check of the slots from number k on
   module _ (k : ℕ) (inside : slotWidth * k + slotWidth ≤ length ns) where
-    fits-here : slotsFit area k (drop k (slotsOf ns)) ≡ ok tt → (slotFits (length area) (slotAt ns k) ≡ true) × (slotsFit area (suc k) (drop (suc k) (slotsOf ns)) ≡ ok tt)
-    unfolding slotsFit
-    fits-here h = demanded (slotFits (length area) (slotAt ns k)) BadSlot k (λ _. slotsFit area (suc k) (drop (suc k) (slotsOf ns))) tt (rw (slot-next ns k inside) at h)
+    fits-here : slotsWritable area k (drop k (slotsOf ns)) ≡ ok tt → (slotWritable (length area) (slotAt ns k) ≡ true) × (slotsWritable area (suc k) (drop (suc k) (slotsOf ns)) ≡ ok tt)
+    unfolding slotsWritable
+    fits-here h = demanded (slotWritable (length area) (slotAt ns k)) BadSlot k (λ _. slotsWritable area (suc k) (drop (suc k) (slotsOf ns))) tt (rw (slot-next ns k inside) at h)
 
-    fits-next : slotFits (length area) (slotAt ns k) ≡ true → slotsFit area k (drop k (slotsOf ns)) ≡ slotsFit area (suc k) (drop (suc k) (slotsOf ns))
-    unfolding slotsFit
+    fits-next : slotWritable (length area) (slotAt ns k) ≡ true → slotsWritable area k (drop k (slotsOf ns)) ≡ slotsWritable area (suc k) (drop (suc k) (slotsOf ns))
+    unfolding slotsWritable
     fits-next h = rw (slot-next ns k inside, h)
 
-    fits-not : slotFits (length area) (slotAt ns k) ≡ false → slotsFit area k (drop k (slotsOf ns)) ≡ refused BadSlot k
-    unfolding slotsFit
+    fits-not : slotWritable (length area) (slotAt ns k) ≡ false → slotsWritable area k (drop k (slotsOf ns)) ≡ refused BadSlot k
+    unfolding slotsWritable
     fits-not h = rw (slot-next ns k inside, h)
 
-  fits-done : (k : ℕ) → length ns / slotWidth ≤ k → slotsFit area k (drop k (slotsOf ns)) ≡ ok tt
-  unfolding slotsFit
+  fits-done : (k : ℕ) → length ns / slotWidth ≤ k → slotsWritable area k (drop k (slotsOf ns)) ≡ ok tt
+  unfolding slotsWritable
   fits-done k h = rw (no-slot k h)
 
   -- ---- the first pass
 
-  -- the slots before number k fit, and their entries take so many bytes after the header
+  -- the slots before number k fit, and with their entries the header takes `size` bytes
   pub record Sizing (k size : ℕ) : Type 0 where
     pub within : slotWidth * k ≤ length ns
-    pub fits : slotsFit area 0 (slotsOf ns) ≡ slotsFit area k (drop k (slotsOf ns))
+    pub fits : slotsWritable area 0 (slotsOf ns) ≡ slotsWritable area k (drop k (slotsOf ns))
     pub is : size ≡ headerSize w + length (runs k (entryAt w area ns))
     pub small : size ≤ headerSize w + k * (suc w + maxArea)
 
@@ -143,12 +144,12 @@ module _ (w : ℕ) (area ns : List ℕ) where
     inside : slotWidth * k + slotWidth ≤ length ns
     inside = omega arith
 
-    pub sizing-bad : length ns ≤ slotWidth * maxSlots → slotFits (length area) a ≡ false → MeasuredAs w ns area (Bad k)
-    sizing-bad few h = (s .fits ∙ fits-not k inside (subst (λ (t : Slot). slotFits (length area) t ≡ false) (e .same) h), omega arith)
+    pub sizing-bad : length ns ≤ slotWidth * maxSlots → slotWritable (length area) a ≡ false → MeasuredAs w ns area (Bad k)
+    sizing-bad few h = (s .fits ∙ fits-not k inside (subst (λ (t : Slot). slotWritable (length area) t ≡ false) (e .same) h), omega arith)
 
-    module _ (h : slotFits (length area) a ≡ true) (limit : length area ≤ maxArea) where
-      fit : slotFits (length area) (slotAt ns k) ≡ true
-      fit = subst (λ (t : Slot). slotFits (length area) t ≡ true) (e .same) h
+    module _ (h : slotWritable (length area) a ≡ true) (limit : length area ≤ maxArea) where
+      fit : slotWritable (length area) (slotAt ns k) ≡ true
+      fit = subst (λ (t : Slot). slotWritable (length area) t ≡ true) (e .same) h
 
       sizing-small : (n : ℕ) → n ≡ valueSize a → n ≤ maxArea
       sizing-small n q = omega (arith, q, size-small area a h, limit)
@@ -174,11 +175,11 @@ module _ (w : ℕ) (area ns : List ℕ) where
   -- the entries of the slots before number k stand after the header, and the next is due at the place `at`
   pub record Storing (lent out : List ℕ) (k at : ℕ) : Type 0 where
     pub within : slotWidth * k ≤ length ns
-    pub fits : slotsFit area k (drop k (slotsOf ns)) ≡ ok tt
+    pub fits : slotsWritable area k (drop k (slotsOf ns)) ≡ ok tt
     pub place : at ≡ headerSize w + length (runs k (entryAt w area ns))
     pub wrote : Wrote lent (headerSize w) (entryAt w area ns) out k
 
-  pub storing-none : (lent : List ℕ) → slotsFit area 0 (slotsOf ns) ≡ ok tt → Storing lent lent 0 (headerSize w)
+  pub storing-none : (lent : List ℕ) → slotsWritable area 0 (slotsOf ns) ≡ ok tt → Storing lent lent 0 (headerSize w)
   unfolding runs
   storing-none lent h = record { within = omega arith; fits = h; place = omega arith; wrote = wrote-none }
 
@@ -189,7 +190,7 @@ module _ (w : ℕ) (area ns : List ℕ) where
     storing-inside : slotWidth * k + slotWidth ≤ length ns
     storing-inside = omega arith
 
-    storing-fits : slotFits (length area) (slotAt ns k) ≡ true
+    storing-fits : slotWritable (length area) (slotAt ns k) ≡ true
     storing-fits = fits-here k storing-inside (s .fits) .0
 
     storing-entry : at + length (entryAt w area ns k) ≤ length lent

@@ -7,20 +7,14 @@ use native.Mathlib.Omega.{arith}
 use Rattle.layout.specs.declared.Refusal.the-variants.{BadSlot}
 use Rattle.layout.specs.Refusals.{refused}
 use Rattle.record.specs.Table.{slotsOf}
-use Rattle.sheet.specs.Sheet.{slotsFit}
+use Rattle.sheet.specs.Sheet.{slotsWritable}
 use Rattle.sheet.proofs.Calls.{lengths, write-sizes, write-bad}
 use borrow.Author.Needs.{needs}
 use Rattle.sheet_write.proofs.write.Statement.{statement}
 use Rattle.sheet_write.proofs.write.Tie as tie
 
-bad : (c : tie.After-known-told) → (slotsFit (c .before .before .before .before .before .before .before .before .before .args .area .now) 0 (slotsOf (c .before .before .before .before .before .before .before .before .before .args .slots .now)) ≡ refused BadSlot (c .before .m .given .0 .0)) × (c .before .m .given .0 .0 ≤ 64)
+bad : (c : tie.After-known-told) → (slotsWritable (c .before .before .before .before .before .before .before .before .before .args .area .now) 0 (slotsOf (c .before .before .before .before .before .before .before .before .before .args .slots .now)) ≡ refused BadSlot (c .before .m .given .0 .0)) × (c .before .m .given .0 .0 ≤ 64)
 bad c = rw (c .before .m .given .1) at (c .before .before .before .measure .ensures)
-
-lengths-fit-requires : tie.Need-lengths-fit-requires
-lengths-fit-requires c κs = search needs
-
-refused-requires : tie.Need-refused-requires
-refused-requires c κs = search needs
 
 returns : tie.Need-returns
 returns c = rw (c .refused .ensures) (write-sizes _ _ _ (sym (c .before .before .lengths-fit .ensures) ∙ not-true _ (c .before .if1 .taken)))
@@ -30,17 +24,8 @@ measure-requires c κs =
     let l = lengths (length (c .before .before .before .before .before .args .slots .now)) (length (c .before .before .before .before .before .args .area .now)) (length (c .before .before .before .before .before .args .sheet .now)) (sym (c .before .lengths-fit .ensures) ∙ not-false _ (c .if1 .left)) in
     (l .table, l .limit)
 
-enum-known-m : tie.Need-enum-known-m
-enum-known-m c = search needs
-
 cast-refused : tie.Need-cast-refused
 cast-refused c = omega (arith, bad c .1)
-
-refused-requires-2 : tie.Need-refused-requires-2
-refused-requires-2 c κs = search needs
-
-enum-known-m-2 : tie.Need-enum-known-m-2
-enum-known-m-2 c = search needs
 
 write-sheet-requires : tie.Need-write-sheet-requires
 write-sheet-requires c κs =
@@ -51,25 +36,19 @@ write-sheet-requires c κs =
 returns-2 : tie.Need-returns-2
 returns-2 c = rw (c .refused2 .ensures) (write-bad _ _ _ (sym (c .before .before .before .before .before .before .lengths-fit .ensures) ∙ not-false _ (c .before .before .before .before .before .if1 .left)) _ _ (bad (c .before) .0))
 
-same-length : tie.Need-same-length
-same-length c = search needs
-
-returns-3 : tie.Need-returns-3
-returns-3 c = search needs
-
 pub write-spec : {M : Type 1} → statement M
 write-spec =
     tie.close
     (tie.spec
-    lengths-fit-requires
-    refused-requires
+    (λ c κs. search needs)
+    (λ c κs. search needs)
     returns
     measure-requires
-    enum-known-m
+    (λ c. search needs)
     cast-refused
-    refused-requires-2
-    enum-known-m-2
+    (λ c κs. search needs)
+    (λ c. search needs)
     write-sheet-requires
     returns-2
-    same-length
-    returns-3)
+    (λ c. search needs)
+    (λ c. search needs))

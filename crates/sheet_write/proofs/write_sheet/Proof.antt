@@ -7,20 +7,11 @@ use borrow.Author.Needs.{needs}
 use Rattle.sheet_write.proofs.write_sheet.Statement.{statement}
 use Rattle.sheet_write.proofs.write_sheet.Tie as tie
 
-version-for-requires : tie.Need-version-for-requires
-version-for-requires c κs = search needs
-
-width-of-requires : tie.Need-width-of-requires
-width-of-requires c κs = search needs
-
 length-in-requires : tie.Need-length-in-requires
 length-in-requires c κs =
     let chosen = c .before in
     let start = chosen .before .before .before .before in
     (start .pre .measured .2, few-slots (start .pre) (chosen .version-for .ensures))
-
-refused-requires : tie.Need-refused-requires
-refused-requires c κs = search needs
 
 returns : tie.Need-returns
 returns c =
@@ -44,12 +35,6 @@ cast-accepted c =
     let l = lengths (length (start .args .slots .now)) (length (start .args .area .now)) (length (start .args .sheet .now)) (start .pre .sizes) in
     omega (arith, l .size, tested .if1 .left)
 
-accepted-requires : tie.Need-accepted-requires
-accepted-requires c κs = search needs
-
-same-length : tie.Need-same-length
-same-length c = search needs
-
 returns-2 : tie.Need-returns-2
 returns-2 c =
     let tested = c .before .before .before .before .before in
@@ -65,13 +50,13 @@ pub write-sheet-spec : {M : Type 1} → statement M
 write-sheet-spec =
     tie.close
     (tie.spec
-    version-for-requires
-    width-of-requires
+    (λ c κs. search needs)
+    (λ c κs. search needs)
     length-in-requires
-    refused-requires
+    (λ c κs. search needs)
     returns
     fill-requires
     cast-accepted
-    accepted-requires
-    same-length
+    (λ c κs. search needs)
+    (λ c. search needs)
     returns-2)

@@ -11,9 +11,6 @@ use Rattle.slot_table.proofs.is_inside.Tie as tie
 returns : tie.Need-returns
 returns c = simp (lt-leb _ _ (c .if1 .taken))
 
-item-size-requires : tie.Need-item-size-requires
-item-size-requires c κs = search needs
-
 small : (c : tie.After-struct-known) → c .before .before .before .args .a .len * c .before .item-size .result ≤ numberLimit * integerSize
 small c =
     let a = c .before .before .before .args .a in
@@ -29,4 +26,4 @@ returns-2 : tie.Need-returns-2
 returns-2 c = simp (le-leb _ _ (c .before .before .before .if1 .left), c .before .before .item-size .ensures)
 
 pub is-inside-spec : {M : Type 1} → statement M
-is-inside-spec = tie.close (tie.spec returns item-size-requires mul-result add-result returns-2)
+is-inside-spec = tie.close (tie.spec returns (λ c κs. search needs) mul-result add-result returns-2)

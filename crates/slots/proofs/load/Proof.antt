@@ -1,4 +1,6 @@
--- `slots::load` meets its contract: a walk of its MIR, by hand, with a call of `taken`, a loop and, in the loop, a call of `put_slot`. The slots are looked into once, before the loop, and shut once, after it. The numbers are lent again for each call, and come back.
+-- `slots::load` meets its contract: a walk of its MIR, by hand, with a call of `taken`, a loop and, in the loop, a call
+-- of `put_slot`. The slots are looked into once, before the loop, and shut once, after it. The numbers are lent again
+-- for each call, and come back.
 use mathlib.Core.Path.{_≡_, refl, sym, ap, subst, _∙_}
 use Prim.Native.Nat.{ℕ, suc, _+_, _*_, _-_, _<_, _≤_, _^_, zero-le}
 use native.Mathlib.Nat.{lt-of-lt-of-le, lt-of-le-of-lt}
@@ -45,14 +47,14 @@ use denote.Triple.Spec.{Meets, tripleOf}
 use denote.Triple.Table.{entered, cited}
 use denote.Triple.Walked.{says, needs, Stays, stay-slice, stay-dropped, walkOf, goes-slice, goes-dropped, Walks, ends-at, walked, walk-meets}
 use denote.Exit.{yes}
-use Rattle.slots.specs.declared.Slot.{Slot}
+use Rattle.slots.specs.declared.SlotRecord.{SlotRecord}
 use Rattle.record.specs.Table.{slotWidth, maxSlots}
 use Rattle.slots.specs.Slots.{maxNumbers, putAt, taken}
 use Rattle.slots.proofs.Runs.{noSlot, slotOf, loaded, length-loaded, loaded-is}
 use Rattle.slots.proofs.Limits.{taken-within}
 use Rattle.slots.proofs.Turns.{recordSize, numbers-fit, bytes-fit, place-fits, next-fits, slot-more, less-left, one-more, held, over}
-use Rattle.slots.proofs.Slot as T
-use Rattle.slots.proofs.Slot.Laws as T′
+use Rattle.slots.proofs.SlotRecord as T
+use Rattle.slots.proofs.SlotRecord.Laws as T′
 use Rattle.slots.proofs.Requires.{no-requires}
 use Rattle.slots.proofs.Again.{LentAgain, lends-again, comes-back}
 use Rattle.slots.proofs.put_slot as put-slot
@@ -94,9 +96,9 @@ Taken 𝓤 H A mem run = tripleOf 𝓤 H A tk.signature (tk.spec 𝓤 H A mem ru
 abbrev PutSlot : {M : Type 1} (𝓤 : URA M) (H : Heap 𝓤) (A : Atoms 𝓤) (mem : Memory → SProp 𝓤) (run : Routine → Fun 𝓤) → Contract 𝓤
 PutSlot 𝓤 H A mem run = tripleOf 𝓤 H A put-slot.signature (put-slot.spec 𝓤 H A mem run)
 
-module _ {M : Type 1} (𝓤 : URA M) (H : Heap 𝓤) (A : Atoms 𝓤) (W : Given 𝓤 H A) (mem : Memory → SProp 𝓤) (run : Routine → Fun 𝓤) (κ κ₁ : Lft) (q q₁ : Share) (x : RefT (List Slot)) (b o : ℕ) (γ : GName) (ms : List ℕ)
+module _ {M : Type 1} (𝓤 : URA M) (H : Heap 𝓤) (A : Atoms 𝓤) (W : Given 𝓤 H A) (mem : Memory → SProp 𝓤) (run : Routine → Fun 𝓤) (κ κ₁ : Lft) (q q₁ : Share) (x : RefT (List SlotRecord)) (b o : ℕ) (γ : GName) (ms : List ℕ)
     (gn : Room R (length (x .now))) (gm : Room u32 (length ms)) (enough : maxNumbers ≤ length ms) where
-  abbrev ys : List Slot
+  abbrev ys : List SlotRecord
   ys = x .now
 
   abbrev n : ℕ
@@ -164,7 +166,7 @@ module _ {M : Type 1} (𝓤 : URA M) (H : Heap 𝓤) (A : Atoms 𝓤) (W : Given
 
   -- ---- the call of `put_slot`: what the callee's triple binds outside, and what it asks
   abbrev Args : Type 0
-  Args = RefT (List ℕ) × (ℕ × (Slot × Unit {0}))
+  Args = RefT (List ℕ) × (ℕ × (SlotRecord × Unit {0}))
 
   abbrev args : GName → ℕ → Args
   args δ i = (x₁ δ (done-at i), (i * slotWidth, (slotOf ys i, tt)))

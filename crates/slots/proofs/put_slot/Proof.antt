@@ -18,35 +18,11 @@ third ns k a b l = below-set ℕ (set ns k a) (k + 2) (k + 1) b (below-set ℕ n
 fourth : (ns : List ℕ) (k a b d : ℕ) → k + slotWidth ≤ length ns → k + 3 < length (set (set (set ns k a) (k + 1) b) (k + 2) d)
 fourth ns k a b d l = simp length-set (omega arith)
 
-mul-numbers : tie.Need-mul-numbers
-mul-numbers c = search needs
-
-slice-write-numbers : tie.Need-slice-write-numbers
-slice-write-numbers c = search needs
-
-add-numbers : tie.Need-add-numbers
-add-numbers c = search needs
-
-mul-numbers-2 : tie.Need-mul-numbers-2
-mul-numbers-2 c = search needs
-
 slice-write-numbers-2 : tie.Need-slice-write-numbers-2
 slice-write-numbers-2 c = second (c .args .numbers .now) (c .args .at) (c .args .slot .kind) (search needs)
 
-add-numbers-2 : tie.Need-add-numbers-2
-add-numbers-2 c = search needs
-
-mul-numbers-3 : tie.Need-mul-numbers-3
-mul-numbers-3 c = search needs
-
 slice-write-numbers-3 : tie.Need-slice-write-numbers-3
 slice-write-numbers-3 c = third (c .args .numbers .now) (c .args .at) (c .args .slot .kind) (c .args .slot .start) (search needs)
-
-add-numbers-3 : tie.Need-add-numbers-3
-add-numbers-3 c = search needs
-
-mul-numbers-4 : tie.Need-mul-numbers-4
-mul-numbers-4 c = search needs
 
 slice-write-numbers-4 : tie.Need-slice-write-numbers-4
 slice-write-numbers-4 c = fourth (c .args .numbers .now) (c .args .at) (c .args .slot .kind) (c .args .slot .start) (c .args .slot .length) (search needs)
@@ -54,23 +30,20 @@ slice-write-numbers-4 c = fourth (c .args .numbers .now) (c .args .at) (c .args 
 same-length : tie.Need-same-length
 same-length c = length-put (c .args .numbers .now) (c .args .at) (c .args .slot)
 
-returns : tie.Need-returns
-returns c = search needs
-
 pub put-slot-spec : {M : Type 1} → statement M
 put-slot-spec =
     tie.close
     (tie.spec
-    mul-numbers
-    slice-write-numbers
-    add-numbers
-    mul-numbers-2
+    (λ c. search needs)
+    (λ c. search needs)
+    (λ c. search needs)
+    (λ c. search needs)
     slice-write-numbers-2
-    add-numbers-2
-    mul-numbers-3
+    (λ c. search needs)
+    (λ c. search needs)
     slice-write-numbers-3
-    add-numbers-3
-    mul-numbers-4
+    (λ c. search needs)
+    (λ c. search needs)
     slice-write-numbers-4
     same-length
-    returns)
+    (λ c. search needs))

@@ -1,4 +1,5 @@
--- Reading over slots is reading into their numbers: of no more slots than a table may have it is made over the first part of the scratch, and of more it is refused.
+-- Reading over slots is reading into their numbers: of no more slots than a table may have it is made over the first
+-- part of the scratch, and of more it is refused.
 use mathlib.Core.Path.{_≡_, sym, ap, _∙_}
 use Prim.Native.Nat.{ℕ, _*_, _<_, _≤_}
 use native.Mathlib.Nat.{lt-of-not-le}
@@ -12,11 +13,11 @@ use Rattle.record.specs.declared.ReadAnswer.{ReadAnswer}
 use Rattle.record.specs.Table.{slotWidth, maxSlots}
 use Rattle.record.specs.Packing.{refusal}
 use Rattle.record.specs.Reading.{read, readSteps, reads, ReadAll, readAll}
-use Rattle.slots.specs.declared.Slot.{Slot}
-use Rattle.slots.specs.Slots.{numbersOf, slotsFrom, taken}
+use Rattle.slots.specs.declared.SlotRecord.{SlotRecord}
+use Rattle.slots.specs.Slots.{slotsNumbers, slotsFrom, taken}
 use Rattle.slots.proofs.Runs.{filled, slots-back}
 use Rattle.slots.proofs.Limits.{taken-few, taken-many, first-numbers, beyond}
-use Rattle.slots.specs.read.{readFirst, readSlots, withSlots}
+use Rattle.slots.specs.Reading.{readFirst, readSlots, withSlots}
 
 -- ---- the core call on the first part of the scratch
 
@@ -35,13 +36,13 @@ read-front zs rest k l {a} {z} r = ap (λ (s : List ℕ). record { answer = a; s
 
 -- ---- more slots than a table may have: number 1
 
-read-over : (layout bs area : List ℕ) (ss : List Slot) (mark : ℕ) → maxSlots < length ss → record { answer = record { answer = refusal BadSize 0; steps = 0 }; slots = numbersOf ss; area = area } ≡ readAll layout bs (numbersOf ss) area mark
+read-over : (layout bs area : List ℕ) (ss : List SlotRecord) (mark : ℕ) → maxSlots < length ss → record { answer = record { answer = refusal BadSize 0; steps = 0 }; slots = slotsNumbers ss; area = area } ≡ readAll layout bs (slotsNumbers ss) area mark
 unfolding read readSteps reads
 read-over layout bs area ss mark l = rw (beyond layout bs area ss l)
 
 -- ---- the call over slots
 
-module _ (layout bs ns ws area z : List ℕ) (ss ts : List Slot) (mark : ℕ) (a : ReadAnswer) where
+module _ (layout bs ns ws area z : List ℕ) (ss ts : List SlotRecord) (mark : ℕ) (a : ReadAnswer) where
   pub read-loaded :
       record { answer = a; slots = take (length ss * slotWidth) ws; area = z } ≡ readFirst layout bs (filled (taken (length ss)) ss ns) (length ss) area mark
       → ts ≡ slotsFrom (take (taken (length ss) * slotWidth) ws) ++ drop (taken (length ss)) ss
@@ -52,17 +53,17 @@ module _ (layout bs ns ws area z : List ℕ) (ss ts : List Slot) (mark : ℕ) (a
     | no l ↦ many (lt-of-not-le l)
   ]
     where
-      few : length ss ≤ maxSlots → record { answer = a; slots = ts; area = z } ≡ withSlots (readAll layout bs (numbersOf ss) area mark)
-      few l = ap (λ (t : List Slot). record { answer = a; slots = t; area = z }) whole ∙ ap withSlots (r ∙ sym (read-few layout bs _ area (length ss) mark l) ∙ ap (λ (m : List ℕ). readAll layout bs m area mark) (first-numbers ss ns l))
+      few : length ss ≤ maxSlots → record { answer = a; slots = ts; area = z } ≡ withSlots (readAll layout bs (slotsNumbers ss) area mark)
+      few l = ap (λ (t : List SlotRecord). record { answer = a; slots = t; area = z }) whole ∙ ap withSlots (r ∙ sym (read-few layout bs _ area (length ss) mark l) ∙ ap (λ (m : List ℕ). readAll layout bs m area mark) (first-numbers ss ns l))
         where
           whole : ts ≡ slotsFrom (take (length ss * slotWidth) ws)
-          whole = s ∙ ap (λ (k : ℕ). slotsFrom (take (k * slotWidth) ws) ++ drop k ss) (taken-few (length ss) l) ∙ ap (λ (t : List Slot). slotsFrom (take (length ss * slotWidth) ws) ++ t) (drop-length ss) ∙ append-nil (slotsFrom (take (length ss * slotWidth) ws))
+          whole = s ∙ ap (λ (k : ℕ). slotsFrom (take (k * slotWidth) ws) ++ drop k ss) (taken-few (length ss) l) ∙ ap (λ (t : List SlotRecord). slotsFrom (take (length ss * slotWidth) ws) ++ t) (drop-length ss) ∙ append-nil (slotsFrom (take (length ss * slotWidth) ws))
 
-      many : maxSlots < length ss → record { answer = a; slots = ts; area = z } ≡ withSlots (readAll layout bs (numbersOf ss) area mark)
+      many : maxSlots < length ss → record { answer = a; slots = ts; area = z } ≡ withSlots (readAll layout bs (slotsNumbers ss) area mark)
       many l = (λ i. record { answer = same i .answer; slots = kept i; area = same i .area }) ∙ ap withSlots (read-over layout bs area ss mark l)
         where
           same : _≡_ {A = ReadAll} (record { answer = a; slots = take (length ss * slotWidth) ws; area = z }) (record { answer = record { answer = refusal BadSize 0; steps = 0 }; slots = take (length ss * slotWidth) (filled (taken (length ss)) ss ns); area = area })
           same = r ∙ sym (read-many layout bs _ area (length ss) mark l)
 
-          kept : ts ≡ slotsFrom (numbersOf ss)
+          kept : ts ≡ slotsFrom (slotsNumbers ss)
           kept = s ∙ ap (λ (k : ℕ). slotsFrom (take (k * slotWidth) ws) ++ drop k ss) (taken-many (length ss) l) ∙ sym (slots-back ss)

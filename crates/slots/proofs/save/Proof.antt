@@ -1,4 +1,5 @@
--- `slots::save` meets its contract: a walk of its MIR, by hand, with a loop and, in the loop, a call of `slot_from`. The borrow of the slots is opened once, before the loop, and closed once, after it.
+-- `slots::save` meets its contract: a walk of its MIR, by hand, with a loop and, in the loop, a call of `slot_from`.
+-- The borrow of the slots is opened once, before the loop, and closed once, after it.
 use mathlib.Core.Path.{_≡_, refl, sym, ap, subst, _∙_}
 use Prim.Native.Nat.{ℕ, suc, _+_, _*_, _-_, _<_, _≤_, _^_, zero-le}
 use native.Mathlib.Nat.{lt-of-lt-of-le}
@@ -45,12 +46,12 @@ use denote.Triple.Table.{entered, cited}
 use denote.Triple.Walked.{says, needs, Stays, gave-slice, stay-dropped, walkOf, goes-gave-slice, goes-dropped, Walks, ends-at, walked, walk-meets}
 use denote.Exit.{yes}
 use Rattle.record.specs.Table.{slotWidth}
-use Rattle.slots.specs.declared.Slot.{Slot}
+use Rattle.slots.specs.declared.SlotRecord.{SlotRecord}
 use Rattle.slots.specs.Slots.{slotFrom}
 use Rattle.slots.proofs.Runs.{noSlot, saved, length-saved, saved-is}
 use Rattle.slots.proofs.Turns.{recordSize, bytes-fit, place-fits, next-fits, slot-more, less-left, one-more, held, over}
-use Rattle.slots.proofs.Slot as T
-use Rattle.slots.proofs.Slot.Laws as T′
+use Rattle.slots.proofs.SlotRecord as T
+use Rattle.slots.proofs.SlotRecord.Laws as T′
 use Rattle.slots.proofs.slot_from as slot-from
 use Rattle.slots.proofs.slot_from.Symbol as slot-from-def
 use Rattle.slots.proofs.slot_from.Symbol.{name as #slots·slot-from}
@@ -80,7 +81,7 @@ stayed = (gave-slice (0 ∷ []) tt (plain (λ _. R)), (stay-dropped (shrSlice 1 
 abbrev SlotAt : {M : Type 1} (𝓤 : URA M) (H : Heap 𝓤) (A : Atoms 𝓤) (mem : Memory → SProp 𝓤) (run : Routine → Fun 𝓤) → Contract 𝓤
 SlotAt 𝓤 H A mem run = tripleOf 𝓤 H A slot-from.signature (slot-from.spec 𝓤 H A mem run)
 
-module _ {M : Type 1} (𝓤 : URA M) (H : Heap 𝓤) (A : Atoms 𝓤) (W : Given 𝓤 H A) (mem : Memory → SProp 𝓤) (run : Routine → Fun 𝓤) (κ κ₁ : Lft) (q q₁ : Share) (b o : ℕ) (γ : GName) (ys : List Slot) (x₁ : RefT (List ℕ)) (c : ℕ)
+module _ {M : Type 1} (𝓤 : URA M) (H : Heap 𝓤) (A : Atoms 𝓤) (W : Given 𝓤 H A) (mem : Memory → SProp 𝓤) (run : Routine → Fun 𝓤) (κ κ₁ : Lft) (q q₁ : Share) (b o : ℕ) (γ : GName) (ys : List SlotRecord) (x₁ : RefT (List ℕ)) (c : ℕ)
     (gn : Room R (length ys)) (gm : Room u32 (length (x₁ .now))) (gc : c < 2 ^ 64) (most : c ≤ length ys) (enough : c * slotWidth ≤ length (x₁ .now)) where
   abbrev n : ℕ
   n = length ys
@@ -88,7 +89,7 @@ module _ {M : Type 1} (𝓤 : URA M) (H : Heap 𝓤) (A : Atoms 𝓤) (W : Given
   abbrev ns : List ℕ
   ns = x₁ .now
 
-  abbrev x : RefT (List Slot)
+  abbrev x : RefT (List SlotRecord)
   x = record { ptr = (b, o); name = γ; now = ys }
 
   abbrev v₀ : Val
@@ -122,7 +123,7 @@ module _ {M : Type 1} (𝓤 : URA M) (H : Heap 𝓤) (A : Atoms 𝓤) (W : Given
       qed W (‵ (flft κ₁ q₁) ∷ ‵ Own₁ ∷ []) ∵ says ! within $ nothing ! $ move ! (1 ∷ 0 ∷ []) $ join ! $ frame ! $
       nothing ! $ owned ! usize (Is usize) (uint-makes 𝓤 H A W w64) k _ (refl, fits) $ fjoin ! $ move ! (1 ∷ 0 ∷ []) $ fjoin ! $ done !
 
-  said : (k : ℕ) (r : Slot) → ent 𝓤 (ensured 𝓤 H A slot-from.ended (slot-from.clauses 𝓤 H A mem run) (κ₁, tt) (x₁, (k, tt)) tt r) (fact 𝓤 (r ≡ slotFrom ns k))
+  said : (k : ℕ) (r : SlotRecord) → ent 𝓤 (ensured 𝓤 H A slot-from.ended (slot-from.clauses 𝓤 H A mem run) (κ₁, tt) (x₁, (k, tt)) tt r) (fact 𝓤 (r ≡ slotFrom ns k))
   said k r = exE 𝓤 _ (λ ws. snd∗ 𝓤 (sem 𝓤 H A (lasts slot-from.ended (κ₁, tt) (x₁, (k, tt)) ws)) (fact 𝓤 (r ≡ slotFrom ns k)))
 
   -- ---- the loop's invariant, at i
@@ -168,7 +169,7 @@ module _ {M : Type 1} (𝓤 : URA M) (H : Heap 𝓤) (A : Atoms 𝓤) (W : Given
         use2 W (raw (SlotAt 𝓤 H A mem run .pre (to (i .0 * slotWidth)))) (asked (i .0 * slotWidth) (place-fits (i .0) n (inside i e) (gn .1)) (slot-more (i .0) c (length ns) (held (i .0) c e) enough)) $
         -- [what the callee asks; the numbers; the row; the open borrow; obs; auth; _8; …]
         calls-at ! (fmOf 𝓤 H (W .laws) 𝓣) (SlotAt 𝓤 H A mem run) known (to (i .0 * slotWidth)) (and-then ! (load ! (from ! (stop !)) (look ! 20 refl)) (and-then ! (load ! (from ! (stop !)) (look ! 10 refl)) (no-more !))) (λ u.
-        use1 W (later (some (λ (r : Slot). ((‵ (flft κ₁ q₁) ⊛ ‵ ftrue) ⊛ ‵ (R .own r (u ∷ []))) ⊛ raw (ensured 𝓤 H A slot-from.ended (slot-from.clauses 𝓤 H A mem run) (κ₁, tt) (x₁, (i .0 * slotWidth, tt)) tt r)))) (id⊢ 𝓤 _) $ await ! tt $ pick ! (λ r.
+        use1 W (later (some (λ (r : SlotRecord). ((‵ (flft κ₁ q₁) ⊛ ‵ ftrue) ⊛ ‵ (R .own r (u ∷ []))) ⊛ raw (ensured 𝓤 H A slot-from.ended (slot-from.clauses 𝓤 H A mem run) (κ₁, tt) (x₁, (i .0 * slotWidth, tt)) tt r)))) (id⊢ 𝓤 _) $ await ! tt $ pick ! (λ r.
         split ! $ move ! (1 ∷ []) $ use1 W (raw (fact 𝓤 (r ≡ slotFrom ns (i .0 * slotWidth)))) (said (i .0 * slotWidth) r) $ heard ! (r ≡ slotFrom ns (i .0 * slotWidth)) (λ is-slot. split ! $ move ! (1 ∷ []) $
         peeks ! R (Is R) (shows 𝓤 H A R) r (u ∷ []) (λ is.
         -- [the slot; the token; the numbers; the row; the open borrow; obs; auth; _8; …]
@@ -180,7 +181,7 @@ module _ {M : Type 1} (𝓤 : URA M) (H : Heap 𝓤) (A : Atoms 𝓤) (W : Given
         move ! (4 ∷ []) $ elem-out ! R (Is R) (shows 𝓤 H A R) (LL.vals T.the-type T′.the-laws) (LL.tells T.the-type T′.the-laws) fullShare (saved ys ns (i .0)) (i .0) noSlot b o (within i (inside i e)) (λ _.
         assigns ! (of-opd ! (load ! (from ! (stop !)) (look ! 16 refl))) (from ! (hop ! (look ! 10 refl) (stop !))) (store-raw ! 0 refl (LL.lawful T.the-type T′.the-laws 𝓤 H A W .typed r _ is .0)) $
         move ! (1 ∷ []) $ drop ! $ move ! (0 ∷ 4 ∷ 1 ∷ []) $ elem-put ! R fullShare (saved ys ns (i .0)) (i .0) r (u ∷ []) b o (within i (inside i e)) $
-        rewrite ! 0 (λ (z : Slot). ‵ (row R fullShare (set (saved ys ns (i .0)) (i .0) z) b o)) is-slot refl $ move ! (2 ∷ []) $ drop ! $
+        rewrite ! 0 (λ (z : SlotRecord). ‵ (row R fullShare (set (saved ys ns (i .0)) (i .0) z) b o)) is-slot refl $ move ! (2 ∷ []) $ drop ! $
         assigns-last ! (bin ! (load ! (from ! (stop !)) (look ! 16 refl)) (lit ! tt) (record { fits = next-fits (i .0) c (held (i .0) c e) gc })) (from ! (stop !)) (store ! 16 refl (tt, record { fits = next-fits (i .0) c (held (i .0) c e) gc })) $
         rewrite ! 16 (λ (j : ℕ). ‵ (fat fullShare word l₄ 0 (vint w64 j))) (one-more (i .0)) refl $
         forget ! 6 refl $ forget ! 8 refl $ forget ! 10 refl $ forget ! 12 refl $ forget ! 14 refl $

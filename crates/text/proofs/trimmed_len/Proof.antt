@@ -16,23 +16,8 @@ Inv-loop input at n k₀ k = (k ≤ n) × (trimmed (part input at k) ≡ trimmed
 abbrev μ-loop : tie.MeasureT-loop
 μ-loop input at n k₀ k = k
 
-without-fours-requires : tie.Need-without-fours-requires Inv-loop μ-loop
-without-fours-requires c κs = search needs
-
 loop-holds : tie.Need-loop-holds Inv-loop μ-loop
 loop-holds c = c .without-fours .ensures
-
-sub-is-blank : tie.Need-sub-is-blank Inv-loop μ-loop
-sub-is-blank c = search needs
-
-add-is-blank : tie.Need-add-is-blank Inv-loop μ-loop
-add-is-blank c = search needs
-
-shared-slice-read-is-blank : tie.Need-shared-slice-read-is-blank Inv-loop μ-loop
-shared-slice-read-is-blank c = search needs
-
-is-blank-requires : tie.Need-is-blank-requires Inv-loop μ-loop
-is-blank-requires c κs = search needs
 
 returns : tie.Need-returns Inv-loop μ-loop
 returns c =
@@ -40,12 +25,6 @@ returns c =
     let a = c .before .before .before .before .before .before .before .args in
     let other = sym (c .before .is-blank .ensures) ∙ not-true (c .before .is-blank .result) (c .if1 .taken) in
     (omega arith, keep-all (a .input .now) (a .at) (loop .k) (omega arith) (omega arith) other ∙ loop .inv .1)
-
-sub-k : tie.Need-sub-k Inv-loop μ-loop
-sub-k c = search needs
-
-loop-less : tie.Need-loop-less Inv-loop μ-loop
-loop-less c = search needs
 
 loop-again : tie.Need-loop-again Inv-loop μ-loop
 loop-again c =
@@ -65,14 +44,14 @@ trimmed-len-spec =
     (tie.spec
     Inv-loop
     μ-loop
-    without-fours-requires
+    (λ c κs. search needs)
     loop-holds
-    sub-is-blank
-    add-is-blank
-    shared-slice-read-is-blank
-    is-blank-requires
+    (λ c. search needs)
+    (λ c. search needs)
+    (λ c. search needs)
+    (λ c κs. search needs)
     returns
-    sub-k
-    loop-less
+    (λ c. search needs)
+    (λ c. search needs)
     loop-again
     returns-2)

@@ -17,17 +17,8 @@ abbrev μ-loop : tie.MeasureT-loop
 loop-holds : tie.Need-loop-holds Inv-loop μ-loop
 loop-holds c = (omega arith, refl)
 
-add-four-at : tie.Need-add-four-at Inv-loop μ-loop
-add-four-at c = omega arith
-
-four-at-requires : tie.Need-four-at-requires Inv-loop μ-loop
-four-at-requires c κs = omega arith
-
 returns : tie.Need-returns Inv-loop μ-loop
 returns c = (omega arith, c .before .before .before .loop .inv .1)
-
-loop-less : tie.Need-loop-less Inv-loop μ-loop
-loop-less c = omega arith
 
 loop-again : tie.Need-loop-again Inv-loop μ-loop
 loop-again c =
@@ -45,9 +36,9 @@ without-fours-spec =
     Inv-loop
     μ-loop
     loop-holds
-    add-four-at
-    four-at-requires
+    (λ c. omega arith)
+    (λ c κs. omega arith)
     returns
-    loop-less
+    (λ c. omega arith)
     loop-again
     returns-2)

@@ -1,4 +1,5 @@
-// Demand 3, run: a record packed by an old layout, and one by a new layout that has fields added at its end; each is cut at every place and read by both layouts.
+// Demand 3, run: a record packed by an old layout, and one by a new layout that has fields added at its end; each is
+// cut at every place and read by both layouts.
 use record::SLOT_WIDTH;
 use tour_text::print;
 use tour_text::values;
@@ -62,7 +63,8 @@ fn every(writer: &[u8], slots: &[u32], area: &[u8], end: usize) {
     }
 }
 
-// Both records over the same arguments: "abc", {258 -2}, "10110", {4000000000} and "7f1"; the old layout takes the first three.
+// Both records over the same arguments: "abc", {258 -2}, "10110", {4000000000} and "7f1"; the old layout takes the
+// first three.
 fn each(area: &[u8]) {
     every(b"a3S2b5", &[1, 0, 3, 0, 2, 3, 2, 0, 1, 19, 5, 0], area, 9);
     every(

@@ -1,6 +1,7 @@
-// Lists of examples, one a line: a letter, a layout, a bar and what follows. `p` and the arguments to pack; the number of slots and the record to read;
-// `k` or `w` and nothing, to pack or read and show all that is lent; a letter of a call over other slots, outputs or marks, and what is lent; or `h`, no
-// layout and a heading. A line with no bar is no example.
+// Lists of examples, one a line: a letter, a layout, a bar and what follows. `p` and the arguments to pack; the number
+// of slots and the record to read; `k` or `w` and nothing, to pack or read and show all that is lent; a letter of a
+// call over other slots, outputs or marks, and what is lent; or `h`, no layout and a heading. A line with no bar is no
+// example.
 use super::packing;
 use super::reading;
 use tour_text::lines;
@@ -150,7 +151,7 @@ o a2|slot 1 0 2, output of 2 bytes
 o a2x|slot 1 0 2, output of 2 bytes
 u c|slot 3 0 1, area of 8 bytes
 
-What a packing does not touch: the output behind the result, and all of it after a refusal.
+What a packing does not touch: the output after the result, and all of it after a refusal.
 k a2x|
 k a2x7|
 k a2xz|

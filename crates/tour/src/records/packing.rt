@@ -1,4 +1,5 @@
-// Packing: a line for each call, with the layout, what it is lent, the answer's three numbers and the bytes of the result.
+// Packing: a line for each call, with the layout, what it is lent, the answer's three numbers and the bytes of the
+// result.
 use record::MAX_AREA;
 use record::MAX_NUMBERS;
 use record::SLOT_WIDTH;
@@ -106,7 +107,8 @@ fn last(told: &[u8], area: &[u8]) {
     fresh(b"a", told, &[1, 524287, 1, 0], area);
 }
 
-// A long array is lent as an array, and only its borrower takes it for a slice: where an array is made, the prover counts a slice of it byte by byte.
+// A long array is lent as an array, and only its borrower takes it for a slice: where an array is made, the prover
+// counts a slice of it byte by byte.
 fn longest(area: &[u8; MAX_AREA]) {
     last(b"slot 1 524287 1, area of 524288 bytes", area);
 }

@@ -1,4 +1,5 @@
-// Reading: a line for each call, with the layout, the record, the answer's four numbers and the values that the slots then show.
+// Reading: a line for each call, with the layout, the record, the answer's four numbers and the values that the slots
+// then show.
 use super::packing;
 use record::MAX_AREA;
 use record::MAX_NUMBERS;
@@ -166,7 +167,8 @@ pub fn eight(layout: &[u8], told: &[u8]) {
     );
 }
 
-// Areas at their limit and one above: number 1. A long array is lent as an array, and only its borrower takes it for a slice.
+// Areas at their limit and one above: number 1. A long array is lent as an array, and only its borrower takes it for a
+// slice.
 fn longest(area: &mut [u8; MAX_AREA]) {
     last(b"mark 524287, area of 524288 bytes", area);
 }

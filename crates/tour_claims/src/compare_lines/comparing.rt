@@ -47,7 +47,7 @@ fn show(
     report_told(report);
 }
 
-// Into tables and areas of its own: three value fields at most.
+// Compares into tables and areas of its own: three value fields at most.
 pub fn own(layout: &[u8], first: &[u8], second: &[u8], told: &[u8], report: &mut [u32]) {
     show(
         layout,
@@ -63,7 +63,7 @@ pub fn own(layout: &[u8], first: &[u8], second: &[u8], told: &[u8], report: &mut
     print::text(b"\n");
 }
 
-// Two value fields, of a record with itself.
+// Compares a record of two value fields with itself.
 fn same(
     told: &[u8],
     first_slots: &mut [u32],
@@ -144,8 +144,8 @@ pub fn short_areas() {
     area(b"areas of 10 and 9 bytes", &mut [0; 10], &mut [0; 9]);
 }
 
-// Number 1, of the second area, after number 11 of the first. A long array is lent as an array, and only its borrower takes it for a slice: where an
-// array is made, the prover counts a slice of it byte by byte.
+// Number 1, of the second area, after number 11 of the first. A long array is lent as an array, and only its borrower
+// takes it for a slice: where an array is made, the prover counts a slice of it byte by byte.
 fn longer(told: &[u8], first: &mut [u8], second: &mut [u8; MAX_AREA + 1]) {
     area(told, first, second);
 }

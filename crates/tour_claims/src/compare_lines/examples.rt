@@ -1,5 +1,6 @@
-// Lists of examples, one a line: a letter, a layout, the two records and what is lent besides, with bars between. The letter is a digit, for a report of
-// so many numbers, or `w`, to show all that is lent, with a report of seven, or `v`, with one of five. Or `h`, a bar and a heading.
+// Lists of examples, one a line: a letter, a layout, the two records and what is lent besides, with bars between. The
+// letter is a digit, for a report of as many numbers, or `w`, to show all that is lent, with a report of seven, or `v`,
+// with one of five. Or `h`, a bar and a heading.
 use super::comparing;
 use tour_text::lines;
 use tour_text::print;

@@ -1,5 +1,5 @@
-// Lists of examples, one a line: `w` and a table to write, `r` and a sheet to read, `k` and a sheet to read and show all that is lent, or `h` and a heading.
-// A line of no such letter is no example. No sheet among them has the byte 0a.
+// Lists of examples, one a line: `w` and a table to write, `r` and a sheet to read, `k` and a sheet to read and show
+// all that is lent, or `h` and a heading. A line of no such letter is no example. No sheet among them has the byte 0a.
 use super::reading;
 use super::writing;
 use tour_text::lines;

@@ -17,7 +17,7 @@ fn show(sheet: &[u8], told: &[u8], slots: &mut [u32], area: &mut [u8], mark: usi
     print::text(b"\n");
 }
 
-// Into three slots that are not set.
+// Reads a sheet into three slots that are not set.
 pub fn example(sheet: &[u8]) {
     show(sheet, b"", &mut [0; 3 * SLOT_WIDTH], &mut [0; 64], 0);
 }

@@ -55,7 +55,8 @@ fn single(told: &[u8], kind: u32, start: u32, length: u32) {
     placed(told, &[kind, start, length, 0]);
 }
 
-// Tables that no text names: no slots, an unsigned integer, a slot that is not set and says more, an empty value at the area's end.
+// Tables that no text names: no slots, an unsigned integer, a slot that is not set and says more, an empty value at the
+// area's end.
 pub fn slots() {
     placed(b"no slots", &[0; 0]);
     show(
@@ -100,9 +101,9 @@ pub fn refusals() {
 // The bytes of a sheet whose one value fills an area: a header and an entry's length and kind before it.
 const ONE_AREA: usize = MAX_AREA + 10;
 
-// Writes slots over an area as long as any, into a buffer that one such value fills. (The prover has no arrays of a million bytes: the longest buffers
-// and sheets are tried by the tests outside.) A long array is lent as an array, and only its borrower takes it for a slice: where an array is made, the
-// prover counts a slice of it byte by byte.
+// Writes slots over an area as long as any, into a buffer that one such value fills. (The prover has no arrays of a
+// million bytes: the longest buffers and sheets are tried by the tests outside.) A long array is lent as an array, and
+// only its borrower takes it for a slice: where an array is made, the prover counts a slice of it byte by byte.
 fn over(told: &[u8], slots: &[u32], area: &[u8; MAX_AREA], sheet: &mut [u8; ONE_AREA]) {
     show(told, slots, area, sheet);
 }

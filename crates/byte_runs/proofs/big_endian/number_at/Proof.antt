@@ -19,12 +19,6 @@ loop-holds c = (omega arith, taken-none _ _)
 mul-x : tie.Need-mul-x Inv-loop μ-loop
 mul-x c = omega (arith, taken-below (c .before .loop .inv .1) (omega arith))
 
-add-x : tie.Need-add-x Inv-loop μ-loop
-add-x c = omega arith
-
-shared-slice-read-x : tie.Need-shared-slice-read-x Inv-loop μ-loop
-shared-slice-read-x c = omega arith
-
 byte : (c : tie.After-shared-slice-known Inv-loop μ-loop) → getD (c .before .before .before .args .bytes .now) (c .before .before .before .args .at + c .before .before .loop .j) 0 < 256
 byte c = c .shared-slice-known .given (c .before .before .before .args .at + c .before .before .loop .j) .fits
 
@@ -33,12 +27,6 @@ cast-x c = omega (arith, byte c)
 
 add-x-2 : tie.Need-add-x-2 Inv-loop μ-loop
 add-x-2 c = omega (arith, byte c, taken-below (c .before .before .loop .inv .1) (omega arith))
-
-add-j : tie.Need-add-j Inv-loop μ-loop
-add-j c = omega arith
-
-loop-less : tie.Need-loop-less Inv-loop μ-loop
-loop-less c = omega arith
 
 loop-again : tie.Need-loop-again Inv-loop μ-loop
 loop-again c = (omega arith, taken-next (c .before .before .loop .inv .1) (omega arith) (byte c))
@@ -57,11 +45,11 @@ number-at-spec =
     μ-loop
     loop-holds
     mul-x
-    add-x
-    shared-slice-read-x
+    (λ c. omega arith)
+    (λ c. omega arith)
     cast-x
     add-x-2
-    add-j
-    loop-less
+    (λ c. omega arith)
+    (λ c. omega arith)
     loop-again
     returns)

@@ -1,4 +1,5 @@
--- A turn puts the lowest byte that is left in front of those behind it: the loop keeps `Putting`. All eight are put at once.
+-- A turn puts the lowest byte that is left in front of those after it: the loop keeps `Putting`. All eight are put at
+-- once.
 use native.Mathlib.Omega.{arith}
 use borrow.Author.Needs.{needs}
 use Rattle.record.proofs.NumberLaws.{Putting, putting-none, putting-next, putting-done}
@@ -11,32 +12,11 @@ Inv-loop out₀ at w x rest₀ left₀ out rest left = Putting out₀ at w x out
 abbrev μ-loop : tie.MeasureT-loop
 μ-loop out₀ at w x rest₀ left₀ out rest left = left
 
-put-eight-requires : tie.Need-put-eight-requires Inv-loop μ-loop
-put-eight-requires c κs = omega arith
-
-same-length : tie.Need-same-length Inv-loop μ-loop
-same-length c = search needs
-
 returns : tie.Need-returns Inv-loop μ-loop
 returns c = rw (c .before .before .before .before .if1 .taken) (c .before .before .put-eight .ensures)
 
 loop-holds : tie.Need-loop-holds Inv-loop μ-loop
 loop-holds c = putting-none _ _ _ _
-
-sub-left : tie.Need-sub-left Inv-loop μ-loop
-sub-left c = omega arith
-
-cast-out : tie.Need-cast-out Inv-loop μ-loop
-cast-out c = omega arith
-
-add-out : tie.Need-add-out Inv-loop μ-loop
-add-out c = omega arith
-
-slice-write-out : tie.Need-slice-write-out Inv-loop μ-loop
-slice-write-out c = omega arith
-
-loop-less : tie.Need-loop-less Inv-loop μ-loop
-loop-less c = omega arith
 
 loop-again : tie.Need-loop-again Inv-loop μ-loop
 loop-again c = putting-next (c .before .loop .inv) (omega arith) (omega arith)
@@ -53,15 +33,15 @@ put-number-spec =
     (tie.spec
     Inv-loop
     μ-loop
-    put-eight-requires
-    same-length
+    (λ c κs. omega arith)
+    (λ c. search needs)
     returns
     loop-holds
-    sub-left
-    cast-out
-    add-out
-    slice-write-out
-    loop-less
+    (λ c. omega arith)
+    (λ c. omega arith)
+    (λ c. omega arith)
+    (λ c. omega arith)
+    (λ c. omega arith)
     loop-again
     same-length-2
     returns-2)

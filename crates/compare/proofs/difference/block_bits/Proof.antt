@@ -14,18 +14,6 @@ abbrev μ-loop : tie.MeasureT-loop
 loop-holds : tie.Need-loop-holds Inv-loop μ-loop
 loop-holds c = (omega arith, counted-none _ _ _ _)
 
-add-byte-bits : tie.Need-add-byte-bits Inv-loop μ-loop
-add-byte-bits c = omega arith
-
-shared-slice-read-byte-bits : tie.Need-shared-slice-read-byte-bits Inv-loop μ-loop
-shared-slice-read-byte-bits c = omega arith
-
-add-byte-bits-2 : tie.Need-add-byte-bits-2 Inv-loop μ-loop
-add-byte-bits-2 c = omega arith
-
-shared-slice-read-byte-bits-2 : tie.Need-shared-slice-read-byte-bits-2 Inv-loop μ-loop
-shared-slice-read-byte-bits-2 c = omega arith
-
 byte-bits-requires : tie.Need-byte-bits-requires Inv-loop μ-loop
 byte-bits-requires c κs = tt
 
@@ -34,12 +22,6 @@ cast-sum c = omega (arith, byte-few _ _ (c .byte-bits .ensures))
 
 add-sum : tie.Need-add-sum Inv-loop μ-loop
 add-sum c = omega (arith, c .before .before .before .before .loop .inv .1 .small, byte-few _ _ (c .byte-bits .ensures))
-
-add-i : tie.Need-add-i Inv-loop μ-loop
-add-i c = omega arith
-
-loop-less : tie.Need-loop-less Inv-loop μ-loop
-loop-less c = omega arith
 
 loop-again : tie.Need-loop-again Inv-loop μ-loop
 loop-again c = (omega arith, counted-more (c .before .before .before .before .loop .inv .1) (omega arith) (omega arith) (c .byte-bits .ensures))
@@ -56,14 +38,14 @@ block-bits-spec =
     Inv-loop
     μ-loop
     loop-holds
-    add-byte-bits
-    shared-slice-read-byte-bits
-    add-byte-bits-2
-    shared-slice-read-byte-bits-2
+    (λ c. omega arith)
+    (λ c. omega arith)
+    (λ c. omega arith)
+    (λ c. omega arith)
     byte-bits-requires
     cast-sum
     add-sum
-    add-i
-    loop-less
+    (λ c. omega arith)
+    (λ c. omega arith)
     loop-again
     returns)

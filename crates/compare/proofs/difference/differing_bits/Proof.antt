@@ -15,18 +15,6 @@ abbrev μ-loop : tie.MeasureT-loop
 loop-holds : tie.Need-loop-holds Inv-loop μ-loop
 loop-holds c = (omega arith, counted-none _ _ _ _)
 
-sub-least : tie.Need-sub-least Inv-loop μ-loop
-sub-least c = omega arith
-
-least-requires : tie.Need-least-requires Inv-loop μ-loop
-least-requires c κs = search needs
-
-add-block-bits : tie.Need-add-block-bits Inv-loop μ-loop
-add-block-bits c = omega arith
-
-add-block-bits-2 : tie.Need-add-block-bits-2 Inv-loop μ-loop
-add-block-bits-2 c = omega arith
-
 block-bits-requires : tie.Need-block-bits-requires Inv-loop μ-loop
 block-bits-requires c κs = (omega (arith, c .least .ensures), omega (arith, c .least .ensures), omega (arith, c .least .ensures))
 
@@ -58,10 +46,10 @@ differing-bits-spec =
     Inv-loop
     μ-loop
     loop-holds
-    sub-least
-    least-requires
-    add-block-bits
-    add-block-bits-2
+    (λ c. omega arith)
+    (λ c κs. search needs)
+    (λ c. omega arith)
+    (λ c. omega arith)
     block-bits-requires
     cast-sum
     add-sum

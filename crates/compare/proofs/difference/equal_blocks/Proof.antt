@@ -5,41 +5,26 @@ use mathlib.Core.Path.{_≡_, refl, sym, _∙_}
 use mathlib.Core.Bool.{true}
 use borrow.Author.Tests.{not-false}
 use Rattle.record.specs.Bytes.{part}
-use Rattle.compare.specs.difference.{same}
+use Rattle.compare.specs.Difference.{sameBytes}
 use Rattle.compare.proofs.difference.Runs.{block-same}
 use Rattle.compare.proofs.difference.equal_blocks.Statement.{statement}
 use Rattle.compare.proofs.difference.equal_blocks.Tie as tie
 
 abbrev Inv-loop : tie.InvT-loop
-Inv-loop first at second to n i₀ i = (i ≤ n) × (same (part first at i) (part second to i) ≡ true)
+Inv-loop first at second to n i₀ i = (i ≤ n) × (sameBytes (part first at i) (part second to i) ≡ true)
 
 abbrev μ-loop : tie.MeasureT-loop
 μ-loop first at second to n i₀ i = n - i
 
 loop-holds : tie.Need-loop-holds Inv-loop μ-loop
-unfolding same
+unfolding sameBytes
 loop-holds c = (omega arith, refl)
-
-sub-loop : tie.Need-sub-loop Inv-loop μ-loop
-sub-loop c = omega arith
-
-add-same-bytes : tie.Need-add-same-bytes Inv-loop μ-loop
-add-same-bytes c = omega arith
-
-add-same-bytes-2 : tie.Need-add-same-bytes-2 Inv-loop μ-loop
-add-same-bytes-2 c = omega arith
 
 same-bytes-requires : tie.Need-same-bytes-requires Inv-loop μ-loop
 same-bytes-requires c κs = (omega arith, omega arith)
 
 returns : tie.Need-returns Inv-loop μ-loop
 returns c = c .before .before .before .loop .inv
-
-add-i : tie.Need-add-i Inv-loop μ-loop
-add-i c = omega arith
-
-loop-less : tie.Need-loop-less Inv-loop μ-loop
-loop-less c = omega arith
 
 loop-again : tie.Need-loop-again Inv-loop μ-loop
 loop-again c =
@@ -57,12 +42,12 @@ equal-blocks-spec =
     Inv-loop
     μ-loop
     loop-holds
-    sub-loop
-    add-same-bytes
-    add-same-bytes-2
+    (λ c. omega arith)
+    (λ c. omega arith)
+    (λ c. omega arith)
     same-bytes-requires
     returns
-    add-i
-    loop-less
+    (λ c. omega arith)
+    (λ c. omega arith)
     loop-again
     returns-2)

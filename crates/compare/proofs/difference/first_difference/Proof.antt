@@ -20,26 +20,8 @@ loop-holds c =
     let e = c .equal-blocks .ensures in
     alike-from (a .first .now) (a .at) (a .second .now) (a .to) (a .n) _ (e .0) (omega arith) (omega arith) (e .1)
 
-add-if1 : tie.Need-add-if1 Inv-loop μ-loop
-add-if1 c = omega arith
-
-shared-slice-read-if1 : tie.Need-shared-slice-read-if1 Inv-loop μ-loop
-shared-slice-read-if1 c = omega arith
-
-add-if1-2 : tie.Need-add-if1-2 Inv-loop μ-loop
-add-if1-2 c = omega arith
-
-shared-slice-read-if1-2 : tie.Need-shared-slice-read-if1-2 Inv-loop μ-loop
-shared-slice-read-if1-2 c = omega arith
-
 returns : tie.Need-returns Inv-loop μ-loop
 returns c = alike-parts (c .before .before .before .before .loop .inv) (c .before .before .before .loop-test .taken) (omega arith) (omega arith) (c .if1 .taken)
-
-add-i : tie.Need-add-i Inv-loop μ-loop
-add-i c = omega arith
-
-loop-less : tie.Need-loop-less Inv-loop μ-loop
-loop-less c = omega arith
 
 loop-again : tie.Need-loop-again Inv-loop μ-loop
 loop-again c = alike-more (c .before .before .before .before .loop .inv) (c .before .before .before .loop-test .taken) (omega arith) (omega arith) (c .if1 .left)
@@ -55,12 +37,12 @@ first-difference-spec =
     μ-loop
     equal-blocks-requires
     loop-holds
-    add-if1
-    shared-slice-read-if1
-    add-if1-2
-    shared-slice-read-if1-2
+    (λ c. omega arith)
+    (λ c. omega arith)
+    (λ c. omega arith)
+    (λ c. omega arith)
     returns
-    add-i
-    loop-less
+    (λ c. omega arith)
+    (λ c. omega arith)
     loop-again
     returns-2)

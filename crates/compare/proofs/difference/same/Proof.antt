@@ -7,11 +7,8 @@ use Rattle.compare.proofs.difference.same.Tie as tie
 returns : tie.Need-returns
 returns c = let p = c .before .before .before .pre in parts-long _ _ _ _ _ _ (p .0) (p .1) (c .if1 .taken)
 
-same-bytes-requires : tie.Need-same-bytes-requires
-same-bytes-requires c κs = search needs
-
 returns-2 : tie.Need-returns-2
 returns-2 c = let e = c .before .if1 .left in cc
 
 pub same-spec : {M : Type 1} → statement M
-same-spec = tie.close (tie.spec returns same-bytes-requires returns-2)
+same-spec = tie.close (tie.spec returns (λ c κs. search needs) returns-2)

@@ -4,7 +4,7 @@ use mathlib.Core.Path.{ap}
 use Prim.Native.Nat.{_*_, _≤_}
 use Rattle.record.specs.declared.slots.Slot.{Slot}
 use Rattle.record.proofs.Bounds.{item-small, product-small}
-use Rattle.compare.specs.report.Shown.{sizeOf}
+use Rattle.compare.specs.inside.Shown.{sizeOf}
 use Rattle.compare.specs.declared.report.Span.{Span}
 use borrow.Author.Needs.{needs}
 use Rattle.compare.proofs.report.value_span.Statement.{statement}
@@ -12,12 +12,6 @@ use Rattle.compare.proofs.report.value_span.Tie as tie
 
 abbrev span-of : Slot → Span
 span-of s = record { start = s .start; size = sizeOf s }
-
-slot-at-requires : tie.Need-slot-at-requires
-slot-at-requires c κs = search needs
-
-item-size-requires : tie.Need-item-size-requires
-item-size-requires c κs = search needs
 
 mul-t5 : tie.Need-mul-t5
 mul-t5 c =
@@ -30,4 +24,4 @@ returns : tie.Need-returns
 returns c = rw (c .before .item-size .ensures) (ap span-of (c .before .before .slot-at .ensures .same))
 
 pub value-span-spec : {M : Type 1} → statement M
-value-span-spec = tie.close (tie.spec slot-at-requires item-size-requires mul-t5 returns)
+value-span-spec = tie.close (tie.spec (λ c κs. search needs) (λ c κs. search needs) mul-t5 returns)

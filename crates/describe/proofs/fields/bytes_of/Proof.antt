@@ -1,13 +1,10 @@
--- So many items are far from wrapping.
+-- No more items than a layout reaches are far from wrapping.
 use native.Mathlib.Omega.{arith}
 use Rattle.describe.specs.declared.fields.Extent.the-variants.{Fixed}
-use Rattle.describe.specs.fields.Walk.{AtMost, layoutReach}
+use Rattle.describe.specs.inside.Walk.{AtMost, layoutReach}
 use borrow.Author.Needs.{needs}
 use Rattle.describe.proofs.fields.bytes_of.Statement.{statement}
 use Rattle.describe.proofs.fields.bytes_of.Tie as tie
-
-enum-known-n : tie.Need-enum-known-n
-enum-known-n c = search needs
 
 bytes-for-requires : tie.Need-bytes-for-requires
 bytes-for-requires c κs =
@@ -16,14 +13,8 @@ bytes-for-requires c κs =
     rw (c .before .n .given .1) at (start .pre .1) in
     (omega arith, start .pre .0)
 
-enum-told : tie.Need-enum-told
-enum-told c = search needs
-
 returns : tie.Need-returns
 returns c = rw (c .before .before .n .given .1, c .bytes-for .ensures)
 
-returns-2 : tie.Need-returns-2
-returns-2 c = search needs
-
 pub bytes-of-spec : {M : Type 1} → statement M
-bytes-of-spec = tie.close (tie.spec enum-known-n bytes-for-requires enum-told returns returns-2)
+bytes-of-spec = tie.close (tie.spec (λ c. search needs) bytes-for-requires (λ c. search needs) returns (λ c. search needs))

@@ -1,19 +1,10 @@
--- A count that a word holds fits.
+-- A count that a code holds fits.
 use native.Mathlib.Omega.{arith}
-use Rattle.layout.specs.Words.{FitCount}
+use Rattle.layout.specs.inside.Parsing.{FitCount}
 use Rattle.layout.specs.declared.Count.the-variants.{Times}
 use borrow.Author.Needs.{needs}
 use Rattle.describe.proofs.fields.count_number.Statement.{statement}
 use Rattle.describe.proofs.fields.count_number.Tie as tie
-
-enum-told : tie.Need-enum-told
-enum-told c = search needs
-
-enum-told-2 : tie.Need-enum-told-2
-enum-told-2 c = search needs
-
-enum-known-n : tie.Need-enum-known-n
-enum-known-n c = search needs
 
 cast-result : tie.Need-cast-result
 cast-result c =
@@ -21,15 +12,6 @@ cast-result c =
     rw (c .before .n .given .1) at (c .before .before .before .pre) in
     omega arith
 
-returns : tie.Need-returns
-returns c = search needs
-
-returns-2 : tie.Need-returns-2
-returns-2 c = search needs
-
-returns-3 : tie.Need-returns-3
-returns-3 c = search needs
-
 pub count-number-spec : {M : Type 1} → statement M
 count-number-spec =
-    tie.close (tie.spec enum-told enum-told-2 enum-known-n cast-result returns returns-2 returns-3)
+    tie.close (tie.spec (λ c. search needs) (λ c. search needs) (λ c. search needs) cast-result (λ c. search needs) (λ c. search needs) (λ c. search needs))

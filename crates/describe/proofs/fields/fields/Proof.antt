@@ -8,14 +8,11 @@ use Rattle.layout.specs.Refusals.{refused}
 use Rattle.layout.specs.Layout.{maxLayout, fieldsOf}
 use Rattle.layout.proofs.Decoded.{parsed-fields, parsed-refused}
 use Rattle.layout.proofs.Places.{refused-inside}
-use Rattle.describe.specs.fields.Walk.{Holds}
+use Rattle.describe.specs.inside.Walk.{Holds}
 use Rattle.describe.proofs.fields.Calls.{too-long, refused-fields, holds, no-room, told}
 use borrow.Author.Needs.{needs}
 use Rattle.describe.proofs.fields.fields.Statement.{statement}
 use Rattle.describe.proofs.fields.fields.Tie as tie
-
-refused-requires : tie.Need-refused-requires
-refused-requires c κs = search needs
 
 returns : tie.Need-returns
 returns c = rw (c .refused .ensures) (too-long _ _ (c .before .if1 .taken))
@@ -32,27 +29,9 @@ good : (c : tie.After-known-told2)
 good c =
     holds _ (short (c .before .before .before .before .before .before)) _ _ _ (parsed-fields _ _ _ _ _ (c .before .before .before .before .parse .ensures) (c .before .p2 .given .1))
 
-slice-aggregate-parse : tie.Need-slice-aggregate-parse
-slice-aggregate-parse c = search needs
-
-parse-requires : tie.Need-parse-requires
-parse-requires c κs = search needs
-
-enum-known-p : tie.Need-enum-known-p
-enum-known-p c = search needs
-
 cast-refused : tie.Need-cast-refused
 cast-refused c =
     omega (arith, short (c .before .before .before .before .before .before), refused-inside false (c .before .before .before .before .before .before .before .before .before .args .layout .now) _ _ (bad c))
-
-refused-requires-2 : tie.Need-refused-requires-2
-refused-requires-2 c κs = search needs
-
-enum-known-p-2 : tie.Need-enum-known-p-2
-enum-known-p-2 c = search needs
-
-refused-requires-3 : tie.Need-refused-requires-3
-refused-requires-3 c κs = search needs
 
 returns-2 : tie.Need-returns-2
 returns-2 c = rw (c .refused3 .ensures) (no-room _ _ _ _ (good (c .before .before)) (c .before .if2 .taken))
@@ -62,23 +41,14 @@ cast-count c =
     let h = good (c .before) in
     omega (arith, h .few, h .room)
 
-slice-aggregate-put-rows : tie.Need-slice-aggregate-put-rows
-slice-aggregate-put-rows c = search needs
-
 put-rows-requires : tie.Need-put-rows-requires
 put-rows-requires c κs =
     let k = c .before .before in
     (good (k .before), omega arith)
 
-accepted-requires : tie.Need-accepted-requires
-accepted-requires c κs = search needs
-
 returns-3 : tie.Need-returns-3
 returns-3 c =
     rw (c .refused2 .ensures) (refused-fields _ _ (short (c .before .before .before .before .before .before .before)) _ _ (bad (c .before)))
-
-same-length : tie.Need-same-length
-same-length c = search needs
 
 returns-4 : tie.Need-returns-4
 returns-4 c =
@@ -88,20 +58,20 @@ pub fields-spec : {M : Type 1} → statement M
 fields-spec =
     tie.close
     (tie.spec
-    refused-requires
+    (λ c κs. search needs)
     returns
-    slice-aggregate-parse
-    parse-requires
-    enum-known-p
+    (λ c. search needs)
+    (λ c κs. search needs)
+    (λ c. search needs)
     cast-refused
-    refused-requires-2
-    enum-known-p-2
-    refused-requires-3
+    (λ c κs. search needs)
+    (λ c. search needs)
+    (λ c κs. search needs)
     returns-2
     cast-count
-    slice-aggregate-put-rows
+    (λ c. search needs)
     put-rows-requires
-    accepted-requires
+    (λ c κs. search needs)
     returns-3
-    same-length
+    (λ c. search needs)
     returns-4)

@@ -6,38 +6,29 @@ use mathlib.Core.Path.{ap}
 use Rattle.layout.specs.Layout.{maxLayout, takesSlot}
 use Rattle.layout.proofs.Steps.{bit-le}
 use Rattle.describe.specs.declared.fields.Row.{Row}
-use Rattle.describe.specs.fields.Walk.{Safe, Holds}
+use Rattle.describe.specs.inside.Walk.{Safe, Holds}
 use Rattle.describe.proofs.fields.Listing.{Listing, all, listing-none, listing-space, listing-some, listing-taken, listing-inside, listing-next, listing-done}
 use Rattle.describe.proofs.fields.put_rows.Statement.{statement}
 use Rattle.describe.proofs.fields.put_rows.Tie as tie
 
 abbrev Inv-loop : tie.InvT-loop
-Inv-loop text words n out₀ t₀ slot₀ i₀ at₀ out t slot i at =
-    (h : Holds text n words) × Listing text n words out₀ (all text n words out₀ h) out t slot i at
+Inv-loop text codes n out₀ t₀ slot₀ i₀ at₀ out t slot i at =
+    (h : Holds text n codes) × Listing text n codes out₀ (all text n codes out₀ h) out t slot i at
 
 abbrev μ-loop : tie.MeasureT-loop
-μ-loop text words n out₀ t₀ slot₀ i₀ at₀ out t slot i at = length text - at
+μ-loop text codes n out₀ t₀ slot₀ i₀ at₀ out t slot i at = length text - at
 
 loop-holds : tie.Need-loop-holds Inv-loop μ-loop
 loop-holds c =
     let start = c .before .before .before in
     (start .pre .0, listing-none _ _ _ _ (start .pre .0))
 
-shared-slice-read-c : tie.Need-shared-slice-read-c Inv-loop μ-loop
-shared-slice-read-c c = omega arith
-
-add-at : tie.Need-add-at Inv-loop μ-loop
-add-at c = omega arith
-
-loop-less : tie.Need-loop-less Inv-loop μ-loop
-loop-less c = omega arith
-
 loop-again : tie.Need-loop-again Inv-loop μ-loop
 loop-again c =
     let loop = c .before .before .before in
     (loop .loop .inv .0, listing-space _ _ _ _ (loop .loop .inv .0) _ _ _ _ _ (loop .loop .inv .1) (c .before .before .loop-test .taken) (c .if1 .taken))
 
--- a field stands here: it is one of the words
+-- a field stands here: it is one of the codes
 some : (c : tie.Else1 Inv-loop μ-loop)
     → c .before .before .before .loop .i < c .before .before .before .before .before .before .before .args .n
 some c =
@@ -49,7 +40,7 @@ few c = let h = c .before .before .before .loop .inv .0 in omega (arith, some c,
 
 -- it can be taken
 ready : (c : tie.After-field-of Inv-loop μ-loop)
-    → Safe (c .field-of .result .code) (c .field-of .result .count) (c .before .before .before .before .before .loop .t)
+    → Safe (c .field-of .result .role) (c .field-of .result .count) (c .before .before .before .before .before .loop .t)
 ready c =
     let e = c .before .before in
     let l = e .before .before .before .loop in
@@ -99,7 +90,7 @@ taken-requires c κs = tt
 
 add-slot : tie.Need-add-slot Inv-loop μ-loop
 add-slot c =
-    omega (arith, few (c .before .before .before .before .before .before .before .before .before), c .before .before .before .before .before .before .before .before .before .before .before .before .loop .inv .1 .taken, c .taken .ensures, bit-le (takesSlot (c .before .before .before .before .before .before .before .field-of .result .code)))
+    omega (arith, few (c .before .before .before .before .before .before .before .before .before), c .before .before .before .before .before .before .before .before .before .before .before .before .loop .inv .1 .taken, c .taken .ensures, bit-le (takesSlot (c .before .before .before .before .before .before .before .field-of .result .role)))
 
 onward-requires : tie.Need-onward-requires Inv-loop μ-loop
 onward-requires c κs = ready (c .before .before .before .before .before .before .before)
@@ -132,9 +123,9 @@ put-rows-spec =
     Inv-loop
     μ-loop
     loop-holds
-    shared-slice-read-c
-    add-at
-    loop-less
+    (λ c. omega arith)
+    (λ c. omega arith)
+    (λ c. omega arith)
     loop-again
     mul-field-of
     shared-slice-read-field-of

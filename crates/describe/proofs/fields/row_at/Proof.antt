@@ -6,24 +6,6 @@ use borrow.Author.Needs.{needs}
 use Rattle.describe.proofs.fields.row_at.Statement.{statement}
 use Rattle.describe.proofs.fields.row_at.Tie as tie
 
-add-tail-at : tie.Need-add-tail-at
-add-tail-at c = search needs
-
-tail-at-requires : tie.Need-tail-at-requires
-tail-at-requires c κs = search needs
-
-shared-slice-read-letter : tie.Need-shared-slice-read-letter
-shared-slice-read-letter c = search needs
-
-filling-requires : tie.Need-filling-requires
-filling-requires c κs = search needs
-
-cast-t15 : tie.Need-cast-t15
-cast-t15 c = search needs
-
-sub-t12 : tie.Need-sub-t12
-sub-t12 c = search needs
-
 cast-t16 : tie.Need-cast-t16
 cast-t16 c =
     let read = c .before .before .before in
@@ -36,24 +18,12 @@ cast-t17 c =
     let start = known .before .before .before in
     omega (arith, known .shared-slice-known2 .given (start .args .at))
 
-bit-requires : tie.Need-bit-requires
-bit-requires c κs = search needs
-
-count-number-requires : tie.Need-count-number-requires
-count-number-requires c κs = search needs
-
-slot-number-requires : tie.Need-slot-number-requires
-slot-number-requires c κs = search needs
-
-number-requires : tie.Need-number-requires
-number-requires c κs = search needs
-
 number-requires-2 : tie.Need-number-requires-2
 number-requires-2 c κs =
     let fills = c .before .before .before .before .before in
     let start = fills .before .before .before .before in
     let f = start .args .f in
-    rw (fills .filling .ensures) (filling-small (f .code) (f .count) (start .pre .3 .code) (start .pre .3 .count))
+    rw (fills .filling .ensures) (filling-small (f .role) (f .count) (start .pre .3 .role) (start .pre .3 .count))
 
 returns : tie.Need-returns
 returns c =
@@ -70,17 +40,17 @@ pub row-at-spec : {M : Type 1} → statement M
 row-at-spec =
     tie.close
     (tie.spec
-    add-tail-at
-    tail-at-requires
-    shared-slice-read-letter
-    filling-requires
-    cast-t15
-    sub-t12
+    (λ c. search needs)
+    (λ c κs. search needs)
+    (λ c. search needs)
+    (λ c κs. search needs)
+    (λ c. search needs)
+    (λ c. search needs)
     cast-t16
     cast-t17
-    bit-requires
-    count-number-requires
-    slot-number-requires
-    number-requires
+    (λ c κs. search needs)
+    (λ c κs. search needs)
+    (λ c κs. search needs)
+    (λ c κs. search needs)
     number-requires-2
     returns)

@@ -6,12 +6,6 @@ use borrow.Author.Needs.{needs}
 use Rattle.digits.proofs.bytes.digit_at.Statement.{statement}
 use Rattle.digits.proofs.bytes.digit_at.Tie as tie
 
-add-value : tie.Need-add-value
-add-value c = search needs
-
-shared-slice-read-value : tie.Need-shared-slice-read-value
-shared-slice-read-value c = search needs
-
 value-requires : tie.Need-value-requires
 value-requires c κs = c .before .before .before .pre .1 _ (c .before .if1 .taken)
 
@@ -27,4 +21,4 @@ returns-2 c =
     (sym (value-high (a .area .now) (a .from) (a .count) (a .q) (c .if1 .left)), base-pos (a .hex))
 
 pub digit-at-spec : {M : Type 1} → statement M
-digit-at-spec = tie.close (tie.spec add-value shared-slice-read-value value-requires returns returns-2)
+digit-at-spec = tie.close (tie.spec (λ c. search needs) (λ c. search needs) value-requires returns returns-2)

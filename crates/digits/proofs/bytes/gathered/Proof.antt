@@ -9,12 +9,6 @@ use Rattle.digits.proofs.bytes.gathered.Tie as tie
 sub-four : tie.Need-sub-four
 sub-four c = omega (arith, gathered-four true (c .args .x) (c .pre .0) (c .pre .1))
 
-mul-result : tie.Need-mul-result
-mul-result c = search needs
-
-mul-result-2 : tie.Need-mul-result-2
-mul-result-2 c = search needs
-
 returns : tie.Need-returns
 returns c = (omega arith, rw (c .if1 .taken) (gathered-four true (c .before .args .x) (c .before .pre .0) (c .before .pre .1) .1))
 
@@ -22,4 +16,4 @@ returns-2 : tie.Need-returns-2
 returns-2 c = (omega arith, rw (c .if1 .left) (gathered-four false (c .before .args .x) (c .before .pre .0) (c .before .pre .1) .1))
 
 pub gathered-spec : {M : Type 1} → statement M
-gathered-spec = tie.close (tie.spec sub-four mul-result mul-result-2 returns returns-2)
+gathered-spec = tie.close (tie.spec sub-four (λ c. search needs) (λ c. search needs) returns returns-2)

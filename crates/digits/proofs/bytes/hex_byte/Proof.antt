@@ -1,33 +1,9 @@
 -- Two digits make the byte.
-use Rattle.digits.specs.Numerals.{valuesAt}
+use Rattle.digits.specs.inside.Numerals.{valuesAt}
 use Rattle.digits.proofs.bytes.DigitBytes.{hex-low, hex-high}
 use borrow.Author.Needs.{needs}
 use Rattle.digits.proofs.bytes.hex_byte.Statement.{statement}
 use Rattle.digits.proofs.bytes.hex_byte.Tie as tie
-
-digit-at-requires : tie.Need-digit-at-requires
-digit-at-requires c κs = search needs
-
-digit-at-requires-2 : tie.Need-digit-at-requires-2
-digit-at-requires-2 c κs = search needs
-
-mul-result : tie.Need-mul-result
-mul-result c = search needs
-
-add-result : tie.Need-add-result
-add-result c = search needs
-
-cast-result : tie.Need-cast-result
-cast-result c = search needs
-
-mul-result-2 : tie.Need-mul-result-2
-mul-result-2 c = search needs
-
-add-result-2 : tie.Need-add-result-2
-add-result-2 c = search needs
-
-cast-result-2 : tie.Need-cast-result-2
-cast-result-2 c = search needs
 
 returns : tie.Need-returns
 returns c =
@@ -43,13 +19,13 @@ pub hex-byte-spec : {M : Type 1} → statement M
 hex-byte-spec =
     tie.close
     (tie.spec
-    digit-at-requires
-    digit-at-requires-2
-    mul-result
-    add-result
-    cast-result
-    mul-result-2
-    add-result-2
-    cast-result-2
+    (λ c κs. search needs)
+    (λ c κs. search needs)
+    (λ c. search needs)
+    (λ c. search needs)
+    (λ c. search needs)
+    (λ c. search needs)
+    (λ c. search needs)
+    (λ c. search needs)
     returns
     returns-2)

@@ -8,14 +8,8 @@ use borrow.Author.Needs.{needs}
 use Rattle.digits.proofs.bytes.next_byte.Statement.{statement}
 use Rattle.digits.proofs.bytes.next_byte.Tie as tie
 
-per-byte-requires : tie.Need-per-byte-requires
-per-byte-requires c κs = search needs
-
 add-if1 : tie.Need-add-if1
 add-if1 c = omega (arith, per-byte (c .before .before .args .hex))
-
-add-byte-of : tie.Need-add-byte-of
-add-byte-of c = search needs
 
 byte-of-requires : tie.Need-byte-of-requires
 byte-of-requires c κs =
@@ -29,12 +23,6 @@ returns c =
     let a = start .args in
     c .byte-of .ensures
     ∙ byte-part (a .hex) (a .high) (a .area .now) (a .start) (a .have) (a .i) (a .i) (c .before .before .per-byte .result) (start .pre .1) (omega arith) (omega arith) (omega arith)
-
-add-byte-of-2 : tie.Need-add-byte-of-2
-add-byte-of-2 c = omega arith
-
-sub-byte-of : tie.Need-sub-byte-of
-sub-byte-of c = omega arith
 
 byte-of-requires-2 : tie.Need-byte-of-requires-2
 byte-of-requires-2 c κs =
@@ -55,4 +43,4 @@ returns-3 c =
     sym (byte-none (a .hex) (a .high) (a .area .now) (a .start) (a .have) (a .i) (c .if2 .left))
 
 pub next-byte-spec : {M : Type 1} → statement M
-next-byte-spec = tie.close (tie.spec per-byte-requires add-if1 add-byte-of byte-of-requires returns add-byte-of-2 sub-byte-of byte-of-requires-2 returns-2 returns-3)
+next-byte-spec = tie.close (tie.spec (λ c κs. search needs) add-if1 (λ c. search needs) byte-of-requires returns (λ c. omega arith) (λ c. omega arith) byte-of-requires-2 returns-2 returns-3)

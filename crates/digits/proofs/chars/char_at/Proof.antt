@@ -4,21 +4,6 @@ use borrow.Author.Needs.{needs}
 use Rattle.digits.proofs.chars.char_at.Statement.{statement}
 use Rattle.digits.proofs.chars.char_at.Tie as tie
 
-per-byte-requires : tie.Need-per-byte-requires
-per-byte-requires c κs = search needs
-
-place-requires : tie.Need-place-requires
-place-requires c κs = search needs
-
-wide-requires : tie.Need-wide-requires
-wide-requires c κs = search needs
-
-digit-of-requires : tie.Need-digit-of-requires
-digit-of-requires c κs = search needs
-
-char-of-requires : tie.Need-char-of-requires
-char-of-requires c κs = search needs
-
 returns : tie.Need-returns
 returns c =
     let start = c .before .before .before .before .before in
@@ -27,4 +12,4 @@ returns c =
     (c .before .before .wide .ensures .0) (c .before .digit-of .ensures .0) (c .char-of .ensures)
 
 pub char-at-spec : {M : Type 1} → statement M
-char-at-spec = tie.close (tie.spec per-byte-requires place-requires wide-requires digit-of-requires char-of-requires returns)
+char-at-spec = tie.close (tie.spec (λ c κs. search needs) (λ c κs. search needs) (λ c κs. search needs) (λ c κs. search needs) (λ c κs. search needs) returns)

@@ -3,7 +3,7 @@ use Prim.Native.Nat.{ℕ, _+_, _≤_, _<_}
 use native.Mathlib.Omega.{arith}
 use mathlib.Core.Path.{_≡_, sym, ap}
 use Rattle.record.specs.Bytes.{digits}
-use Rattle.digits.specs.chars.{fourChars}
+use Rattle.digits.specs.inside.chars.{fourChars}
 use Rattle.digits.proofs.chars.four.Statement.{statement}
 use Rattle.digits.proofs.chars.four.Tie as tie
 

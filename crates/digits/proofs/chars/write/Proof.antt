@@ -5,7 +5,7 @@ use native.Mathlib.Omega.{arith}
 use lib.ListN.{take}
 use lib.Seq.{getD-take}
 use Rattle.record.proofs.Stores.{Put, put-none, put-more, put-done}
-use Rattle.digits.specs.chars.{charsOf}
+use Rattle.digits.specs.inside.chars.{charsOf}
 use Rattle.digits.proofs.chars.CharLaws.{length-first}
 use borrow.Author.Needs.{needs}
 use Rattle.digits.proofs.chars.write.Statement.{statement}
@@ -19,21 +19,6 @@ abbrev μ-loop : tie.MeasureT-loop
 
 loop-holds : tie.Need-loop-holds Inv-loop μ-loop
 loop-holds c = (omega arith, put-none)
-
-char-at-requires : tie.Need-char-at-requires Inv-loop μ-loop
-char-at-requires c κs = search needs
-
-add-area : tie.Need-add-area Inv-loop μ-loop
-add-area c = search needs
-
-slice-write-area : tie.Need-slice-write-area Inv-loop μ-loop
-slice-write-area c = search needs
-
-add-j : tie.Need-add-j Inv-loop μ-loop
-add-j c = search needs
-
-loop-less : tie.Need-loop-less Inv-loop μ-loop
-loop-less c = omega arith
 
 loop-again : tie.Need-loop-again Inv-loop μ-loop
 loop-again c =
@@ -54,4 +39,4 @@ returns c =
     put-done (c .before .loop .inv .1) (length-first (a .hex) (a .high) (a .b) (a .count) (start .pre .0) ∙ (omega arith))
 
 pub write-spec : {M : Type 1} → statement M
-write-spec = tie.close (tie.spec Inv-loop μ-loop loop-holds char-at-requires add-area slice-write-area add-j loop-less loop-again same-length returns)
+write-spec = tie.close (tie.spec Inv-loop μ-loop loop-holds (λ c κs. search needs) (λ c. search needs) (λ c. search needs) (λ c. search needs) (λ c. omega arith) loop-again same-length returns)

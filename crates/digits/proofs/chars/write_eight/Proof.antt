@@ -5,24 +5,6 @@ use borrow.Author.Needs.{needs}
 use Rattle.digits.proofs.chars.write_eight.Statement.{statement}
 use Rattle.digits.proofs.chars.write_eight.Tie as tie
 
-four-requires : tie.Need-four-requires
-four-requires c κs = search needs
-
-four-requires-2 : tie.Need-four-requires-2
-four-requires-2 c κs = search needs
-
-put-four-requires : tie.Need-put-four-requires
-put-four-requires c κs = search needs
-
-add-put-four : tie.Need-add-put-four
-add-put-four c = search needs
-
-put-four-requires-2 : tie.Need-put-four-requires-2
-put-four-requires-2 c κs = search needs
-
-same-length : tie.Need-same-length
-same-length c = search needs
-
 returns : tie.Need-returns
 returns c =
     let second = c .before .before in
@@ -34,18 +16,6 @@ returns c =
     let a = start .args in
     rw (test .if1 .taken)
     (two-fours (a .area .now) (a .to) (top .four2 .result) (low .four .result) true _ (rw (top .four2 .ensures, low .four .ensures) (high-first (a .b))) (start .pre) (first .put-four .ensures) (second .put-four2 .ensures))
-
-put-four-requires-3 : tie.Need-put-four-requires-3
-put-four-requires-3 c κs = search needs
-
-add-put-four-2 : tie.Need-add-put-four-2
-add-put-four-2 c = search needs
-
-put-four-requires-4 : tie.Need-put-four-requires-4
-put-four-requires-4 c κs = search needs
-
-same-length-2 : tie.Need-same-length-2
-same-length-2 c = search needs
 
 returns-2 : tie.Need-returns-2
 returns-2 c =
@@ -63,15 +33,15 @@ pub write-eight-spec : {M : Type 1} → statement M
 write-eight-spec =
     tie.close
     (tie.spec
-    four-requires
-    four-requires-2
-    put-four-requires
-    add-put-four
-    put-four-requires-2
-    same-length
+    (λ c κs. search needs)
+    (λ c κs. search needs)
+    (λ c κs. search needs)
+    (λ c. search needs)
+    (λ c κs. search needs)
+    (λ c. search needs)
     returns
-    put-four-requires-3
-    add-put-four-2
-    put-four-requires-4
-    same-length-2
+    (λ c κs. search needs)
+    (λ c. search needs)
+    (λ c κs. search needs)
+    (λ c. search needs)
     returns-2)

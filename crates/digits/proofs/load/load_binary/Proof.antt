@@ -8,15 +8,6 @@ use borrow.Author.Needs.{needs}
 use Rattle.digits.proofs.load.load_binary.Statement.{statement}
 use Rattle.digits.proofs.load.load_binary.Tie as tie
 
-add-load-steps : tie.Need-add-load-steps
-add-load-steps c = search needs
-
-load-steps-requires : tie.Need-load-steps-requires
-load-steps-requires c κs = search needs
-
-same-length : tie.Need-same-length
-same-length c = search needs
-
 returns : tie.Need-returns
 returns c =
     let start = c .before .before .before .before .before .before in
@@ -27,4 +18,4 @@ returns c =
     (run, λ u. whole ∙ ap (storeAt (a .area .now) (a .to)) (shown-any false (a .high) u (a .n) bs))
 
 pub load-binary-spec : {M : Type 1} → statement M
-load-binary-spec = tie.close (tie.spec add-load-steps load-steps-requires same-length returns)
+load-binary-spec = tie.close (tie.spec (λ c. search needs) (λ c κs. search needs) (λ c. search needs) returns)

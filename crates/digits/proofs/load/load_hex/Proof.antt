@@ -26,29 +26,14 @@ inside c = let a = c .before .before .before .before .args in more-bytes true (a
 loop-holds : tie.Need-loop-holds Inv-loop μ-loop
 loop-holds c = (omega (arith, zero-mul 2), grown-none)
 
-add-write-hex : tie.Need-add-write-hex Inv-loop μ-loop
-add-write-hex c = omega arith
-
 add-write-hex-2 : tie.Need-add-write-hex-2 Inv-loop μ-loop
 add-write-hex-2 c = omega (arith, inside (c .before))
 
 shared-slice-read-write-hex : tie.Need-shared-slice-read-write-hex Inv-loop μ-loop
 shared-slice-read-write-hex c = omega (arith, inside (c .before .before))
 
-sub-write-hex : tie.Need-sub-write-hex Inv-loop μ-loop
-sub-write-hex c = omega arith
-
-write-hex-requires : tie.Need-write-hex-requires Inv-loop μ-loop
-write-hex-requires c κs = omega arith
-
-add-i : tie.Need-add-i Inv-loop μ-loop
-add-i c = omega arith
-
 add-k : tie.Need-add-k Inv-loop μ-loop
 add-k c = omega (arith, inside (c .before .before .before .before .before))
-
-loop-less : tie.Need-loop-less Inv-loop μ-loop
-loop-less c = omega arith
 
 loop-again : tie.Need-loop-again Inv-loop μ-loop
 loop-again c =
@@ -74,4 +59,4 @@ returns c =
     grown-done (c .before .loop .inv .1) (omega arith) ∙ ap (storeAt (a .area .now) (a .to)) (shown-any true (a .high) u (a .n) bs)
 
 pub load-hex-spec : {M : Type 1} → statement M
-load-hex-spec = tie.close (tie.spec Inv-loop μ-loop loop-holds add-write-hex add-write-hex-2 shared-slice-read-write-hex sub-write-hex write-hex-requires add-i add-k loop-less loop-again same-length returns)
+load-hex-spec = tie.close (tie.spec Inv-loop μ-loop loop-holds (λ c. omega arith) add-write-hex-2 shared-slice-read-write-hex (λ c. omega arith) (λ c κs. omega arith) (λ c. omega arith) add-k (λ c. omega arith) loop-again same-length returns)

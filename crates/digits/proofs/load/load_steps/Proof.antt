@@ -1,4 +1,4 @@
--- The steps over whole bytes, and behind them those over single digits, are all of them or as many as the budget has.
+-- The steps over whole bytes, and after them those over single digits, are all of them or as many as the budget has.
 use Prim.Native.Nat.{ℕ}
 use mathlib.Core.Path.{_≡_}
 use native.Mathlib.Omega.{arith}
@@ -8,23 +8,11 @@ use borrow.Author.Needs.{needs}
 use Rattle.digits.proofs.load.load_steps.Statement.{statement}
 use Rattle.digits.proofs.load.load_steps.Tie as tie
 
-add-least : tie.Need-add-least
-add-least c = search needs
-
-least-requires : tie.Need-least-requires
-least-requires c κs = search needs
-
-least-requires-2 : tie.Need-least-requires-2
-least-requires-2 c κs = search needs
-
 show-run-requires : tie.Need-show-run-requires
 show-run-requires c κs = (omega arith, omega arith, omega arith, omega arith, λ e. omega arith, λ e. absurd (let z : _≡_ {A = ℕ} 0 1 = cc in omega arith))
 
 show-run-requires-2 : tie.Need-show-run-requires-2
 show-run-requires-2 c κs = (omega arith, omega arith, omega arith, omega arith, λ e. absurd (let z : _≡_ {A = ℕ} 0 1 = cc in omega arith), λ e h. omega arith)
-
-same-length : tie.Need-same-length
-same-length c = search needs
 
 returns : tie.Need-returns
 returns c =
@@ -35,4 +23,4 @@ returns c =
     (λ bytes same. c .before .before .show-run2 .ensures bytes (c .before .before .before .before .before .before .show-run .ensures bytes same))
 
 pub load-steps-spec : {M : Type 1} → statement M
-load-steps-spec = tie.close (tie.spec add-least least-requires least-requires-2 show-run-requires show-run-requires-2 same-length returns)
+load-steps-spec = tie.close (tie.spec (λ c. search needs) (λ c κs. search needs) (λ c κs. search needs) show-run-requires show-run-requires-2 (λ c. search needs) returns)

@@ -24,12 +24,6 @@ show-step-requires c κs =
     let inside = c .before .loop-test .taken in
     (omega arith, omega arith, omega arith, λ e. omega (arith, start .pre .4 e), λ e. omega (arith, start .pre .5 e (omega arith)))
 
-add-k : tie.Need-add-k Inv-loop μ-loop
-add-k c = omega arith
-
-loop-less : tie.Need-loop-less Inv-loop μ-loop
-loop-less c = omega arith
-
 loop-again : tie.Need-loop-again Inv-loop μ-loop
 loop-again c =
     let l = c .before .before .before .before .before .loop in
@@ -45,4 +39,4 @@ returns c =
     rw all at (l .inv .3)
 
 pub show-run-spec : {M : Type 1} → statement M
-show-run-spec = tie.close (tie.spec Inv-loop μ-loop loop-holds show-step-requires add-k loop-less loop-again same-length returns)
+show-run-spec = tie.close (tie.spec Inv-loop μ-loop loop-holds show-step-requires (λ c. omega arith) (λ c. omega arith) loop-again same-length returns)

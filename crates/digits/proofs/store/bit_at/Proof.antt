@@ -6,15 +6,6 @@ use borrow.Author.Needs.{needs}
 use Rattle.digits.proofs.store.bit_at.Statement.{statement}
 use Rattle.digits.proofs.store.bit_at.Tie as tie
 
-digit-at-requires : tie.Need-digit-at-requires
-digit-at-requires c κs = search needs
-
-place-requires : tie.Need-place-requires
-place-requires c κs = search needs
-
-shl-result : tie.Need-shl-result
-shl-result c = search needs
-
 cast-result : tie.Need-cast-result
 cast-result c =
     let placed = bit-placed (c .before .digit-at .result) (c .place .result) (c .before .digit-at .ensures .1) (c .place .ensures .1) in
@@ -26,4 +17,4 @@ returns c =
     placed .1 ∙ rw (c .before .digit-at .ensures .0, c .place .ensures .0)
 
 pub bit-at-spec : {M : Type 1} → statement M
-bit-at-spec = tie.close (tie.spec digit-at-requires place-requires shl-result cast-result returns)
+bit-at-spec = tie.close (tie.spec (λ c κs. search needs) (λ c κs. search needs) (λ c. search needs) cast-result returns)

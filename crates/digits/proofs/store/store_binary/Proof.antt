@@ -6,15 +6,6 @@ use borrow.Author.Needs.{needs}
 use Rattle.digits.proofs.store.store_binary.Statement.{statement}
 use Rattle.digits.proofs.store.store_binary.Tie as tie
 
-add-store-steps : tie.Need-add-store-steps
-add-store-steps c = search needs
-
-store-steps-requires : tie.Need-store-steps-requires
-store-steps-requires c κs = search needs
-
-same-length : tie.Need-same-length
-same-length c = search needs
-
 returns : tie.Need-returns
 returns c =
     let start = c .before .before .before .before .before .before in
@@ -23,4 +14,4 @@ returns c =
     (run, run ∙ stored-within (a .high) (part (a .area .now) (a .start) (a .len)) (a .at) (a .n) (a .out .now) (start .pre .2))
 
 pub store-binary-spec : {M : Type 1} → statement M
-store-binary-spec = tie.close (tie.spec add-store-steps store-steps-requires same-length returns)
+store-binary-spec = tie.close (tie.spec (λ c. search needs) (λ c κs. search needs) (λ c. search needs) returns)

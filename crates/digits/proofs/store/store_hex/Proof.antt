@@ -20,9 +20,6 @@ Inv-loop out₀ at area start len n high have i₀ k₀ out i k =
 abbrev μ-loop : tie.MeasureT-loop
 μ-loop out₀ at area start len n high have i₀ k₀ out i k = ceilDiv n 2 - k
 
-least-requires : tie.Need-least-requires Inv-loop μ-loop
-least-requires c κs = search needs
-
 loop-holds : tie.Need-loop-holds Inv-loop μ-loop
 loop-holds c = (omega arith, omega arith, put-none)
 
@@ -32,20 +29,8 @@ next-byte-requires c κs =
     let a = start .args in
     (omega arith, omega arith, λ i h. digits-at true (a .area .now) (a .start) (a .len) (a .n) (start .pre .1) (start .pre .3) i (omega arith))
 
-add-out : tie.Need-add-out Inv-loop μ-loop
-add-out c = omega arith
-
 slice-write-out : tie.Need-slice-write-out Inv-loop μ-loop
 slice-write-out c = omega (arith, c .before .before .loop .inv .2 .long)
-
-add-i : tie.Need-add-i Inv-loop μ-loop
-add-i c = omega arith
-
-add-k : tie.Need-add-k Inv-loop μ-loop
-add-k c = omega arith
-
-loop-less : tie.Need-loop-less Inv-loop μ-loop
-loop-less c = omega arith
 
 loop-again : tie.Need-loop-again Inv-loop μ-loop
 loop-again c =
@@ -67,4 +52,4 @@ returns c =
     put-done (l .inv .2) (omega arith)
 
 pub store-hex-spec : {M : Type 1} → statement M
-store-hex-spec = tie.close (tie.spec Inv-loop μ-loop least-requires loop-holds next-byte-requires add-out slice-write-out add-i add-k loop-less loop-again same-length returns)
+store-hex-spec = tie.close (tie.spec Inv-loop μ-loop (λ c κs. search needs) loop-holds next-byte-requires (λ c. omega arith) slice-write-out (λ c. omega arith) (λ c. omega arith) (λ c. omega arith) loop-again same-length returns)

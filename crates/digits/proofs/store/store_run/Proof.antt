@@ -25,12 +25,6 @@ store-step-requires c κs =
     let inside = c .before .loop-test .taken in
     (omega arith, omega arith, omega arith, omega arith, start .pre .4, omega arith, λ e. omega (arith, start .pre .7 e), λ e. omega (arith, start .pre .8 e (omega arith)), λ e. omega (arith, start .pre .9 e))
 
-add-k : tie.Need-add-k Inv-loop μ-loop
-add-k c = omega arith
-
-loop-less : tie.Need-loop-less Inv-loop μ-loop
-loop-less c = omega arith
-
 loop-again : tie.Need-loop-again Inv-loop μ-loop
 loop-again c =
     let l = c .before .before .before .before .before .loop in
@@ -46,4 +40,4 @@ returns c =
     rw all at (l .inv .3)
 
 pub store-run-spec : {M : Type 1} → statement M
-store-run-spec = tie.close (tie.spec Inv-loop μ-loop loop-holds store-step-requires add-k loop-less loop-again same-length returns)
+store-run-spec = tie.close (tie.spec Inv-loop μ-loop loop-holds store-step-requires (λ c. omega arith) (λ c. omega arith) loop-again same-length returns)

@@ -10,12 +10,6 @@ use borrow.Author.Needs.{needs}
 use Rattle.digits.proofs.store.store_step.Statement.{statement}
 use Rattle.digits.proofs.store.store_step.Tie as tie
 
-mul-eight-at : tie.Need-mul-eight-at
-mul-eight-at c = search needs
-
-add-eight-at : tie.Need-add-eight-at
-add-eight-at c = search needs
-
 eight-at-requires : tie.Need-eight-at-requires
 eight-at-requires c κs =
     let start = c .before .before .before in
@@ -23,14 +17,8 @@ eight-at-requires c κs =
     let there = start .pre .8 (c .if1 .taken) in
     (omega arith, digits-part false (a .area .now) (a .start) (a .have) (8 * a .k) 8 (start .pre .4) there)
 
-add-out : tie.Need-add-out
-add-out c = search needs
-
 slice-write-out : tie.Need-slice-write-out
 slice-write-out c = omega (arith, c .before .before .before .before .pre .8 (c .before .if1 .taken))
-
-same-length : tie.Need-same-length
-same-length c = search needs
 
 returns : tie.Need-returns
 returns c =
@@ -40,22 +28,13 @@ returns c =
     whole-stored (a .high) (a .area .now) (a .start) (a .have) (a .at) (a .n) (a .k) (omega arith)
     (c .eight-at .ensures ∙ byte-part false (a .high) (a .area .now) (a .start) (a .have) (8 * a .k) (8 * a .k) 8 (start .pre .2) (omega arith) there (omega arith)) refl
 
-mul-next-byte : tie.Need-mul-next-byte
-mul-next-byte c = search needs
-
 next-byte-requires : tie.Need-next-byte-requires
 next-byte-requires c κs =
     let start = c .before .before .before .before in
     (omega (arith, start .pre .6 (c .if2 .taken)), start .pre .2, start .pre .4)
 
-add-out-2 : tie.Need-add-out-2
-add-out-2 c = search needs
-
 slice-write-out-2 : tie.Need-slice-write-out-2
 slice-write-out-2 c = omega (arith, c .before .before .before .before .before .pre .6 (c .before .if2 .taken))
-
-same-length-2 : tie.Need-same-length-2
-same-length-2 c = search needs
 
 returns-2 : tie.Need-returns-2
 returns-2 c =
@@ -66,23 +45,8 @@ returns-2 c =
 sub-j : tie.Need-sub-j
 sub-j c = omega (arith, c .before .before .before .before .pre .7 (c .if2 .left))
 
-mul-bit-at : tie.Need-mul-bit-at
-mul-bit-at c = search needs
-
-add-bit-at : tie.Need-add-bit-at
-add-bit-at c = search needs
-
-bit-at-requires : tie.Need-bit-at-requires
-bit-at-requires c κs = search needs
-
-add-add-bit : tie.Need-add-add-bit
-add-add-bit c = search needs
-
 add-bit-requires : tie.Need-add-bit-requires
 add-bit-requires c κs = omega (arith, c .before .before .before .before .before .before .pre .7 (c .before .before .if2 .left))
-
-same-length-3 : tie.Need-same-length-3
-same-length-3 c = search needs
 
 returns-3 : tie.Need-returns-3
 returns-3 c =
@@ -96,24 +60,24 @@ pub store-step-spec : {M : Type 1} → statement M
 store-step-spec =
     tie.close
     (tie.spec
-    mul-eight-at
-    add-eight-at
+    (λ c. search needs)
+    (λ c. search needs)
     eight-at-requires
-    add-out
+    (λ c. search needs)
     slice-write-out
-    same-length
+    (λ c. search needs)
     returns
-    mul-next-byte
+    (λ c. search needs)
     next-byte-requires
-    add-out-2
+    (λ c. search needs)
     slice-write-out-2
-    same-length-2
+    (λ c. search needs)
     returns-2
     sub-j
-    mul-bit-at
-    add-bit-at
-    bit-at-requires
-    add-add-bit
+    (λ c. search needs)
+    (λ c. search needs)
+    (λ c κs. search needs)
+    (λ c. search needs)
     add-bit-requires
-    same-length-3
+    (λ c. search needs)
     returns-3)

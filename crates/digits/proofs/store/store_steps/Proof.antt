@@ -1,11 +1,12 @@
--- The steps over full bytes, behind them those over bytes with padding and those over single digits, are all of them or as many as the budget has.
+-- The steps over full bytes, after them those over bytes with padding and those over single digits, are all of them or
+-- as many as the budget has.
 use Prim.Native.Nat.{ℕ}
 use mathlib.Core.Path.{_≡_, _∙_}
 use mathlib.Core.Bool.{false}
 use native.Mathlib.Omega.{arith}
 use lib.ListN.{drop}
 use Rattle.record.specs.Bytes.{part}
-use Rattle.digits.specs.Numerals.{DigitsAt}
+use Rattle.digits.specs.inside.Numerals.{DigitsAt}
 use Rattle.digits.specs.Steps.{storing, steps}
 use Rattle.digits.proofs.DigitLaws.{digits-at}
 use Rattle.digits.proofs.StepLaws.{within-budget}
@@ -21,21 +22,6 @@ checked c =
     let a = start .args in
     rw (c .least .ensures) (digits-at false (a .area .now) (a .start) (a .len) (a .n) (start .pre .1) (start .pre .3))
 
-least-requires : tie.Need-least-requires
-least-requires c κs = search needs
-
-add-least : tie.Need-add-least
-add-least c = search needs
-
-least-requires-2 : tie.Need-least-requires-2
-least-requires-2 c κs = search needs
-
-least-requires-3 : tie.Need-least-requires-3
-least-requires-3 c κs = search needs
-
-least-requires-4 : tie.Need-least-requires-4
-least-requires-4 c κs = search needs
-
 store-run-requires : tie.Need-store-run-requires
 store-run-requires c κs =
     (omega arith, omega arith, omega arith, omega arith, checked (c .before .before .before .before), omega arith, omega arith, λ e. omega arith, λ e. absurd (let z : _≡_ {A = ℕ} 0 1 = cc in omega arith), λ e. omega arith)
@@ -47,9 +33,6 @@ store-run-requires-2 c κs =
 store-run-requires-3 : tie.Need-store-run-requires-3
 store-run-requires-3 c κs =
     (omega arith, omega arith, omega arith, omega arith, checked (c .before .before .before .before .before .before .before .before .before .before .before .before), omega arith, omega arith, λ e. absurd (let z : _≡_ {A = ℕ} 0 1 = cc in omega arith), λ e h. omega arith, λ e. absurd (let z : _≡_ {A = ℕ} 0 1 = cc in omega arith))
-
-same-length : tie.Need-same-length
-same-length c = search needs
 
 returns : tie.Need-returns
 returns c =
@@ -66,13 +49,13 @@ pub store-steps-spec : {M : Type 1} → statement M
 store-steps-spec =
     tie.close
     (tie.spec
-    least-requires
-    add-least
-    least-requires-2
-    least-requires-3
-    least-requires-4
+    (λ c κs. search needs)
+    (λ c. search needs)
+    (λ c κs. search needs)
+    (λ c κs. search needs)
+    (λ c κs. search needs)
     store-run-requires
     store-run-requires-2
     store-run-requires-3
-    same-length
+    (λ c. search needs)
     returns)

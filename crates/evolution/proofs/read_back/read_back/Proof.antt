@@ -7,20 +7,8 @@ use Rattle.evolution.proofs.read_back.Calls.{record-room, then-refused,
 use Rattle.evolution.proofs.read_back.read_back.Statement.{statement}
 use Rattle.evolution.proofs.read_back.read_back.Tie as tie
 
-pack-requires : tie.Need-pack-requires
-pack-requires c κs = search needs
-
-same-length : tie.Need-same-length
-same-length c = search needs
-
 returns : tie.Need-returns
 returns c = promised _ _ (then-refused _ _ _ (c .before .before .before .pack .ensures) (c .if1 .taken))
-
-cast-least : tie.Need-cast-least
-cast-least c = search needs
-
-least-requires : tie.Need-least-requires
-least-requires c κs = search needs
 
 slice-reshare-prefix-read : tie.Need-slice-reshare-prefix-read
 slice-reshare-prefix-read c =
@@ -31,18 +19,6 @@ slice-reshare-prefix-read c =
 
 slice-aggregate-read : tie.Need-slice-aggregate-read
 slice-aggregate-read c = sym (length-take-le _ _ (slice-reshare-prefix-read (c .before)))
-
-read-requires : tie.Need-read-requires
-read-requires c κs = search needs
-
-same-length-2 : tie.Need-same-length-2
-same-length-2 c = search needs
-
-same-length-3 : tie.Need-same-length-3
-same-length-3 c = search needs
-
-same-length-4 : tie.Need-same-length-4
-same-length-4 c = search needs
 
 returns-2 : tie.Need-returns-2
 returns-2 c =
@@ -56,15 +32,15 @@ pub read-back-spec : {M : Type 1} → statement M
 read-back-spec =
     tie.close
     (tie.spec
-    pack-requires
-    same-length
+    (λ c κs. search needs)
+    (λ c. search needs)
     returns
-    cast-least
-    least-requires
+    (λ c. search needs)
+    (λ c κs. search needs)
     slice-reshare-prefix-read
     slice-aggregate-read
-    read-requires
-    same-length-2
-    same-length-3
-    same-length-4
+    (λ c κs. search needs)
+    (λ c. search needs)
+    (λ c. search needs)
+    (λ c. search needs)
     returns-2)

@@ -5,7 +5,7 @@ use lib.ListN.{length}
 use native.Mathlib.Omega.{arith}
 use Rattle.record.specs.Table.{slotWidth}
 use Rattle.record.proofs.Stores.{Front, front-none}
-use Rattle.host.specs.numbers.Numbers.{numbersIn}
+use Rattle.host.specs.Numbers.{numbersIn}
 use Rattle.host.proofs.numbers.NumberLaws.{decoded-next, decoded}
 use Rattle.host.proofs.numbers.decode.Statement.{statement}
 use Rattle.host.proofs.numbers.decode.Tie as tie
@@ -21,12 +21,6 @@ loop-holds c = (omega arith, omega arith, front-none)
 
 decode-run-requires : tie.Need-decode-run-requires Inv-loop μ-loop
 decode-run-requires c κs = (omega arith, omega arith)
-
-add-i : tie.Need-add-i Inv-loop μ-loop
-add-i c = omega arith
-
-loop-less : tie.Need-loop-less Inv-loop μ-loop
-loop-less c = omega arith
 
 loop-again : tie.Need-loop-again Inv-loop μ-loop
 loop-again c =
@@ -51,8 +45,8 @@ decode-spec =
     μ-loop
     loop-holds
     decode-run-requires
-    add-i
-    loop-less
+    (λ c. omega arith)
+    (λ c. omega arith)
     loop-again
     same-length
     returns)

@@ -3,7 +3,7 @@ use Prim.Native.Nat.{_-_, _≤_}
 use native.Mathlib.Omega.{arith}
 use Rattle.record.specs.Bytes.{part}
 use Rattle.record.proofs.Stores.{Put, put-none}
-use Rattle.host.specs.numbers.Numbers.{numbersIn}
+use Rattle.host.specs.Numbers.{numbersIn}
 use Rattle.host.proofs.numbers.NumberLaws.{decoded-more, decoded-run}
 use Rattle.host.proofs.numbers.decode_run.Statement.{statement}
 use Rattle.host.proofs.numbers.decode_run.Tie as tie
@@ -16,27 +16,6 @@ abbrev μ-loop : tie.MeasureT-loop
 
 loop-holds : tie.Need-loop-holds Inv-loop μ-loop
 loop-holds c = (omega arith, put-none)
-
-add-i : tie.Need-add-i Inv-loop μ-loop
-add-i c = omega arith
-
-mul-number-at : tie.Need-mul-number-at Inv-loop μ-loop
-mul-number-at c = omega arith
-
-number-at-requires : tie.Need-number-at-requires Inv-loop μ-loop
-number-at-requires c κs = omega arith
-
-mul-numbers : tie.Need-mul-numbers Inv-loop μ-loop
-mul-numbers c = omega arith
-
-slice-write-numbers : tie.Need-slice-write-numbers Inv-loop μ-loop
-slice-write-numbers c = omega arith
-
-add-j : tie.Need-add-j Inv-loop μ-loop
-add-j c = omega arith
-
-loop-less : tie.Need-loop-less Inv-loop μ-loop
-loop-less c = omega arith
 
 loop-again : tie.Need-loop-again Inv-loop μ-loop
 loop-again c =
@@ -59,13 +38,13 @@ decode-run-spec =
     Inv-loop
     μ-loop
     loop-holds
-    add-i
-    mul-number-at
-    number-at-requires
-    mul-numbers
-    slice-write-numbers
-    add-j
-    loop-less
+    (λ c. omega arith)
+    (λ c. omega arith)
+    (λ c κs. omega arith)
+    (λ c. omega arith)
+    (λ c. omega arith)
+    (λ c. omega arith)
+    (λ c. omega arith)
     loop-again
     same-length
     returns)

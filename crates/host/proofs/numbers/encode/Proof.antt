@@ -3,13 +3,13 @@ use Prim.Native.Nat.{_-_, _*_, _≤_}
 use native.Mathlib.Omega.{arith}
 use Rattle.record.specs.Table.{slotWidth}
 use Rattle.record.proofs.Stores.{Front, front-none}
-use Rattle.host.specs.numbers.Numbers.{numberSize, bytesOf}
+use Rattle.host.specs.Numbers.{numberSize, numbersBytes}
 use Rattle.host.proofs.numbers.NumberLaws.{encoded-next, encoded-front}
 use Rattle.host.proofs.numbers.encode.Statement.{statement}
 use Rattle.host.proofs.numbers.encode.Tie as tie
 
 abbrev Inv-loop : tie.InvT-loop
-Inv-loop out₀ numbers n k₀ out k = (k ≤ n) × Front out₀ (bytesOf numbers) out (k * slotWidth * numberSize)
+Inv-loop out₀ numbers n k₀ out k = (k ≤ n) × Front out₀ (numbersBytes numbers) out (k * slotWidth * numberSize)
 
 abbrev μ-loop : tie.MeasureT-loop
 μ-loop out₀ numbers n k₀ out k = n - k
@@ -17,17 +17,8 @@ abbrev μ-loop : tie.MeasureT-loop
 loop-holds : tie.Need-loop-holds Inv-loop μ-loop
 loop-holds c = (omega arith, front-none)
 
-mul-encode-run : tie.Need-mul-encode-run Inv-loop μ-loop
-mul-encode-run c = omega arith
-
 encode-run-requires : tie.Need-encode-run-requires Inv-loop μ-loop
 encode-run-requires c κs = (omega arith, omega arith)
-
-add-k : tie.Need-add-k Inv-loop μ-loop
-add-k c = omega arith
-
-loop-less : tie.Need-loop-less Inv-loop μ-loop
-loop-less c = omega arith
 
 loop-again : tie.Need-loop-again Inv-loop μ-loop
 loop-again c =
@@ -51,10 +42,10 @@ encode-spec =
     Inv-loop
     μ-loop
     loop-holds
-    mul-encode-run
+    (λ c. omega arith)
     encode-run-requires
-    add-k
-    loop-less
+    (λ c. omega arith)
+    (λ c. omega arith)
     loop-again
     same-length
     returns)

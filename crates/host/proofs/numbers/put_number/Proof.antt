@@ -5,15 +5,6 @@ use borrow.Author.Needs.{needs}
 use Rattle.host.proofs.numbers.put_number.Statement.{statement}
 use Rattle.host.proofs.numbers.put_number.Tie as tie
 
-turn-four-requires : tie.Need-turn-four-requires
-turn-four-requires c κs = search needs
-
-put-four-requires : tie.Need-put-four-requires
-put-four-requires c κs = search needs
-
-same-length : tie.Need-same-length
-same-length c = search needs
-
 returns : tie.Need-returns
 unfolding numberBytes
 returns c =
@@ -21,4 +12,4 @@ returns c =
     c .before .before .put-four .ensures ∙ ap (storeAt (a .out .now) (a .at)) (c .before .before .before .turn-four .ensures)
 
 pub put-number-spec : {M : Type 1} → statement M
-put-number-spec = tie.close (tie.spec turn-four-requires put-four-requires same-length returns)
+put-number-spec = tie.close (tie.spec (λ c κs. search needs) (λ c κs. search needs) (λ c. search needs) returns)

@@ -10,23 +10,14 @@ use borrow.Author.Needs.{needs}
 use Rattle.host_layout.proofs.layouts.describe.Statement.{statement}
 use Rattle.host_layout.proofs.layouts.describe.Tie as tie
 
-reply-fits-requires : tie.Need-reply-fits-requires
-reply-fits-requires c κs = search needs
-
 returns : tie.Need-returns
 returns c = unwritten _ _ (sym (c .before .reply-fits .ensures) ∙ not-true _ (c .if1 .taken))
 
 sized : (c : tie.Else1) → eqb (length (c .before .before .before .before .args .reply .now)) replySize ≡ true
 sized c = sym (c .before .reply-fits .ensures) ∙ not-false _ (c .if1 .left)
 
-describe-requires : tie.Need-describe-requires
-describe-requires c κs = search needs
-
 reply-with-requires : tie.Need-reply-with-requires
 reply-with-requires c κs = eqb-true _ _ (sized (c .before .before))
-
-same-length : tie.Need-same-length
-same-length c = search needs
 
 returns-2 : tie.Need-returns-2
 returns-2 c =
@@ -35,4 +26,4 @@ returns-2 c =
 
 pub describe-spec : {M : Type 1} → statement M
 describe-spec =
-    tie.close (tie.spec reply-fits-requires returns describe-requires reply-with-requires same-length returns-2)
+    tie.close (tie.spec (λ c κs. search needs) returns (λ c κs. search needs) reply-with-requires (λ c. search needs) returns-2)

@@ -10,26 +10,14 @@ use borrow.Author.Needs.{needs}
 use Rattle.host_layout.proofs.templates.from_perl.Statement.{statement}
 use Rattle.host_layout.proofs.templates.from_perl.Tie as tie
 
-reply-fits-requires : tie.Need-reply-fits-requires
-reply-fits-requires c κs = search needs
-
 returns : tie.Need-returns
 returns c = unwritten _ _ _ (sym (c .before .reply-fits .ensures) ∙ not-true _ (c .if1 .taken))
 
 sized : (c : tie.Else1) → eqb (length (c .before .before .before .before .before .args .reply .now)) replySize ≡ true
 sized c = sym (c .before .reply-fits .ensures) ∙ not-false _ (c .if1 .left)
 
-from-perl-requires : tie.Need-from-perl-requires
-from-perl-requires c κs = search needs
-
 reply-with-requires : tie.Need-reply-with-requires
 reply-with-requires c κs = eqb-true _ _ (sized (c .before .before .before .before .before))
-
-same-length : tie.Need-same-length
-same-length c = search needs
-
-same-length-2 : tie.Need-same-length-2
-same-length-2 c = search needs
 
 returns-2 : tie.Need-returns-2
 returns-2 c =
@@ -40,10 +28,10 @@ pub from-perl-spec : {M : Type 1} → statement M
 from-perl-spec =
     tie.close
     (tie.spec
-    reply-fits-requires
+    (λ c κs. search needs)
     returns
-    from-perl-requires
+    (λ c κs. search needs)
     reply-with-requires
-    same-length
-    same-length-2
+    (λ c. search needs)
+    (λ c. search needs)
     returns-2)

@@ -10,9 +10,6 @@ use borrow.Author.Needs.{needs}
 use Rattle.host_layout.proofs.theorems.tell.Statement.{statement}
 use Rattle.host_layout.proofs.theorems.tell.Tie as tie
 
-long-reply-fits-requires : tie.Need-long-reply-fits-requires
-long-reply-fits-requires c κs = search needs
-
 returns : tie.Need-returns
 returns c = unwritten _ _ (sym (c .before .long-reply-fits .ensures) ∙ not-true _ (c .if1 .taken))
 
@@ -22,12 +19,9 @@ sized c = sym (c .before .long-reply-fits .ensures) ∙ not-false _ (c .if1 .lef
 reply-long-requires : tie.Need-reply-long-requires
 reply-long-requires c κs = eqb-true _ _ (sized (c .before .before))
 
-same-length : tie.Need-same-length
-same-length c = search needs
-
 returns-2 : tie.Need-returns-2
 returns-2 c = replied _ _ (sized (c .before .before .before .before .before)) refl (c .before .before .reply-long .ensures)
 
 pub tell-spec : {M : Type 1} → statement M
 tell-spec =
-    tie.close (tie.spec long-reply-fits-requires returns reply-long-requires same-length returns-2)
+    tie.close (tie.spec (λ c κs. search needs) returns reply-long-requires (λ c. search needs) returns-2)

@@ -4,9 +4,6 @@ use borrow.Author.Needs.{needs}
 use Rattle.host_record.proofs.read.read_back.Statement.{statement}
 use Rattle.host_record.proofs.read.read_back.Tie as tie
 
-reply-long-requires : tie.Need-reply-long-requires
-reply-long-requires c κs = search needs
-
 same-length : tie.Need-same-length
 same-length c = c .before .reply .given
 
@@ -15,14 +12,8 @@ returns c =
     let replied = c .before .before .reply-long .ensures in
     (replied .0, replied .1, left-back _ _ _ (c .before .before .before .before .if1 .taken))
 
-cast-encode : tie.Need-cast-encode
-cast-encode c = search needs
-
 encode-requires : tie.Need-encode-requires
 encode-requires c κs = (search needs, c .before .before .before .before .before .before .before .before .pre .2 (c .before .before .if1 .left))
-
-reply-long-requires-2 : tie.Need-reply-long-requires-2
-reply-long-requires-2 c κs = search needs
 
 same-length-2 : tie.Need-same-length-2
 same-length-2 c = c .before .before .before .before .before .slots .given
@@ -40,12 +31,12 @@ pub read-back-spec : {M : Type 1} → statement M
 read-back-spec =
     tie.close
     (tie.spec
-    reply-long-requires
+    (λ c κs. search needs)
     same-length
     returns
-    cast-encode
+    (λ c. search needs)
     encode-requires
-    reply-long-requires-2
+    (λ c κs. search needs)
     same-length-2
     same-length-3
     returns-2)

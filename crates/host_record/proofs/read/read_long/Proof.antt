@@ -5,9 +5,6 @@ use borrow.Author.Needs.{needs}
 use Rattle.host_record.proofs.read.read_long.Statement.{statement}
 use Rattle.host_record.proofs.read.read_long.Tie as tie
 
-read-requires : tie.Need-read-requires
-read-requires c κs = search needs
-
 read-back-requires : tie.Need-read-back-requires
 read-back-requires c κs =
     let called = c .before .before .before .before .before .before .before in
@@ -38,7 +35,7 @@ pub read-long-spec : {M : Type 1} → statement M
 read-long-spec =
     tie.close
     (tie.spec
-    read-requires
+    (λ c κs. search needs)
     read-back-requires
     same-length
     same-length-2

@@ -5,9 +5,6 @@ use borrow.Author.Needs.{needs}
 use Rattle.host_record.proofs.read.read_short.Statement.{statement}
 use Rattle.host_record.proofs.read.read_short.Tie as tie
 
-read-short-requires : tie.Need-read-short-requires
-read-short-requires c κs = search needs
-
 read-back-requires : tie.Need-read-back-requires
 read-back-requires c κs =
     let called = c .before .before .before .before .before .before .before in
@@ -38,7 +35,7 @@ pub read-short-spec : {M : Type 1} → statement M
 read-short-spec =
     tie.close
     (tie.spec
-    read-short-requires
+    (λ c κs. search needs)
     read-back-requires
     same-length
     same-length-2

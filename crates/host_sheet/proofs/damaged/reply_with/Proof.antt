@@ -1,20 +1,11 @@
 -- The answer's four numbers are encoded, and the first is handed back.
 use mathlib.Core.Path.{refl, _∙_}
 use mathlib.Core.List.{[], _∷_}
-use Rattle.host_sheet.specs.damaged.{rescueReply}
+use Rattle.host_sheet.specs.Rescuing.{rescueReply}
 use Rattle.host.proofs.numbers.NumberLaws.{bytes-whole}
 use borrow.Author.Needs.{needs}
 use Rattle.host_sheet.proofs.damaged.reply_with.Statement.{statement}
 use Rattle.host_sheet.proofs.damaged.reply_with.Tie as tie
-
-slice-aggregate-encode-run : tie.Need-slice-aggregate-encode-run
-slice-aggregate-encode-run c = search needs
-
-encode-run-requires : tie.Need-encode-run-requires
-encode-run-requires c κs = search needs
-
-same-length : tie.Need-same-length
-same-length c = search needs
 
 returns : tie.Need-returns
 unfolding rescueReply
@@ -25,4 +16,4 @@ returns c =
     (refl, called .encode-run .ensures ∙ bytes-whole (start .args .reply .now) (a .number ∷ a .first ∷ a .second ∷ a .third ∷ []) (start .pre))
 
 pub reply-with-spec : {M : Type 1} → statement M
-reply-with-spec = tie.close (tie.spec slice-aggregate-encode-run encode-run-requires same-length returns)
+reply-with-spec = tie.close (tie.spec (λ c. search needs) (λ c κs. search needs) (λ c. search needs) returns)

@@ -1,25 +1,11 @@
--- The call on numbers rescues over slots of any content, and its answer is the reply; an accepted one writes back the slots of the legs.
+-- The call on numbers rescues over slots of any content, and its answer is the reply; an accepted one writes back the
+-- slots of the legs.
 use Rattle.record.proofs.Bytes.{all-below}
 use Rattle.rescue.proofs.Unset.{legs-there}
 use Rattle.host_sheet.proofs.damaged.Calls.{rescue-left, rescue-set}
 use borrow.Author.Needs.{needs}
 use Rattle.host_sheet.proofs.damaged.rescue_by.Statement.{statement}
 use Rattle.host_sheet.proofs.damaged.rescue_by.Tie as tie
-
-rescue-requires : tie.Need-rescue-requires
-rescue-requires c κs = search needs
-
-reply-with-requires : tie.Need-reply-with-requires
-reply-with-requires c κs = search needs
-
-same-length : tie.Need-same-length
-same-length c = search needs
-
-same-length-2 : tie.Need-same-length-2
-same-length-2 c = search needs
-
-same-length-3 : tie.Need-same-length-3
-same-length-3 c = search needs
 
 returns : tie.Need-returns
 returns c =
@@ -36,21 +22,6 @@ encode-requires c κs =
     let start = called .before .before .before .before .before .before .before .before in
     (search needs, legs-there _ _ _ _ (start .args .room .now) (called .rescue .ensures) (tested .if1 .left) (search needs))
 
-reply-with-requires-2 : tie.Need-reply-with-requires-2
-reply-with-requires-2 c κs = search needs
-
-same-length-4 : tie.Need-same-length-4
-same-length-4 c = search needs
-
-same-length-5 : tie.Need-same-length-5
-same-length-5 c = search needs
-
-same-length-6 : tie.Need-same-length-6
-same-length-6 c = search needs
-
-same-length-7 : tie.Need-same-length-7
-same-length-7 c = search needs
-
 returns-2 : tie.Need-returns-2
 returns-2 c =
     let replied = c .before .before in
@@ -65,16 +36,16 @@ pub rescue-by-spec : {M : Type 1} → statement M
 rescue-by-spec =
     tie.close
     (tie.spec
-    rescue-requires
-    reply-with-requires
-    same-length
-    same-length-2
-    same-length-3
+    (λ c κs. search needs)
+    (λ c κs. search needs)
+    (λ c. search needs)
+    (λ c. search needs)
+    (λ c. search needs)
     returns
     encode-requires
-    reply-with-requires-2
-    same-length-4
-    same-length-5
-    same-length-6
-    same-length-7
+    (λ c κs. search needs)
+    (λ c. search needs)
+    (λ c. search needs)
+    (λ c. search needs)
+    (λ c. search needs)
     returns-2)

@@ -1,25 +1,11 @@
--- The call on numbers reads over slots of any content, and its answer is the reply; an accepted one writes back the slots that it set.
+-- The call on numbers reads over slots of any content, and its answer is the reply; an accepted one writes back the
+-- slots that it set.
 use Rattle.record.proofs.Bytes.{all-below}
 use Rattle.sheet.proofs.Unset.{set-few}
 use Rattle.host_sheet.proofs.read.Calls.{read-left, read-set}
 use borrow.Author.Needs.{needs}
 use Rattle.host_sheet.proofs.read.read_by.Statement.{statement}
 use Rattle.host_sheet.proofs.read.read_by.Tie as tie
-
-read-requires : tie.Need-read-requires
-read-requires c κs = search needs
-
-reply-with-requires : tie.Need-reply-with-requires
-reply-with-requires c κs = search needs
-
-same-length : tie.Need-same-length
-same-length c = search needs
-
-same-length-2 : tie.Need-same-length-2
-same-length-2 c = search needs
-
-same-length-3 : tie.Need-same-length-3
-same-length-3 c = search needs
 
 returns : tie.Need-returns
 returns c =
@@ -29,30 +15,12 @@ returns c =
     let start = called .before .before .before .before .before .before .before .before in
     read-left _ _ _ _ (start .args .room .now) (start .pre .1) (called .read .ensures) (replied .reply-with .ensures) (tested .if1 .taken)
 
-cast-encode : tie.Need-cast-encode
-cast-encode c = search needs
-
 encode-requires : tie.Need-encode-requires
 encode-requires c κs =
     let tested = c .before .before .before in
     let called = tested .before .before .before .before .before .before in
     let start = called .before .before .before .before .before .before .before .before in
     (search needs, set-few _ _ _ (start .args .room .now) (called .read .ensures) (tested .if1 .left) (search needs))
-
-reply-with-requires-2 : tie.Need-reply-with-requires-2
-reply-with-requires-2 c κs = search needs
-
-same-length-4 : tie.Need-same-length-4
-same-length-4 c = search needs
-
-same-length-5 : tie.Need-same-length-5
-same-length-5 c = search needs
-
-same-length-6 : tie.Need-same-length-6
-same-length-6 c = search needs
-
-same-length-7 : tie.Need-same-length-7
-same-length-7 c = search needs
 
 returns-2 : tie.Need-returns-2
 returns-2 c =
@@ -68,17 +36,17 @@ pub read-by-spec : {M : Type 1} → statement M
 read-by-spec =
     tie.close
     (tie.spec
-    read-requires
-    reply-with-requires
-    same-length
-    same-length-2
-    same-length-3
+    (λ c κs. search needs)
+    (λ c κs. search needs)
+    (λ c. search needs)
+    (λ c. search needs)
+    (λ c. search needs)
     returns
-    cast-encode
+    (λ c. search needs)
     encode-requires
-    reply-with-requires-2
-    same-length-4
-    same-length-5
-    same-length-6
-    same-length-7
+    (λ c κs. search needs)
+    (λ c. search needs)
+    (λ c. search needs)
+    (λ c. search needs)
+    (λ c. search needs)
     returns-2)

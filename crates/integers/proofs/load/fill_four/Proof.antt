@@ -2,7 +2,7 @@
 use mathlib.Core.Path.{refl}
 use borrow.Author.Tests.{lt-ltb, le-ltb}
 use Rattle.record.specs.Bytes.{digits}
-use Rattle.integers.specs.load.{fillerOf}
+use Rattle.integers.specs.inside.load.{fillerOf}
 use Rattle.integers.proofs.load.fill_four.Statement.{statement}
 use Rattle.integers.proofs.load.fill_four.Tie as tie
 

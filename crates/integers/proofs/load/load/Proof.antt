@@ -12,9 +12,6 @@ copy-eights-requires c κs =
     let pre = rw (c .before .if1 .taken) at (c .before .before .before .before .pre) in
     (pre .1, pre .2)
 
-same-length : tie.Need-same-length
-same-length c = search needs
-
 returns : tie.Need-returns
 returns c =
     let known = c .before .before .before .before .before in
@@ -26,20 +23,8 @@ returns c =
     (c .before .before .copy-eights .ensures
     ∙ ap (storeAt (a .area .now) (a .to)) (eights-loaded (a .input .now) (a .at) (a .big) (a .unsigned) (a .n) (λ i. known .shared-slice-known .given i .fits) (pre .2)))
 
-load-unsigned-requires : tie.Need-load-unsigned-requires
-load-unsigned-requires c κs = search needs
-
-same-length-2 : tie.Need-same-length-2
-same-length-2 c = search needs
-
 returns-2 : tie.Need-returns-2
 returns-2 c = rw (c .before .before .before .before .if2 .taken) (c .before .before .load-unsigned .ensures)
-
-load-each-requires : tie.Need-load-each-requires
-load-each-requires c κs = search needs
-
-same-length-3 : tie.Need-same-length-3
-same-length-3 c = search needs
 
 returns-3 : tie.Need-returns-3
 returns-3 c = rw (c .before .before .before .before .if2 .left) (c .before .before .load-each .ensures)
@@ -49,11 +34,11 @@ load-spec =
     tie.close
     (tie.spec
     copy-eights-requires
-    same-length
+    (λ c. search needs)
     returns
-    load-unsigned-requires
-    same-length-2
+    (λ c κs. search needs)
+    (λ c. search needs)
     returns-2
-    load-each-requires
-    same-length-3
+    (λ c κs. search needs)
+    (λ c. search needs)
     returns-3)

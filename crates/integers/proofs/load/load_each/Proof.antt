@@ -4,7 +4,7 @@ use native.Mathlib.Omega.{arith}
 use mathlib.Core.Path.{_≡_, ap, _∙_}
 use Rattle.record.specs.Bytes.{part, storeAt}
 use Rattle.record.proofs.Stores.{Wrote, wrote-none, wrote-more, wrote-done, next-run}
-use Rattle.integers.specs.load.{itemBytes}
+use Rattle.integers.specs.inside.load.{itemBytes}
 use Rattle.integers.proofs.load.LoadedLaws.{loadedAt, length-itemBytes, loaded-runs}
 use Rattle.integers.proofs.load.load_each.Statement.{statement}
 use Rattle.integers.proofs.load.load_each.Tie as tie
@@ -24,17 +24,8 @@ load-item-requires c κs =
     let start = c .before .before .before .before .before in
     (start .pre .0, omega (arith, loop .inv .1 .long), omega (arith, next-run (start .args .w) (c .before .loop-test .taken)))
 
-add-i : tie.Need-add-i Inv-loop μ-loop
-add-i c = omega arith
-
 add-from : tie.Need-add-from Inv-loop μ-loop
 add-from c = omega (arith, next-run (c .before .before .before .before .before .before .before .before .args .w) (c .before .before .before .before .loop-test .taken))
-
-add-place : tie.Need-add-place Inv-loop μ-loop
-add-place c = omega arith
-
-loop-less : tie.Need-loop-less Inv-loop μ-loop
-loop-less c = omega arith
 
 loop-again : tie.Need-loop-again Inv-loop μ-loop
 loop-again c =
@@ -65,10 +56,10 @@ load-each-spec =
     μ-loop
     loop-holds
     load-item-requires
-    add-i
+    (λ c. omega arith)
     add-from
-    add-place
-    loop-less
+    (λ c. omega arith)
+    (λ c. omega arith)
     loop-again
     same-length
     returns)

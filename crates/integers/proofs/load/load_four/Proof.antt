@@ -9,33 +9,6 @@ use borrow.Author.Needs.{needs}
 use Rattle.integers.proofs.load.load_four.Statement.{statement}
 use Rattle.integers.proofs.load.load_four.Tie as tie
 
-four-at-requires : tie.Need-four-at-requires
-four-at-requires c κs = search needs
-
-cast-fill-four : tie.Need-cast-fill-four
-cast-fill-four c = search needs
-
-fill-four-requires : tie.Need-fill-four-requires
-fill-four-requires c κs = search needs
-
-cast-put-low-first : tie.Need-cast-put-low-first
-cast-put-low-first c = search needs
-
-cast-put-low-first-2 : tie.Need-cast-put-low-first-2
-cast-put-low-first-2 c = search needs
-
-mul-put-low-first : tie.Need-mul-put-low-first
-mul-put-low-first c = search needs
-
-add-put-low-first : tie.Need-add-put-low-first
-add-put-low-first c = search needs
-
-put-low-first-requires : tie.Need-put-low-first-requires
-put-low-first-requires c κs = search needs
-
-same-length : tie.Need-same-length
-same-length c = search needs
-
 returns : tie.Need-returns
 returns c =
     let put = c .before .before in
@@ -54,13 +27,13 @@ pub load-four-spec : {M : Type 1} → statement M
 load-four-spec =
     tie.close
     (tie.spec
-    four-at-requires
-    cast-fill-four
-    fill-four-requires
-    cast-put-low-first
-    cast-put-low-first-2
-    mul-put-low-first
-    add-put-low-first
-    put-low-first-requires
-    same-length
+    (λ c κs. search needs)
+    (λ c. search needs)
+    (λ c κs. search needs)
+    (λ c. search needs)
+    (λ c. search needs)
+    (λ c. search needs)
+    (λ c. search needs)
+    (λ c κs. search needs)
+    (λ c. search needs)
     returns)

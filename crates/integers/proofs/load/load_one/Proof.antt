@@ -6,18 +6,6 @@ use borrow.Author.Needs.{needs}
 use Rattle.integers.proofs.load.load_one.Statement.{statement}
 use Rattle.integers.proofs.load.load_one.Tie as tie
 
-shared-slice-read-widen-one : tie.Need-shared-slice-read-widen-one
-shared-slice-read-widen-one c = search needs
-
-widen-one-requires : tie.Need-widen-one-requires
-widen-one-requires c κs = search needs
-
-put-number-requires : tie.Need-put-number-requires
-put-number-requires c κs = search needs
-
-same-length : tie.Need-same-length
-same-length c = search needs
-
 returns : tie.Need-returns
 returns c big =
     let put = c .before .before in
@@ -32,8 +20,8 @@ pub load-one-spec : {M : Type 1} → statement M
 load-one-spec =
     tie.close
     (tie.spec
-    shared-slice-read-widen-one
-    widen-one-requires
-    put-number-requires
-    same-length
+    (λ c. search needs)
+    (λ c κs. search needs)
+    (λ c κs. search needs)
+    (λ c. search needs)
     returns)

@@ -8,21 +8,6 @@ use borrow.Author.Needs.{needs}
 use Rattle.integers.proofs.load.load_pair.Statement.{statement}
 use Rattle.integers.proofs.load.load_pair.Tie as tie
 
-pair-at-requires : tie.Need-pair-at-requires
-pair-at-requires c κs = search needs
-
-pair-number-requires : tie.Need-pair-number-requires
-pair-number-requires c κs = search needs
-
-widen-pair-requires : tie.Need-widen-pair-requires
-widen-pair-requires c κs = search needs
-
-put-number-requires : tie.Need-put-number-requires
-put-number-requires c κs = search needs
-
-same-length : tie.Need-same-length
-same-length c = search needs
-
 returns : tie.Need-returns
 returns c =
     let put = c .before .before in
@@ -38,9 +23,9 @@ pub load-pair-spec : {M : Type 1} → statement M
 load-pair-spec =
     tie.close
     (tie.spec
-    pair-at-requires
-    pair-number-requires
-    widen-pair-requires
-    put-number-requires
-    same-length
+    (λ c κs. search needs)
+    (λ c κs. search needs)
+    (λ c κs. search needs)
+    (λ c κs. search needs)
+    (λ c. search needs)
     returns)

@@ -5,12 +5,6 @@ use borrow.Author.Needs.{needs}
 use Rattle.integers.proofs.load.pair_number.Statement.{statement}
 use Rattle.integers.proofs.load.pair_number.Tie as tie
 
-mul-result : tie.Need-mul-result
-mul-result c = search needs
-
-add-result : tie.Need-add-result
-add-result c = search needs
-
 returns : tie.Need-returns
 returns c = rw (c .if1 .taken) (pair-high-number (c .before .args .v) (omega arith))
 
@@ -18,4 +12,4 @@ returns-2 : tie.Need-returns-2
 returns-2 c = rw (c .if1 .left) (pair-low-number (c .before .args .v) (omega arith))
 
 pub pair-number-spec : {M : Type 1} → statement M
-pair-number-spec = tie.close (tie.spec mul-result add-result returns returns-2)
+pair-number-spec = tie.close (tie.spec (λ c. search needs) (λ c. search needs) returns returns-2)

@@ -11,9 +11,6 @@ returns : tie.Need-returns
 unfolding widened
 returns c = rw (c .if1 .taken)
 
-add-result : tie.Need-add-result
-add-result c = search needs
-
 returns-2 : tie.Need-returns-2
 unfolding widened
 returns-2 c = rw (c .before .if1 .left, lt-ltb (2 * c .before .before .args .v) 256 (omega arith))
@@ -23,4 +20,4 @@ unfolding widened
 returns-3 c = rw (c .before .if1 .left, le-ltb (2 * c .before .before .args .v) 256 (omega arith))
 
 pub widen-one-spec : {M : Type 1} → statement M
-widen-one-spec = tie.close (tie.spec returns add-result returns-2 returns-3)
+widen-one-spec = tie.close (tie.spec returns (λ c. search needs) returns-2 returns-3)

@@ -1,4 +1,5 @@
--- One integer is stored by itself, as the law of one alone says; more are stored by a loop, and whole where they fill eight bytes.
+-- One integer is stored by itself, as the law of one alone says; more are stored by a loop, and whole where they fill
+-- eight bytes.
 use native.Mathlib.Omega.{arith}
 use mathlib.Core.Path.{ap, _∙_}
 use Rattle.record.specs.Bytes.{storeAt}
@@ -7,19 +8,10 @@ use borrow.Author.Needs.{needs}
 use Rattle.integers.proofs.store.store.Statement.{statement}
 use Rattle.integers.proofs.store.store.Tie as tie
 
-sub-copy-ordered : tie.Need-sub-copy-ordered
-sub-copy-ordered c = search needs
-
-add-copy-ordered : tie.Need-add-copy-ordered
-add-copy-ordered c = search needs
-
 copy-ordered-requires : tie.Need-copy-ordered-requires
 copy-ordered-requires c κs =
     let pre = rw (c .before .if1 .taken) at (c .before .before .before .before .pre) in
     omega (arith, pre .0, pre .1, pre .2)
-
-same-length : tie.Need-same-length
-same-length c = search needs
 
 returns : tie.Need-returns
 returns c =
@@ -37,9 +29,6 @@ copy-eights-requires c κs =
     let pre = rw (c .before .if2 .taken) at (c .before .before .before .before .before .pre) in
     (omega arith, omega arith)
 
-same-length-2 : tie.Need-same-length-2
-same-length-2 c = search needs
-
 returns-2 : tie.Need-returns-2
 returns-2 c =
     let known = c .before .before .before .before .before .before in
@@ -51,27 +40,18 @@ returns-2 c =
     (c .before .before .copy-eights .ensures
     ∙ ap (storeAt (a .out .now) (a .at)) (eights-stored (a .area .now) (a .start) (a .big) (a .n) (λ i. known .shared-slice-known .given i .fits) (pre .2)))
 
-store-each-requires : tie.Need-store-each-requires
-store-each-requires c κs = search needs
-
-same-length-3 : tie.Need-same-length-3
-same-length-3 c = search needs
-
-returns-3 : tie.Need-returns-3
-returns-3 c = search needs
-
 pub store-spec : {M : Type 1} → statement M
 store-spec =
     tie.close
     (tie.spec
-    sub-copy-ordered
-    add-copy-ordered
+    (λ c. search needs)
+    (λ c. search needs)
     copy-ordered-requires
-    same-length
+    (λ c. search needs)
     returns
     copy-eights-requires
-    same-length-2
+    (λ c. search needs)
     returns-2
-    store-each-requires
-    same-length-3
-    returns-3)
+    (λ c κs. search needs)
+    (λ c. search needs)
+    (λ c. search needs))

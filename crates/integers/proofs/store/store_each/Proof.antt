@@ -24,20 +24,8 @@ mul-store-item c = omega (arith, next-run (c .before .before .before .before .be
 add-store-item : tie.Need-add-store-item Inv-loop μ-loop
 add-store-item c = omega (arith, next-run (c .before .before .before .before .before .args .w) (c .before .loop-test .taken))
 
-mul-store-item-2 : tie.Need-mul-store-item-2 Inv-loop μ-loop
-mul-store-item-2 c = omega arith
-
-add-store-item-2 : tie.Need-add-store-item-2 Inv-loop μ-loop
-add-store-item-2 c = omega arith
-
 store-item-requires : tie.Need-store-item-requires Inv-loop μ-loop
 store-item-requires c κs = omega (arith, next-run (c .before .before .before .before .before .args .w) (c .before .loop-test .taken))
-
-add-i : tie.Need-add-i Inv-loop μ-loop
-add-i c = omega arith
-
-loop-less : tie.Need-loop-less Inv-loop μ-loop
-loop-less c = omega arith
 
 loop-again : tie.Need-loop-again Inv-loop μ-loop
 loop-again c =
@@ -69,11 +57,11 @@ store-each-spec =
     loop-holds
     mul-store-item
     add-store-item
-    mul-store-item-2
-    add-store-item-2
+    (λ c. omega arith)
+    (λ c. omega arith)
     store-item-requires
-    add-i
-    loop-less
+    (λ c. omega arith)
+    (λ c. omega arith)
     loop-again
     same-length
     returns)

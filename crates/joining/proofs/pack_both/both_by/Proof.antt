@@ -1,10 +1,11 @@
--- The first packing goes into the room and the second into the buffer, so a refusal changes nothing; then the first result is copied in front.
+-- The first packing goes into the room and the second into the buffer, so a refusal changes nothing; then the first
+-- result is copied in front.
 use Prim.Native.Nat.{_≤_}
 use native.Mathlib.Omega.{arith}
 use mathlib.Core.Path.{_≡_}
 use lib.ListN.{length}
 use borrow.Author.Needs.{needs}
-use Rattle.joining.specs.pack_both.{Pair}
+use Rattle.joining.specs.Calls.{Pair}
 use Rattle.joining.proofs.pack_both.Calls.{first-refused, first-fits, left-holds, second-refused, last-holds, sum-small, both-packed}
 use Rattle.joining.proofs.pack_both.both_by.Statement.{statement}
 use Rattle.joining.proofs.pack_both.both_by.Tie as tie
@@ -20,19 +21,10 @@ lent s = record {
   output = s .args .out .now;
 }
 
-pack-requires : tie.Need-pack-requires
-pack-requires c κs = search needs
-
-same-length : tie.Need-same-length
-same-length c = search needs
-
 returns : tie.Need-returns
 returns c =
     let call = c .before .before .before in
     first-refused (lent (start call)) _ (start call .pre) _ _ (call .pack .ensures) (c .if1 .taken)
-
-cast-n : tie.Need-cast-n
-cast-n c = search needs
 
 inside : (c : tie.After-pack) → c .pack .result .number ≡ 0 → c .pack .result .first ≤ length (start c .args .out .now)
 inside c zero = first-fits (lent (start c)) _ (start c .pre) _ _ (c .pack .ensures) zero
@@ -42,18 +34,6 @@ sub-pack c = inside (c .before .before .before .before) (c .before .if1 .left)
 
 part-pack-start : tie.Need-part-pack-start
 part-pack-start c = inside (c .before .before .before .before) (c .before .if1 .left)
-
-part-pack-end : tie.Need-part-pack-end
-part-pack-end c = search needs
-
-pack-requires-2 : tie.Need-pack-requires-2
-pack-requires-2 c κs = search needs
-
-same-length-2 : tie.Need-same-length-2
-same-length-2 c = search needs
-
-same-length-3 : tie.Need-same-length-3
-same-length-3 c = search needs
 
 returns-2 : tie.Need-returns-2
 returns-2 c =
@@ -80,15 +60,6 @@ add-accepted c =
     let call = branch .before .before .before in
     omega (arith, sum-small (lent (start call)) _ (start call .pre) _ _ (call .pack .ensures) (branch .if1 .left) _ _ (second .pack2 .ensures) (tested .if2 .left))
 
-accepted-requires : tie.Need-accepted-requires
-accepted-requires c κs = search needs
-
-same-length-4 : tie.Need-same-length-4
-same-length-4 c = search needs
-
-same-length-5 : tie.Need-same-length-5
-same-length-5 c = search needs
-
 returns-3 : tie.Need-returns-3
 returns-3 c =
     let copied = c .before .before .before .before .before in
@@ -102,20 +73,20 @@ pub both-by-spec : {M : Type 1} → statement M
 both-by-spec =
     tie.close
     (tie.spec
-    pack-requires
-    same-length
+    (λ c κs. search needs)
+    (λ c. search needs)
     returns
-    cast-n
+    (λ c. search needs)
     sub-pack
     part-pack-start
-    part-pack-end
-    pack-requires-2
-    same-length-2
-    same-length-3
+    (λ c. search needs)
+    (λ c κs. search needs)
+    (λ c. search needs)
+    (λ c. search needs)
     returns-2
     copy-requires
     add-accepted
-    accepted-requires
-    same-length-4
-    same-length-5
+    (λ c κs. search needs)
+    (λ c. search needs)
+    (λ c. search needs)
     returns-3)

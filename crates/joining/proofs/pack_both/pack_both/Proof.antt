@@ -6,9 +6,6 @@ use Rattle.joining.proofs.pack_both.Calls.{too-large}
 use Rattle.joining.proofs.pack_both.pack_both.Statement.{statement}
 use Rattle.joining.proofs.pack_both.pack_both.Tie as tie
 
-refused-requires : tie.Need-refused-requires
-refused-requires c κs = search needs
-
 returns : tie.Need-returns
 returns c = too-large _ _ (c .refused .ensures) (c .before .if1 .taken)
 
@@ -21,13 +18,7 @@ slice-aggregate-both-by c = sym (length-take-le _ _ (array-borrow-prefix-room (c
 both-by-requires : tie.Need-both-by-requires
 both-by-requires c κs = length-take-le _ _ (array-borrow-prefix-room (c .before))
 
-same-length : tie.Need-same-length
-same-length c = search needs
-
-returns-2 : tie.Need-returns-2
-returns-2 c = search needs
-
 pub pack-both-spec : {M : Type 1} → statement M
 pack-both-spec =
     tie.close
-    (tie.spec refused-requires returns array-borrow-prefix-room slice-aggregate-both-by both-by-requires same-length returns-2)
+    (tie.spec (λ c κs. search needs) returns array-borrow-prefix-room slice-aggregate-both-by both-by-requires (λ c. search needs) (λ c. search needs))

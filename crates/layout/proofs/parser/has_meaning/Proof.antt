@@ -1,5 +1,5 @@
 -- What takes a slot takes every count, and so does `X`; `x` and `@` are told apart by their numbers.
-use Rattle.layout.specs.Words.{typeNumbered}
+use Rattle.layout.specs.Codes.{typeNumbered}
 use Rattle.layout.proofs.Numbered.{meaning-data, meaning-back}
 use Rattle.layout.proofs.Steps.{skip-meaning, goto-meaning}
 use Rattle.layout.proofs.parser.has_meaning.Statement.{statement}

@@ -1,20 +1,20 @@
--- The loop keeps `Reading`: the words so far are the fields of the text before the place.
+-- The loop keeps `Reading`: the codes so far are the fields of the text before the place.
 use Prim.Native.Nat.{_+_, _-_, _≤_, _<_}
 use mathlib.Core.Path.{refl, subst}
 use native.Mathlib.Omega.{arith}
 use lib.ListN.{length}
 use borrow.Author.Needs.{needs}
 use Rattle.layout.specs.Layout.{maxLayout}
-use Rattle.layout.specs.Words.{FoundAs}
+use Rattle.layout.specs.inside.Parsing.{FoundAs}
 use Rattle.layout.proofs.Turns.{Reading, reading-none, reading-spaces, reading-more, reading-bad, reading-done}
 use Rattle.layout.proofs.parser.parse.Statement.{statement}
 use Rattle.layout.proofs.parser.parse.Tie as tie
 
 abbrev Inv-loop : tie.InvT-loop
-Inv-loop text packing words₀ at₀ n₀ slots₀ words at n slots = Reading packing text (length words₀) at n slots words
+Inv-loop text packing codes₀ at₀ n₀ slots₀ codes at n slots = Reading packing text (length codes₀) at n slots codes
 
 abbrev μ-loop : tie.MeasureT-loop
-μ-loop text packing words₀ at₀ n₀ slots₀ words at n slots = length text - at
+μ-loop text packing codes₀ at₀ n₀ slots₀ codes at n slots = length text - at
 
 loop-holds : tie.Need-loop-holds Inv-loop μ-loop
 loop-holds c = reading-none _ _ _ _ refl
@@ -26,11 +26,11 @@ past : (c : tie.After-spaces-end Inv-loop μ-loop)
     → Reading
     (c .before .before .before .before .args .packing)
     (c .before .before .before .before .args .text .now)
-    (length (c .before .before .before .before .args .words .now))
+    (length (c .before .before .before .before .args .codes .now))
     (c .spaces-end .result)
     (c .before .loop .n)
     (c .before .loop .slots)
-    (c .before .loop .words)
+    (c .before .loop .codes)
 past c =
     let s = c .spaces-end .ensures in
     reading-spaces _ _ _ _ _ _ _ (c .before .loop .inv) (c .before .before .before .before .pre) _ (s .from) (s .within) (s .same _)
@@ -44,9 +44,6 @@ returns c = reading-done _ _ _ _ _ _ _ (past (c .before)) (c .before .before .be
 read-field-requires : tie.Need-read-field-requires Inv-loop μ-loop
 read-field-requires c κs = (c .if1 .left, c .before .spaces-end .ensures .stops (c .if1 .left))
 
-enum-known-s : tie.Need-enum-known-s Inv-loop μ-loop
-enum-known-s c = search needs
-
 same-length-2 : tie.Need-same-length-2 Inv-loop μ-loop
 same-length-2 c = c .before .before .before .before .before .before .loop .inv .long
 
@@ -55,9 +52,6 @@ returns-2 c =
     let f = c .before .before .before in
     reading-bad _ _ _ _ _ _ _ (past (f .before .before)) (f .before .before .before .before .before .before .pre) _ _ (f .before .if1 .left) (subst (FoundAs _ _ _) (c .before .s .given .1) (f .read-field .ensures))
 
-enum-known-s-2 : tie.Need-enum-known-s-2 Inv-loop μ-loop
-enum-known-s-2 c = search needs
-
 loop-again : tie.Need-loop-again Inv-loop μ-loop
 loop-again c =
     let f = c .before .before .before in
@@ -65,7 +59,7 @@ loop-again c =
 
 -- after the field the places and counts are still within the text
 bounds : (c : tie.After-known-told2 Inv-loop μ-loop)
-    → (c .before .before .before .before .before .before .loop .n < length (c .before .before .before .before .before .before .loop .words))
+    → (c .before .before .before .before .before .before .loop .n < length (c .before .before .before .before .before .before .loop .codes))
     × (c .before .before .before .before .before .before .loop .slots + c .before .s2 .given .0 .1 .1 .0 ≤ maxLayout)
     × (c .before .before .before .before .before .spaces-end .result + 1 + c .before .s2 .given .0 .1 .0 ≤ length (c .before .before .before .before .before .before .before .before .before .args .text .now))
 bounds c =
@@ -73,11 +67,11 @@ bounds c =
     let fits = c .before .before .before .before .before .before .before .before .before .pre in
     (omega (arith, fits, r .few, r .within, c .before .before .before .before .before .before .loop .inv .long), omega (arith, fits, r .few, r .within, r .less), r .within)
 
-mul-words : tie.Need-mul-words Inv-loop μ-loop
-mul-words c = omega (arith, bounds c)
+mul-codes : tie.Need-mul-codes Inv-loop μ-loop
+mul-codes c = omega (arith, bounds c)
 
-slice-write-words : tie.Need-slice-write-words Inv-loop μ-loop
-slice-write-words c = omega (arith, bounds c)
+slice-write-codes : tie.Need-slice-write-codes Inv-loop μ-loop
+slice-write-codes c = omega (arith, bounds c)
 
 add-n : tie.Need-add-n Inv-loop μ-loop
 add-n c = omega (arith, bounds c)
@@ -105,12 +99,12 @@ parse-spec =
     same-length
     returns
     read-field-requires
-    enum-known-s
+    (λ c. search needs)
     same-length-2
     returns-2
-    enum-known-s-2
-    mul-words
-    slice-write-words
+    (λ c. search needs)
+    mul-codes
+    slice-write-codes
     add-n
     add-slots
     add-at

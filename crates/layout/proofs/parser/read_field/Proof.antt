@@ -11,24 +11,12 @@ use Rattle.layout.proofs.Steps.{Seen, flag-le, step-unknown, read-large
 use Rattle.layout.proofs.parser.read_field.Statement.{statement}
 use Rattle.layout.proofs.parser.read_field.Tie as tie
 
-shared-slice-read-type-number : tie.Need-shared-slice-read-type-number
-shared-slice-read-type-number c = search needs
-
-type-number-requires : tie.Need-type-number-requires
-type-number-requires c κs = search needs
-
 returns : tie.Need-returns
 returns c =
     record {
       step = step-unknown _ _ _ _ (c .before .before .before .before .pre .1) (c .before .type-number .ensures .0 ∙ number-unknown _ (c .if1 .taken));
       told = tt;
     }
-
-add-tail-at : tie.Need-add-tail-at
-add-tail-at c = search needs
-
-tail-at-requires : tie.Need-tail-at-requires
-tail-at-requires c κs = search needs
 
 seen : (c : tie.After-tail-at)
     → Seen
@@ -52,45 +40,24 @@ seen c =
 flag : (c : tie.After-tail-at) → c .tail-at .result .flag ≤ 1
 flag c = flag-le (c .before .before .before .before .before .args .packing) _ _ _ _ _ _ (seen c)
 
-add-count : tie.Need-add-count
-add-count c = search needs
-
-cast-count : tie.Need-cast-count
-cast-count c = search needs
-
 add-count-2 : tie.Need-add-count-2
 add-count-2 c = omega (arith, flag (c .before .before))
 
 returns-2 : tie.Need-returns-2
 returns-2 c = read-large _ _ _ _ _ _ _ (seen (c .before .before)) (c .before .if2 .taken)
 
-has-meaning-requires : tie.Need-has-meaning-requires
-has-meaning-requires c κs = search needs
-
 returns-3 : tie.Need-returns-3
 returns-3 c =
     read-meaningless _ _ _ _ _ _ _ (seen (c .before .before .before)) (c .before .before .if2 .left) (sym (c .before .has-meaning .ensures) ∙ not-true _ (c .if3 .taken))
 
-mul-word : tie.Need-mul-word
-mul-word c = omega (arith, flag (c .before .before .before .before))
+mul-code : tie.Need-mul-code
+mul-code c = omega (arith, flag (c .before .before .before .before))
 
-add-word : tie.Need-add-word
-add-word c = omega (arith, flag (c .before .before .before .before), c .before .before .before .before .before .if1 .left)
+add-code : tie.Need-add-code
+add-code c = omega (arith, flag (c .before .before .before .before), c .before .before .before .before .before .if1 .left)
 
-mul-word-2 : tie.Need-mul-word-2
-mul-word-2 c = search needs
-
-add-word-2 : tie.Need-add-word-2
-add-word-2 c = omega (arith, flag (c .before .before .before .before), c .before .before .before .before .before .if1 .left)
-
-add-more : tie.Need-add-more
-add-more c = search needs
-
-sub-more : tie.Need-sub-more
-sub-more c = search needs
-
-bit-requires : tie.Need-bit-requires
-bit-requires c κs = search needs
+add-code-2 : tie.Need-add-code-2
+add-code-2 c = omega (arith, flag (c .before .before .before .before), c .before .before .before .before .before .if1 .left)
 
 returns-4 : tie.Need-returns-4
 returns-4 c =
@@ -102,22 +69,22 @@ pub read-field-spec : {M : Type 1} → statement M
 read-field-spec =
     tie.close
     (tie.spec
-    shared-slice-read-type-number
-    type-number-requires
+    (λ c. search needs)
+    (λ c κs. search needs)
     returns
-    add-tail-at
-    tail-at-requires
-    add-count
-    cast-count
+    (λ c. search needs)
+    (λ c κs. search needs)
+    (λ c. search needs)
+    (λ c. search needs)
     add-count-2
     returns-2
-    has-meaning-requires
+    (λ c κs. search needs)
     returns-3
-    mul-word
-    add-word
-    mul-word-2
-    add-word-2
-    add-more
-    sub-more
-    bit-requires
+    mul-code
+    add-code
+    (λ c. search needs)
+    add-code-2
+    (λ c. search needs)
+    (λ c. search needs)
+    (λ c κs. search needs)
     returns-4)

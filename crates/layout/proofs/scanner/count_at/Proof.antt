@@ -9,29 +9,17 @@ use Rattle.layout.proofs.scanner.count_at.Tie as tie
 returns : tie.Need-returns
 returns c = count-end _ _ (c .if1 .taken)
 
-shared-slice-read-c : tie.Need-shared-slice-read-c
-shared-slice-read-c c = search needs
-
 returns-2 : tie.Need-returns-2
 returns-2 c = count-none _ _ (c .before .before .if1 .left) (λ e. omega arith) (below-decimal _ (lt-of-lt-of-le (c .if2 .taken) (omega arith)))
 
 returns-3 : tie.Need-returns-3
 returns-3 c = count-none _ _ (c .before .before .before .if1 .left) (λ e. omega arith) (above-decimal _ (c .if3 .taken))
 
-add-t9 : tie.Need-add-t9
-add-t9 c = search needs
-
 returns-4 : tie.Need-returns-4
 returns-4 c = count-star _ _ (c .before .before .before .before .if1 .left) (c .if4 .taken)
 
 returns-5 : tie.Need-returns-5
 returns-5 c = count-none _ _ (c .before .before .before .before .before .if1 .left) (c .before .if4 .left) (below-decimal _ (c .if5 .taken))
-
-number-requires : tie.Need-number-requires
-number-requires c κs = search needs
-
-add-t10 : tie.Need-add-t10
-add-t10 c = search needs
 
 returns-6 : tie.Need-returns-6
 returns-6 c =
@@ -43,12 +31,12 @@ count-at-spec =
     tie.close
     (tie.spec
     returns
-    shared-slice-read-c
+    (λ c. search needs)
     returns-2
     returns-3
-    add-t9
+    (λ c. search needs)
     returns-4
     returns-5
-    number-requires
-    add-t10
+    (λ c κs. search needs)
+    (λ c. search needs)
     returns-6)

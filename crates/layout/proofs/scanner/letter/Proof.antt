@@ -8,7 +8,7 @@ use borrow.Author.Tests.{ne-eqb}
 use lib.Dec.{eqb}
 use Rattle.layout.specs.declared.Typed.the-variants.{Unknown}
 use Rattle.layout.specs.Layout.{typeOf}
-use Rattle.layout.specs.Words.{typeNumbered}
+use Rattle.layout.specs.Codes.{typeNumbered}
 use Rattle.layout.proofs.scanner.letter.Statement.{statement}
 use Rattle.layout.proofs.scanner.letter.Tie as tie
 

@@ -9,7 +9,7 @@ use lib.ListN.{length, drop, getD}
 use borrow.Author.Needs.{needs}
 use denote.Ref.{now}
 use Rattle.layout.specs.Layout.{isDecimal, digitRun, decimal}
-use Rattle.layout.specs.Words.{overCount, NumberAt}
+use Rattle.layout.specs.inside.Parsing.{overCount, NumberAt}
 use Rattle.layout.proofs.Laws.{run-on, run-stop, run-end}
 use Rattle.layout.proofs.Steps.{decimal-stop, decimal-end, held-on, is-decimal, below-decimal, above-decimal}
 use Rattle.layout.proofs.scanner.number.Statement.{statement}
@@ -32,9 +32,6 @@ module _ (text : List ℕ) (at v i : ℕ) where
 loop-holds : tie.Need-loop-holds Inv-loop μ-loop
 loop-holds c = (search needs, refl, refl)
 
-shared-slice-read-c : tie.Need-shared-slice-read-c Inv-loop μ-loop
-shared-slice-read-c c = search needs
-
 returns : tie.Need-returns Inv-loop μ-loop
 returns c =
     let l = c .before .before .before .loop in
@@ -44,15 +41,6 @@ returns-2 : tie.Need-returns-2 Inv-loop μ-loop
 returns-2 c =
     let l = c .before .before .before .before .loop in
     stopped _ _ _ _ (c .before .before .before .loop-test .taken) (above-decimal _ (c .if2 .taken)) (l .inv)
-
-more-requires : tie.Need-more-requires Inv-loop μ-loop
-more-requires c κs = search needs
-
-add-i : tie.Need-add-i Inv-loop μ-loop
-add-i c = search needs
-
-loop-less : tie.Need-loop-less Inv-loop μ-loop
-loop-less c = search needs
 
 loop-again : tie.Need-loop-again Inv-loop μ-loop
 loop-again c =
@@ -73,11 +61,11 @@ number-spec =
     Inv-loop
     μ-loop
     loop-holds
-    shared-slice-read-c
+    (λ c. search needs)
     returns
     returns-2
-    more-requires
-    add-i
-    loop-less
+    (λ c κs. search needs)
+    (λ c. search needs)
+    (λ c. search needs)
     loop-again
     returns-3)

@@ -9,7 +9,7 @@ use mathlib.Core.List.{List}
 use lib.ListN.{length}
 use borrow.Author.Needs.{needs}
 use denote.Ref.{now}
-use Rattle.layout.specs.Words.{rest}
+use Rattle.layout.specs.inside.Parsing.{rest}
 use Rattle.layout.proofs.Laws.{over-space}
 use Rattle.layout.proofs.scanner.spaces_end.Statement.{statement}
 use Rattle.layout.proofs.scanner.spaces_end.Tie as tie
@@ -23,19 +23,10 @@ abbrev μ-loop : tie.MeasureT-loop
 loop-holds : tie.Need-loop-holds Inv-loop μ-loop
 loop-holds c = (omega arith, c .pre, λ packing. refl)
 
-shared-slice-read-c : tie.Need-shared-slice-read-c Inv-loop μ-loop
-shared-slice-read-c c = search needs
-
 returns : tie.Need-returns Inv-loop μ-loop
 returns c =
     let l = c .before .before .before .loop in
     record { from = l .inv .0; within = l .inv .1; same = l .inv .2; stops = λ h e. c .if1 .taken e }
-
-add-i : tie.Need-add-i Inv-loop μ-loop
-add-i c = search needs
-
-loop-less : tie.Need-loop-less Inv-loop μ-loop
-loop-less c = search needs
 
 loop-again : tie.Need-loop-again Inv-loop μ-loop
 loop-again c =
@@ -49,4 +40,4 @@ returns-2 c =
     record { from = l .inv .0; within = l .inv .1; same = l .inv .2; stops = λ h e. absurd (lt-irrefl _ (lt-of-lt-of-le h (c .loop-test .left))) }
 
 pub spaces-end-spec : {M : Type 1} → statement M
-spaces-end-spec = tie.close (tie.spec Inv-loop μ-loop loop-holds shared-slice-read-c returns add-i loop-less loop-again returns-2)
+spaces-end-spec = tie.close (tie.spec Inv-loop μ-loop loop-holds (λ c. search needs) returns (λ c. search needs) (λ c. search needs) loop-again returns-2)

@@ -10,25 +10,13 @@ use Rattle.layout.proofs.scanner.tail_at.Tie as tie
 returns : tie.Need-returns
 returns c = tail-plain _ _ _ _ (flag-end _ _ (c .if1 .taken)) (count-end _ _ (c .if1 .taken))
 
-shared-slice-read-c : tie.Need-shared-slice-read-c
-shared-slice-read-c c = search needs
-
 returns-2 : tie.Need-returns-2
 returns-2 c =
     let h = c .before .before .before .if1 .left in
     tail-plain _ _ _ _ (flag-other _ _ h (c .if3 .taken)) (count-none _ _ h (λ e. omega arith) (above-decimal _ (c .before .if2 .taken)))
 
-add-count-at : tie.Need-add-count-at
-add-count-at c = search needs
-
-count-at-requires : tie.Need-count-at-requires
-count-at-requires c κs = search needs
-
 returns-3 : tie.Need-returns-3
 returns-3 c = (ap toNat (flag-here _ _ (c .before .before .before .before .if1 .left) (c .before .if3 .left)), c .count-at .ensures)
-
-count-at-requires-2 : tie.Need-count-at-requires-2
-count-at-requires-2 c κs = search needs
 
 returns-4 : tie.Need-returns-4
 returns-4 c = tail-plain _ _ _ _ (flag-other _ _ (c .before .before .before .if1 .left) (λ e. omega arith)) (c .count-at2 .ensures)
@@ -38,10 +26,10 @@ tail-at-spec =
     tie.close
     (tie.spec
     returns
-    shared-slice-read-c
+    (λ c. search needs)
     returns-2
-    add-count-at
-    count-at-requires
+    (λ c. search needs)
+    (λ c κs. search needs)
     returns-3
-    count-at-requires-2
+    (λ c κs. search needs)
     returns-4)

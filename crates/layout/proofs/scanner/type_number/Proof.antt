@@ -1,4 +1,5 @@
--- Inside the 64 bytes from `@` on the letter's number is the byte's; outside them no byte names a type, and 32 more than any number is above the last.
+-- Inside the 64 bytes from `@` on the letter's number is the byte's; outside them no byte names a type, and 32 more
+-- than any number is above the last.
 use Prim.Native.Nat.{_+_, _%_}
 use native.Mathlib.Omega.{arith}
 use mathlib.Core.Path.{_≡_, sym, _∙_}
@@ -7,15 +8,6 @@ use Rattle.layout.proofs.Numbered.{number-unknown}
 use borrow.Author.Needs.{needs}
 use Rattle.layout.proofs.scanner.type_number.Statement.{statement}
 use Rattle.layout.proofs.scanner.type_number.Tie as tie
-
-letter-requires : tie.Need-letter-requires
-letter-requires c κs = search needs
-
-cast-n : tie.Need-cast-n
-cast-n c = search needs
-
-add-result : tie.Need-add-result
-add-result c = search needs
 
 returns : tie.Need-returns
 returns c =
@@ -27,4 +19,4 @@ returns-2 c =
     (no-letter _ (c .if1 .left) ∙ sym (number-unknown (c .before .letter .result + 32) (omega arith)), λ h. absurd (omega arith))
 
 pub type-number-spec : {M : Type 1} → statement M
-type-number-spec = tie.close (tie.spec letter-requires cast-n add-result returns returns-2)
+type-number-spec = tie.close (tie.spec (λ c κs. search needs) (λ c. search needs) (λ c. search needs) returns returns-2)

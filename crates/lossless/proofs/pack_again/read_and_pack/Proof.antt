@@ -6,30 +6,9 @@ use Rattle.lossless.proofs.pack_again.Calls.{then-refused, then-packed,
 use Rattle.lossless.proofs.pack_again.read_and_pack.Statement.{statement}
 use Rattle.lossless.proofs.pack_again.read_and_pack.Tie as tie
 
-read-requires : tie.Need-read-requires
-read-requires c κs = search needs
-
-same-length : tie.Need-same-length
-same-length c = search needs
-
-same-length-2 : tie.Need-same-length-2
-same-length-2 c = search needs
-
 returns : tie.Need-returns
 returns c =
     promised _ _ (then-refused _ _ _ _ (ap leftOf (c .before .before .before .before .before .before .read .ensures)) (c .if1 .taken))
-
-pack-requires : tie.Need-pack-requires
-pack-requires c κs = search needs
-
-same-length-3 : tie.Need-same-length-3
-same-length-3 c = search needs
-
-same-length-4 : tie.Need-same-length-4
-same-length-4 c = search needs
-
-same-length-5 : tie.Need-same-length-5
-same-length-5 c = search needs
 
 returns-2 : tie.Need-returns-2
 returns-2 c =
@@ -42,12 +21,12 @@ pub read-and-pack-spec : {M : Type 1} → statement M
 read-and-pack-spec =
     tie.close
     (tie.spec
-    read-requires
-    same-length
-    same-length-2
+    (λ c κs. search needs)
+    (λ c. search needs)
+    (λ c. search needs)
     returns
-    pack-requires
-    same-length-3
-    same-length-4
-    same-length-5
+    (λ c κs. search needs)
+    (λ c. search needs)
+    (λ c. search needs)
+    (λ c. search needs)
     returns-2)

@@ -5,7 +5,8 @@ use lib.Dec.{eqb, leb}
 use borrow.Author.Tests.{eq-eqb, ne-eqb, not-true, not-false}
 use Rattle.record.specs.Table.{maxKind, shown}
 use Rattle.record.specs.Geometry.{amount}
-use Rattle.record.specs.Packing.{kindFits, amountFits, digitsFit, realsFit, insideArea}
+use Rattle.record.specs.Packing.{kindFits, amountFits, digitsFit, realsFit}
+use Rattle.record.specs.inside.Slots.{insideArea}
 use Rattle.pack_check.proofs.arguments.ArgumentLaws.{not-set, bad-slot, wrong-kind, wrong-amount, bad-digit, bad-real, all-fits}
 use Rattle.record.proofs.Bytes.{and-true}
 use borrow.Author.Needs.{needs}
@@ -36,28 +37,16 @@ reals c = c .reals-fit .ensures ∙ rw (c .before .amount2 .ensures)
 returns : tie.Need-returns
 returns c = not-set _ _ _ _ (c .before .before .before .args .a) (eq-eqb _ _ (c .if1 .taken))
 
-is-inside-requires : tie.Need-is-inside-requires
-is-inside-requires c κs = search needs
-
 returns-2 : tie.Need-returns-2
 returns-2 c = bad-slot _ _ _ _ _ (set (c .before .before)) (sym (c .before .is-inside .ensures) ∙ not-true _ (c .if2 .taken))
 
-kind-fits-requires : tie.Need-kind-fits-requires
-kind-fits-requires c κs = search needs
-
 returns-3 : tie.Need-returns-3
 returns-3 c = wrong-kind _ _ _ _ _ (set (c .before .before .before .before)) (inside (c .before .before)) (sym (c .before .kind-fits .ensures) ∙ not-true _ (c .if3 .taken))
-
-amount-fits-requires : tie.Need-amount-fits-requires
-amount-fits-requires c κs = search needs
 
 returns-4 : tie.Need-returns-4
 returns-4 c =
     let e₂ = c .before .before .before .before in
     wrong-amount _ _ _ _ _ (set (e₂ .before .before)) (inside e₂) (kind (c .before .before)) (sym (c .before .amount-fits .ensures) ∙ not-true _ (c .if4 .taken))
-
-amount-requires : tie.Need-amount-requires
-amount-requires c κs = search needs
 
 digits-fit-requires : tie.Need-digits-fit-requires
 digits-fit-requires c κs =
@@ -70,9 +59,6 @@ returns-5 c =
     let e₄ = c .before .before .before in
     let e₂ = e₄ .before .before .before .before in
     bad-digit _ _ _ _ _ (set (e₂ .before .before)) (inside e₂) (kind (e₄ .before .before)) (amounts e₄) (sym (digits (c .before)) ∙ not-true _ (c .if5 .taken))
-
-amount-requires-2 : tie.Need-amount-requires-2
-amount-requires-2 c κs = search needs
 
 reals-fit-requires : tie.Need-reals-fit-requires
 reals-fit-requires c κs =
@@ -99,16 +85,16 @@ check-spec =
     tie.close
     (tie.spec
     returns
-    is-inside-requires
+    (λ c κs. search needs)
     returns-2
-    kind-fits-requires
+    (λ c κs. search needs)
     returns-3
-    amount-fits-requires
+    (λ c κs. search needs)
     returns-4
-    amount-requires
+    (λ c κs. search needs)
     digits-fit-requires
     returns-5
-    amount-requires-2
+    (λ c κs. search needs)
     reals-fit-requires
     returns-6
     returns-7)

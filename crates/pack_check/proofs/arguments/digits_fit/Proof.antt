@@ -9,26 +9,11 @@ use borrow.Author.Needs.{needs}
 use Rattle.pack_check.proofs.arguments.digits_fit.Statement.{statement}
 use Rattle.pack_check.proofs.arguments.digits_fit.Tie as tie
 
-enum-told : tie.Need-enum-told
-enum-told c = search needs
-
-enum-known-s : tie.Need-enum-known-s
-enum-known-s c = search needs
-
-least-requires : tie.Need-least-requires
-least-requires c κs = search needs
-
 is-string : (c : tie.After-known-told) → eqb (c .before .before .before .before .args .a .kind) 1 ≡ true
 is-string c = rw (c .before .s .given .1) at (c .before .before .before .before .pre .0)
 
 all-digits-requires : tie.Need-all-digits-requires
 all-digits-requires c κs = omega (arith, c .least .ensures, string-inside (c .before .before .before .before .before .args .area .now) (c .before .before .before .before .before .args .a) (c .before .before .before .before .before .pre .1) (is-string (c .before)))
-
-enum-told-2 : tie.Need-enum-told-2
-enum-told-2 c = search needs
-
-enum-told-3 : tie.Need-enum-told-3
-enum-told-3 c = search needs
 
 returns : tie.Need-returns
 unfolding digitsFit
@@ -52,12 +37,12 @@ pub digits-fit-spec : {M : Type 1} → statement M
 digits-fit-spec =
     tie.close
     (tie.spec
-    enum-told
-    enum-known-s
-    least-requires
+    (λ c. search needs)
+    (λ c. search needs)
+    (λ c κs. search needs)
     all-digits-requires
-    enum-told-2
-    enum-told-3
+    (λ c. search needs)
+    (λ c. search needs)
     returns
     returns-2
     returns-3

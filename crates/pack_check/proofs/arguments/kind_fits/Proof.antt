@@ -3,21 +3,6 @@ use borrow.Author.Needs.{needs}
 use Rattle.pack_check.proofs.arguments.kind_fits.Statement.{statement}
 use Rattle.pack_check.proofs.arguments.kind_fits.Tie as tie
 
-enum-told : tie.Need-enum-told
-enum-told c = search needs
-
-enum-told-2 : tie.Need-enum-told-2
-enum-told-2 c = search needs
-
-enum-told-3 : tie.Need-enum-told-3
-enum-told-3 c = search needs
-
-is-integers-requires : tie.Need-is-integers-requires
-is-integers-requires c κs = search needs
-
-enum-told-4 : tie.Need-enum-told-4
-enum-told-4 c = search needs
-
 returns : tie.Need-returns
 returns c = rw (c .enum-told .given .1)
 
@@ -34,11 +19,11 @@ pub kind-fits-spec : {M : Type 1} → statement M
 kind-fits-spec =
     tie.close
     (tie.spec
-    enum-told
-    enum-told-2
-    enum-told-3
-    is-integers-requires
-    enum-told-4
+    (λ c. search needs)
+    (λ c. search needs)
+    (λ c. search needs)
+    (λ c κs. search needs)
+    (λ c. search needs)
     returns
     returns-2
     returns-3

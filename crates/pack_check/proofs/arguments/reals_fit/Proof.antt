@@ -4,18 +4,6 @@ use borrow.Author.Needs.{needs}
 use Rattle.pack_check.proofs.arguments.reals_fit.Statement.{statement}
 use Rattle.pack_check.proofs.arguments.reals_fit.Tie as tie
 
-enum-told : tie.Need-enum-told
-enum-told c = search needs
-
-enum-told-2 : tie.Need-enum-told-2
-enum-told-2 c = search needs
-
-enum-told-3 : tie.Need-enum-told-3
-enum-told-3 c = search needs
-
-enum-known-s : tie.Need-enum-known-s
-enum-known-s c = search needs
-
 singles-fit-requires : tie.Need-singles-fit-requires
 singles-fit-requires c κs =
     let start = c .before .before .before .before in
@@ -40,10 +28,10 @@ pub reals-fit-spec : {M : Type 1} → statement M
 reals-fit-spec =
     tie.close
     (tie.spec
-    enum-told
-    enum-told-2
-    enum-told-3
-    enum-known-s
+    (λ c. search needs)
+    (λ c. search needs)
+    (λ c. search needs)
+    (λ c. search needs)
     singles-fit-requires
     returns
     returns-2

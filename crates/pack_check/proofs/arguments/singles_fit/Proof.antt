@@ -8,9 +8,6 @@ use borrow.Author.Needs.{needs}
 use Rattle.pack_check.proofs.arguments.singles_fit.Statement.{statement}
 use Rattle.pack_check.proofs.arguments.singles_fit.Tie as tie
 
-least-requires : tie.Need-least-requires
-least-requires c κs = search needs
-
 no-nan-requires : tie.Need-no-nan-requires
 no-nan-requires c κs =
     let start = c .before .before .before in
@@ -26,4 +23,4 @@ unfolding realsFit
 returns-2 c = λ big. rw (c .if1 .left)
 
 pub singles-fit-spec : {M : Type 1} → statement M
-singles-fit-spec = tie.close (tie.spec least-requires no-nan-requires returns returns-2)
+singles-fit-spec = tie.close (tie.spec (λ c κs. search needs) no-nan-requires returns returns-2)

@@ -4,52 +4,40 @@ use mathlib.Core.Path.{sym, _∙_}
 use native.Mathlib.Omega.{arith}
 use lib.ListN.{getD}
 use borrow.Author.Needs.{needs}
-use Rattle.layout.proofs.Decoded.{SlotsIn, word-told}
+use Rattle.layout.proofs.Decoded.{SlotsIn, code-told}
 use Rattle.pack_check.proofs.measuring.MeasureLaws.{Measuring, measuring-none, measuring-done, measuring-ready, measuring-stop, measuring-next}
 use Rattle.pack_check.proofs.measuring.measure.Statement.{statement}
 use Rattle.pack_check.proofs.measuring.measure.Tie as tie
 
 abbrev Inv-loop : tie.InvT-loop
-Inv-loop words n slots area c₀ k₀ i₀ c k i = Measuring area n words slots i k c
+Inv-loop codes n slots area c₀ k₀ i₀ c k i = Measuring area n codes slots i k c
 
 abbrev μ-loop : tie.MeasureT-loop
-μ-loop words n slots area c₀ k₀ i₀ c k i = n - i
-
-new-requires : tie.Need-new-requires Inv-loop μ-loop
-new-requires c κs = search needs
+μ-loop codes n slots area c₀ k₀ i₀ c k i = n - i
 
 loop-holds : tie.Need-loop-holds Inv-loop μ-loop
 loop-holds c = rw (c .new .ensures) (measuring-none _ _ _ _ (c .before .before .before .before .pre))
 
-mul-word : tie.Need-mul-word Inv-loop μ-loop
-mul-word c = omega (arith, c .before .before .before .before .before .before .pre)
+mul-code : tie.Need-mul-code Inv-loop μ-loop
+mul-code c = omega (arith, c .before .before .before .before .before .before .pre)
 
-shared-slice-read-word : tie.Need-shared-slice-read-word Inv-loop μ-loop
-shared-slice-read-word c = omega (arith, c .before .before .before .before .before .before .before .pre)
+shared-slice-read-code : tie.Need-shared-slice-read-code Inv-loop μ-loop
+shared-slice-read-code c = omega (arith, c .before .before .before .before .before .before .before .pre)
 
-slots-in-requires : tie.Need-slots-in-requires Inv-loop μ-loop
-slots-in-requires c κs = search needs
-
--- the word that is read has 32 bits
-told : (c : tie.After-slots-in Inv-loop μ-loop) → SlotsIn (getD (c .before .before .before .before .before .before .before .before .args .words .now) (c .before .before .before .loop .i) 0) (c .slots-in .result)
-told c = word-told _ _ (c .before .shared-slice-known4 .given _ .fits) (c .slots-in .ensures)
+-- the code that is read has 32 bits
+told : (c : tie.After-slots-in Inv-loop μ-loop) → SlotsIn (getD (c .before .before .before .before .before .before .before .before .args .codes .now) (c .before .before .before .loop .i) 0) (c .slots-in .result)
+told c = code-told _ _ (c .before .shared-slice-known4 .given _ .fits) (c .slots-in .ensures)
 
 step-requires : tie.Need-step-requires Inv-loop μ-loop
 step-requires c κs =
     let l = c .before .before .before in
     measuring-ready _ _ _ _ (l .before .before .before .before .before .pre) _ _ _ (l .loop .inv) (c .before .before .loop-test .taken) _ (told c .field)
 
-enum-known-t : tie.Need-enum-known-t Inv-loop μ-loop
-enum-known-t c = search needs
-
 returns : tie.Need-returns Inv-loop μ-loop
 returns c =
     let s = c .before .before .before in
     let l = s .before .before .before .before in
     measuring-stop _ _ _ _ (l .before .before .before .before .before .pre) _ _ _ (l .loop .inv) (s .before .before .before .loop-test .taken) _ (told (s .before) .field) _ _ (sym (c .before .t .given .1) ∙ s .step .ensures)
-
-enum-known-t-2 : tie.Need-enum-known-t-2 Inv-loop μ-loop
-enum-known-t-2 c = search needs
 
 loop-again : tie.Need-loop-again Inv-loop μ-loop
 loop-again c =
@@ -62,12 +50,6 @@ loop-again c =
 add-k : tie.Need-add-k Inv-loop μ-loop
 add-k c = omega (arith, loop-again c .standing .slots, c .before .before .before .before .before .before .before .before .before .before .before .before .pre)
 
-add-i : tie.Need-add-i Inv-loop μ-loop
-add-i c = omega arith
-
-loop-less : tie.Need-loop-less Inv-loop μ-loop
-loop-less c = omega arith
-
 returns-2 : tie.Need-returns-2 Inv-loop μ-loop
 returns-2 c = measuring-done _ _ _ _ (c .before .before .before .before .before .before .pre) _ _ _ (c .before .loop .inv) (c .loop-test .left)
 
@@ -77,17 +59,17 @@ measure-spec =
     (tie.spec
     Inv-loop
     μ-loop
-    new-requires
+    (λ c κs. search needs)
     loop-holds
-    mul-word
-    shared-slice-read-word
-    slots-in-requires
+    mul-code
+    shared-slice-read-code
+    (λ c κs. search needs)
     step-requires
-    enum-known-t
+    (λ c. search needs)
     returns
-    enum-known-t-2
+    (λ c. search needs)
     add-k
-    add-i
-    loop-less
+    (λ c. omega arith)
+    (λ c. omega arith)
     loop-again
     returns-2)

@@ -5,26 +5,8 @@ use borrow.Author.Needs.{needs}
 use Rattle.pack_check.proofs.measuring.moved.Statement.{statement}
 use Rattle.pack_check.proofs.measuring.moved.Tie as tie
 
-enum-told : tie.Need-enum-told
-enum-told c = search needs
-
-amount-requires : tie.Need-amount-requires
-amount-requires c κs = search needs
-
 store-requires : tie.Need-store-requires
 store-requires c κs = let start = c .before .before .before in omega (arith, c .amount .ensures, amount-small (start .args .n) 0 (start .pre .1))
-
-enum-told-2 : tie.Need-enum-told-2
-enum-told-2 c = search needs
-
-back-requires : tie.Need-back-requires
-back-requires c κs = search needs
-
-enum-told-3 : tie.Need-enum-told-3
-enum-told-3 c = search needs
-
-goto-requires : tie.Need-goto-requires
-goto-requires c κs = search needs
 
 returns : tie.Need-returns
 returns c = rw (c .before .before .enum-told .given .1) (cc)
@@ -39,13 +21,13 @@ pub moved-spec : {M : Type 1} → statement M
 moved-spec =
     tie.close
     (tie.spec
-    enum-told
-    amount-requires
+    (λ c. search needs)
+    (λ c κs. search needs)
     store-requires
-    enum-told-2
-    back-requires
-    enum-told-3
-    goto-requires
+    (λ c. search needs)
+    (λ c κs. search needs)
+    (λ c. search needs)
+    (λ c κs. search needs)
     returns
     returns-2
     returns-3)

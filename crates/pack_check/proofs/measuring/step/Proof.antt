@@ -1,18 +1,20 @@
--- A word's type number says what its field is; an argument that passes the quick test is refused by no line, and its field takes the bytes that the test tells.
+-- A code's type number says what its field is; an argument that passes the quick test is refused by no line, and its
+-- field takes the bytes that the test tells.
 use native.Mathlib.Omega.{arith}
-use Rattle.record.specs.Geometry.{itemsLimit}
+use Rattle.record.specs.inside.Bounds.{itemsLimit}
 use Prim.Native.Nat.{_/_, _%_, _<_}
-use Rattle.layout.specs.declared.Code.the-variants.{Data}
-use Rattle.layout.specs.Words.{shapeNumbered, countFrom, flagUnit, countUnit}
+use Rattle.layout.specs.declared.Role.the-variants.{Data}
+use Rattle.layout.specs.Codes.{countFrom, flagUnit, countUnit}
+use Rattle.layout.specs.inside.Parsing.{shapeNumbered}
 use Rattle.record.proofs.Moves.{amount-small}
-use Rattle.pack_check.specs.measuring.{Ready}
+use Rattle.pack_check.specs.inside.measuring.{StepReady}
 use Rattle.pack_check.proofs.measuring.MeasureLaws.{ready-data, quick-next, quick-few}
 use borrow.Author.Needs.{needs}
 use Rattle.pack_check.proofs.measuring.step.Statement.{statement}
 use Rattle.pack_check.proofs.measuring.step.Tie as tie
 
 ready : (c : tie.Then1)
-    → Ready (c .before .before .before .args .slots .now) (c .before .before .before .args .k) (c .before .before .before .args .c) (Data (shapeNumbered (c .before .before .before .args .word % flagUnit))) (countFrom (c .before .before .before .args .word / countUnit))
+    → StepReady (c .before .before .before .args .slots .now) (c .before .before .before .args .k) (c .before .before .before .args .c) (Data (shapeNumbered (c .before .before .before .args .code % flagUnit))) (countFrom (c .before .before .before .args .code / countUnit))
 ready c = ready-data _ _ _ _ (c .before .before .before .pre) (c .if1 .taken)
 
 items : (c : tie.After-amount) → c .amount .result < itemsLimit
@@ -24,19 +26,10 @@ items c =
 slot-at-requires : tie.Need-slot-at-requires
 slot-at-requires c κs = omega (arith, ready c .slot)
 
-count-from-requires : tie.Need-count-from-requires
-count-from-requires c κs = search needs
-
-amount-requires : tie.Need-amount-requires
-amount-requires c κs = search needs
-
 try-argument-requires : tie.Need-try-argument-requires
 try-argument-requires c κs =
     let a = c .before .before .slot-at in
     (c .before .before .before .if1 .taken, c .amount .ensures, items c, a .ensures .start, a .ensures .len)
-
-enum-known-q : tie.Need-enum-known-q
-enum-known-q c = search needs
 
 store-requires : tie.Need-store-requires
 store-requires c κs =
@@ -44,7 +37,7 @@ store-requires c κs =
     let t = c .before .before .before in
     let m = t .before in
     let r = ready (m .before .before .before) in
-    let few = quick-few _ _ _ _ _ (t .try-argument .ensures) (q .given .0 .0) (q .given .1) (r .codeFits) _ (m .amount .ensures) (items m) in
+    let few = quick-few _ _ _ _ _ (t .try-argument .ensures) (q .given .0 .0) (q .given .1) (r .roleFits) _ (m .amount .ensures) (items m) in
     omega (arith, few, r .near)
 
 returns : tie.Need-returns
@@ -54,12 +47,6 @@ returns c =
     let n = t .before .before in
     let a = n .before in
     quick-next _ _ _ _ _ (a .before .if1 .taken) _ (a .slot-at .ensures .same) _ (n .count-from .ensures) _ (t .try-argument .ensures) (q .q .given .0 .0) (q .q .given .1) _ (c .store .ensures)
-
-enum-told : tie.Need-enum-told
-enum-told c = search needs
-
-field-of-requires : tie.Need-field-of-requires
-field-of-requires c κs = search needs
 
 step-exactly-requires : tie.Need-step-exactly-requires
 step-exactly-requires c κs = rw (c .field-of .ensures .same) (c .before .before .before .before .pre)
@@ -72,13 +59,13 @@ step-spec =
     tie.close
     (tie.spec
     slot-at-requires
-    count-from-requires
-    amount-requires
+    (λ c κs. search needs)
+    (λ c κs. search needs)
     try-argument-requires
-    enum-known-q
+    (λ c. search needs)
     store-requires
     returns
-    enum-told
-    field-of-requires
+    (λ c. search needs)
+    (λ c κs. search needs)
     step-exactly-requires
     returns-2)

@@ -3,15 +3,6 @@ use borrow.Author.Needs.{needs}
 use Rattle.pack_check.proofs.quick_check.is_plenty.Statement.{statement}
 use Rattle.pack_check.proofs.quick_check.is_plenty.Tie as tie
 
-enum-told : tie.Need-enum-told
-enum-told c = search needs
-
-enum-told-2 : tie.Need-enum-told-2
-enum-told-2 c = search needs
-
-enum-told-3 : tie.Need-enum-told-3
-enum-told-3 c = search needs
-
 returns : tie.Need-returns
 returns c = rw (c .enum-told .given .1)
 
@@ -25,9 +16,9 @@ pub is-plenty-spec : {M : Type 1} → statement M
 is-plenty-spec =
     tie.close
     (tie.spec
-    enum-told
-    enum-told-2
-    enum-told-3
+    (λ c. search needs)
+    (λ c. search needs)
+    (λ c. search needs)
     returns
     returns-2
     returns-3)

@@ -12,23 +12,11 @@ returns c = none-sound _ _ _ _
 returns-2 : tie.Need-returns-2
 returns-2 c = none-sound _ _ _ _
 
-mul-if3 : tie.Need-mul-if3
-mul-if3 c = search needs
-
-add-if3 : tie.Need-add-if3
-add-if3 c = search needs
-
 returns-3 : tie.Need-returns-3
 returns-3 c = none-sound _ _ _ _
 
-is-plenty-requires : tie.Need-is-plenty-requires
-is-plenty-requires c κs = search needs
-
 returns-4 : tie.Need-returns-4
 returns-4 c = none-sound _ _ _ _
-
-bytes-numbered-requires : tie.Need-bytes-numbered-requires
-bytes-numbered-requires c κs = search needs
 
 returns-5 : tie.Need-returns-5
 returns-5 c =
@@ -45,10 +33,10 @@ try-integers-spec =
     (tie.spec
     returns
     returns-2
-    mul-if3
-    add-if3
+    (λ c. search needs)
+    (λ c. search needs)
     returns-3
-    is-plenty-requires
+    (λ c κs. search needs)
     returns-4
-    bytes-numbered-requires
+    (λ c κs. search needs)
     returns-5)

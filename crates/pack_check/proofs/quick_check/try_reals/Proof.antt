@@ -13,17 +13,8 @@ use Rattle.pack_check.proofs.quick_check.try_reals.Tie as tie
 returns : tie.Need-returns
 returns c = none-sound _ _ _ _
 
-mul-if2 : tie.Need-mul-if2
-mul-if2 c = search needs
-
-add-if2 : tie.Need-add-if2
-add-if2 c = search needs
-
 returns-2 : tie.Need-returns-2
 returns-2 c = none-sound _ _ _ _
-
-is-plenty-requires : tie.Need-is-plenty-requires
-is-plenty-requires c κs = search needs
 
 returns-3 : tie.Need-returns-3
 returns-3 c = none-sound _ _ _ _
@@ -37,9 +28,6 @@ singles-fit-requires c κs =
 
 returns-4 : tie.Need-returns-4
 returns-4 c = none-sound _ _ _ _
-
-bytes-numbered-requires : tie.Need-bytes-numbered-requires
-bytes-numbered-requires c κs = search needs
 
 returns-5 : tie.Need-returns-5
 returns-5 c =
@@ -55,12 +43,12 @@ try-reals-spec =
     tie.close
     (tie.spec
     returns
-    mul-if2
-    add-if2
+    (λ c. search needs)
+    (λ c. search needs)
     returns-2
-    is-plenty-requires
+    (λ c κs. search needs)
     returns-3
     singles-fit-requires
     returns-4
-    bytes-numbered-requires
+    (λ c κs. search needs)
     returns-5)

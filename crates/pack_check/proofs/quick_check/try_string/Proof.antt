@@ -1,4 +1,5 @@
--- Each test that fails is unsure, which says nothing; past them a text serves, and digits serve if those that are looked at do.
+-- Each test that fails is unsure, which says nothing; past them a text serves, and digits serve if those that are
+-- looked at do.
 use mathlib.Core.Path.{_∙_}
 use borrow.Author.Tests.{not-false}
 use Rattle.pack_check.proofs.quick_check.QuickLaws.{none-sound, text-sound, digits-sound}
@@ -9,9 +10,6 @@ use Rattle.pack_check.proofs.quick_check.try_string.Tie as tie
 returns : tie.Need-returns
 returns c = λ n same. none-sound _ _ _ _
 
-add-if2 : tie.Need-add-if2
-add-if2 c = search needs
-
 returns-2 : tie.Need-returns-2
 returns-2 c = λ n same. none-sound _ _ _ _
 
@@ -20,17 +18,8 @@ returns-3 c =
     let start = c .before .before .before .before .before .before in
     λ n same. text-sound _ _ (start .args .a) _ same (c .before .before .before .if1 .left) (c .before .if2 .left) _ (c .if3 .taken)
 
-least-requires : tie.Need-least-requires
-least-requires c κs = search needs
-
-all-digits-requires : tie.Need-all-digits-requires
-all-digits-requires c κs = search needs
-
 returns-4 : tie.Need-returns-4
 returns-4 c = λ n same. none-sound _ _ _ _
-
-bytes-numbered-requires : tie.Need-bytes-numbered-requires
-bytes-numbered-requires c κs = search needs
 
 returns-5 : tie.Need-returns-5
 returns-5 c =
@@ -46,11 +35,11 @@ try-string-spec =
     tie.close
     (tie.spec
     returns
-    add-if2
+    (λ c. search needs)
     returns-2
     returns-3
-    least-requires
-    all-digits-requires
+    (λ c κs. search needs)
+    (λ c κs. search needs)
     returns-4
-    bytes-numbered-requires
+    (λ c κs. search needs)
     returns-5)

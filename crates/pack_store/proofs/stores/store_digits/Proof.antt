@@ -13,9 +13,6 @@ store-hex-requires c κs = digits-asks _ _ _ _ _ _ _ (rw (c .before .if1 .taken)
 bytes-for-requires : tie.Need-bytes-for-requires
 bytes-for-requires c κs = (omega (arith, digits-asks _ _ _ _ _ _ _ (c .before .before .before .before .before .before .before .pre) .0), tt)
 
-same-length : tie.Need-same-length
-same-length c = search needs
-
 returns : tie.Need-returns
 returns c =
     let s = c .before .before .before .before .before .before .before .before in
@@ -28,9 +25,6 @@ store-binary-requires c κs = digits-asks _ _ _ _ _ _ _ (rw (c .before .if1 .lef
 
 bytes-for-requires-2 : tie.Need-bytes-for-requires-2
 bytes-for-requires-2 c κs = (omega (arith, digits-asks _ _ _ _ _ _ _ (c .before .before .before .before .before .before .before .pre) .0), tt)
-
-same-length-2 : tie.Need-same-length-2
-same-length-2 c = search needs
 
 returns-2 : tie.Need-returns-2
 returns-2 c =
@@ -45,9 +39,9 @@ store-digits-spec =
     (tie.spec
     store-hex-requires
     bytes-for-requires
-    same-length
+    (λ c. search needs)
     returns
     store-binary-requires
     bytes-for-requires-2
-    same-length-2
+    (λ c. search needs)
     returns-2)

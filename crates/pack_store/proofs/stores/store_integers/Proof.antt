@@ -9,16 +9,10 @@ use Rattle.pack_store.proofs.stores.store_integers.Tie as tie
 store-requires : tie.Need-store-requires
 store-requires c κs = integers-asks _ _ _ _ _ _ _ (c .before .before .before .pre)
 
-mul-result : tie.Need-mul-result
-mul-result c = search needs
-
-same-length : tie.Need-same-length
-same-length c = search needs
-
 returns : tie.Need-returns
 returns c =
     let s = c .before .before .before .before .before .before in
     (refl, c .before .before .store .ensures ∙ ap (storeAt (s .args .out .now) (s .args .at)) (integers-value _ _ _ _ _ _ _ (s .pre)))
 
 pub store-integers-spec : {M : Type 1} → statement M
-store-integers-spec = tie.close (tie.spec store-requires mul-result same-length returns)
+store-integers-spec = tie.close (tie.spec store-requires (λ c. search needs) (λ c. search needs) returns)

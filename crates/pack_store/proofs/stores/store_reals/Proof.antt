@@ -8,9 +8,6 @@ use borrow.Author.Needs.{needs}
 use Rattle.pack_store.proofs.stores.store_reals.Statement.{statement}
 use Rattle.pack_store.proofs.stores.store_reals.Tie as tie
 
-real-size-requires : tie.Need-real-size-requires
-real-size-requires c κs = search needs
-
 mul-bytes : tie.Need-mul-bytes
 mul-bytes c =
     let s = c .before .before .before in
@@ -20,9 +17,6 @@ mul-bytes c =
 store-requires : tie.Need-store-requires
 store-requires c κs = reals-asks _ _ _ _ _ _ _ (c .before .before .before .before .pre)
 
-same-length : tie.Need-same-length
-same-length c = search needs
-
 returns : tie.Need-returns
 returns c =
     let sized = c .before .before .before .before in
@@ -30,4 +24,4 @@ returns c =
     (ap (λ (k : ℕ). s .args .n * k) (sized .real-size .ensures), c .before .before .store .ensures ∙ ap (storeAt (s .args .out .now) (s .args .at)) (reals-value _ _ _ _ _ _ _ (s .pre)))
 
 pub store-reals-spec : {M : Type 1} → statement M
-store-reals-spec = tie.close (tie.spec real-size-requires mul-bytes store-requires same-length returns)
+store-reals-spec = tie.close (tie.spec (λ c κs. search needs) mul-bytes store-requires (λ c. search needs) returns)

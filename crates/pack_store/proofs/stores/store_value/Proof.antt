@@ -5,7 +5,8 @@ use native.Mathlib.Omega.{arith}
 use mathlib.Core.Path.{_≡_}
 use lib.Dec.{eqb, ltb}
 use Rattle.layout.specs.declared.Shape.the-variants.{Digits}
-use Rattle.layout.specs.Words.{lastBinary, lastData, typeNumbered, shapeNumbered}
+use Rattle.layout.specs.Codes.{lastBinary, lastData, typeNumbered}
+use Rattle.layout.specs.inside.Parsing.{shapeNumbered}
 use Rattle.layout.proofs.Numbered.{past, shape-digits}
 use borrow.Author.Needs.{needs}
 use Rattle.pack_store.proofs.stores.store_value.Statement.{statement}
@@ -84,105 +85,60 @@ store-reals-requires-4 : tie.Need-store-reals-requires-4
 unfolding shapeNumbered typeNumbered
 store-reals-requires-4 c κs = rw (last (c .before)) at (c .before .before .before .before .before .pre .1)
 
-same-length : tie.Need-same-length
-same-length c = search needs
-
 returns : tie.Need-returns
 unfolding shapeNumbered typeNumbered
 returns c = rw (c .before .before .before .before .match .keys1) (c .before .before .store-text .ensures)
-
-same-length-2 : tie.Need-same-length-2
-same-length-2 c = search needs
 
 returns-2 : tie.Need-returns-2
 unfolding shapeNumbered typeNumbered
 returns-2 c = rw (c .before .before .before .before .match .keys2) (c .before .before .store-text2 .ensures)
 
-same-length-3 : tie.Need-same-length-3
-same-length-3 c = search needs
-
 returns-3 : tie.Need-returns-3
 unfolding shapeNumbered typeNumbered
 returns-3 c = rw (c .before .before .before .before .match .keys3) (c .before .before .store-integers .ensures)
-
-same-length-4 : tie.Need-same-length-4
-same-length-4 c = search needs
 
 returns-4 : tie.Need-returns-4
 unfolding shapeNumbered typeNumbered
 returns-4 c = rw (c .before .before .before .before .match .keys4) (c .before .before .store-integers2 .ensures)
 
-same-length-5 : tie.Need-same-length-5
-same-length-5 c = search needs
-
 returns-5 : tie.Need-returns-5
 unfolding shapeNumbered typeNumbered
 returns-5 c = rw (c .before .before .before .before .match .keys5) (c .before .before .store-integers3 .ensures)
-
-same-length-6 : tie.Need-same-length-6
-same-length-6 c = search needs
 
 returns-6 : tie.Need-returns-6
 unfolding shapeNumbered typeNumbered
 returns-6 c = rw (c .before .before .before .before .match .keys6) (c .before .before .store-integers4 .ensures)
 
-same-length-7 : tie.Need-same-length-7
-same-length-7 c = search needs
-
 returns-7 : tie.Need-returns-7
 unfolding shapeNumbered typeNumbered
 returns-7 c = rw (c .before .before .before .before .match .keys7) (c .before .before .store-integers5 .ensures)
-
-same-length-8 : tie.Need-same-length-8
-same-length-8 c = search needs
 
 returns-8 : tie.Need-returns-8
 unfolding shapeNumbered typeNumbered
 returns-8 c = rw (c .before .before .before .before .match .keys8) (c .before .before .store-integers6 .ensures)
 
-same-length-9 : tie.Need-same-length-9
-same-length-9 c = search needs
-
 returns-9 : tie.Need-returns-9
 unfolding shapeNumbered typeNumbered
 returns-9 c = rw (c .before .before .before .before .match .keys9) (c .before .before .store-integers7 .ensures)
-
-same-length-10 : tie.Need-same-length-10
-same-length-10 c = search needs
 
 returns-10 : tie.Need-returns-10
 unfolding shapeNumbered typeNumbered
 returns-10 c = rw (c .before .before .before .before .match .keys10) (c .before .before .store-integers8 .ensures)
 
-same-length-11 : tie.Need-same-length-11
-same-length-11 c = search needs
-
 returns-11 : tie.Need-returns-11
 unfolding shapeNumbered typeNumbered
 returns-11 c = rw (c .before .before .before .before .match .keys11) (c .before .before .store-reals .ensures)
-
-same-length-12 : tie.Need-same-length-12
-same-length-12 c = search needs
 
 returns-12 : tie.Need-returns-12
 unfolding shapeNumbered typeNumbered
 returns-12 c = rw (c .before .before .before .before .match .keys12) (c .before .before .store-reals2 .ensures)
 
-same-length-13 : tie.Need-same-length-13
-same-length-13 c = search needs
-
 returns-13 : tie.Need-returns-13
 unfolding shapeNumbered typeNumbered
 returns-13 c = rw (c .before .before .before .before .match .keys13) (c .before .before .store-reals3 .ensures)
 
-same-length-14 : tie.Need-same-length-14
-same-length-14 c = search needs
-
 returns-14 : tie.Need-returns-14
 returns-14 c = rw (digits (c .before .before .before .before)) (c .before .before .store-digits .ensures)
-
-same-length-15 : tie.Need-same-length-15
-same-length-15 c = search needs
 
 returns-15 : tie.Need-returns-15
 unfolding shapeNumbered typeNumbered
@@ -207,33 +163,33 @@ store-value-spec =
     store-reals-requires-3
     store-digits-requires
     store-reals-requires-4
-    same-length
+    (λ c. search needs)
     returns
-    same-length-2
+    (λ c. search needs)
     returns-2
-    same-length-3
+    (λ c. search needs)
     returns-3
-    same-length-4
+    (λ c. search needs)
     returns-4
-    same-length-5
+    (λ c. search needs)
     returns-5
-    same-length-6
+    (λ c. search needs)
     returns-6
-    same-length-7
+    (λ c. search needs)
     returns-7
-    same-length-8
+    (λ c. search needs)
     returns-8
-    same-length-9
+    (λ c. search needs)
     returns-9
-    same-length-10
+    (λ c. search needs)
     returns-10
-    same-length-11
+    (λ c. search needs)
     returns-11
-    same-length-12
+    (λ c. search needs)
     returns-12
-    same-length-13
+    (λ c. search needs)
     returns-13
-    same-length-14
+    (λ c. search needs)
     returns-14
-    same-length-15
+    (λ c. search needs)
     returns-15)

@@ -1,42 +1,38 @@
--- A word's type number says what its field is: a value whose argument was checked, which is storable, or a move, which has room.
+-- A code's type number says what its field is: a value whose argument was checked, which is storable, or a move, which
+-- has room.
 use native.Mathlib.Omega.{arith}
 use Prim.Native.Nat.{_/_, _%_}
 use mathlib.Core.Path.{_≡_, _∙_}
 use lib.ListN.{length}
-use Rattle.layout.specs.declared.Code.the-variants.{Data, Move}
-use Rattle.layout.specs.Words.{shapeNumbered, countFrom, flagUnit, countUnit}
-use Rattle.layout.proofs.Decoded.{word-shape, word-count}
+use Rattle.layout.specs.declared.Role.the-variants.{Data, Move}
+use Rattle.layout.specs.Codes.{countFrom, flagUnit, countUnit}
+use Rattle.layout.specs.inside.Parsing.{shapeNumbered}
+use Rattle.layout.proofs.Decoded.{code-shape, code-count}
 use Rattle.record.specs.Geometry.{amount}
-use Rattle.pack_store.specs.stores.{Storable}
-use Rattle.pack_store.specs.writing.{put, Puttable}
+use Rattle.pack_store.specs.inside.stores.{Storable}
+use Rattle.pack_store.specs.inside.writing.{put, Puttable}
 use Rattle.pack_store.proofs.writing.WriteLaws.{puttable-data, storable, put-data, movable, no-value}
 use borrow.Author.Needs.{needs}
 use Rattle.pack_store.proofs.writing.put.Statement.{statement}
 use Rattle.pack_store.proofs.writing.put.Tie as tie
 
 as-data : (c : tie.Then1)
-    → Puttable (c .before .before .before .before .args .area .now) (c .before .before .before .before .args .slots .now) (c .before .before .before .before .args .k) (c .before .before .before .before .args .c) (Data (shapeNumbered (c .before .before .before .before .args .word % flagUnit))) (countFrom (c .before .before .before .before .args .word / countUnit)) (length (c .before .before .before .before .args .out .now))
+    → Puttable (c .before .before .before .before .args .area .now) (c .before .before .before .before .args .slots .now) (c .before .before .before .before .args .k) (c .before .before .before .before .args .c) (Data (shapeNumbered (c .before .before .before .before .args .code % flagUnit))) (countFrom (c .before .before .before .before .args .code / countUnit)) (length (c .before .before .before .before .args .out .now))
 as-data c = puttable-data _ _ _ _ _ _ (c .before .before .before .before .pre) (c .if1 .taken)
 
-asked : (c : tie.After-amount) → c .amount .result ≡ amount (countFrom (c .before .before .before .before .before .before .before .args .word / countUnit)) (c .before .before .slot-at .result .len)
+asked : (c : tie.After-amount) → c .amount .result ≡ amount (countFrom (c .before .before .before .before .before .before .before .args .code / countUnit)) (c .before .before .slot-at .result .len)
 asked c = c .amount .ensures ∙ rw (c .before .count-from .ensures)
 
 stored-value : (c : tie.After-amount)
-    → Storable (c .before .before .before .before .before .before .before .args .area .now) (shapeNumbered (c .before .before .before .before .before .before .before .args .word % flagUnit)) (c .amount .result) (c .before .before .slot-at .result) (c .before .before .before .before .before .before .before .args .c .at) (length (c .before .before .before .before .before .before .before .args .out .now))
+    → Storable (c .before .before .before .before .before .before .before .args .area .now) (shapeNumbered (c .before .before .before .before .before .before .before .args .code % flagUnit)) (c .amount .result) (c .before .before .slot-at .result) (c .before .before .before .before .before .before .before .args .c .at) (length (c .before .before .before .before .before .before .before .args .out .now))
 stored-value c = storable _ _ _ _ _ _ _ (as-data (c .before .before .before)) _ (c .before .before .slot-at .ensures .same) _ (asked c)
 
 as-move : (c : tie.After-known-told)
-    → Puttable (c .before .before .before .before .before .before .before .before .args .area .now) (c .before .before .before .before .before .before .before .before .args .slots .now) (c .before .before .before .before .before .before .before .before .args .k) (c .before .before .before .before .before .before .before .before .args .c) (Move (c .before .code .given .0 .0)) (c .before .before .before .field-of .result .count) (length (c .before .before .before .before .before .before .before .before .args .out .now))
-as-move c = rw (← c .before .before .before .field-of .ensures .same, c .before .code .given .1) at (c .before .before .before .before .before .before .before .before .pre)
+    → Puttable (c .before .before .before .before .before .before .before .before .args .area .now) (c .before .before .before .before .before .before .before .before .args .slots .now) (c .before .before .before .before .before .before .before .before .args .k) (c .before .before .before .before .before .before .before .before .args .c) (Move (c .before .role .given .0 .0)) (c .before .before .before .field-of .result .count) (length (c .before .before .before .before .before .before .before .before .args .out .now))
+as-move c = rw (← c .before .before .before .field-of .ensures .same, c .before .role .given .1) at (c .before .before .before .before .before .before .before .before .pre)
 
 slot-at-requires : tie.Need-slot-at-requires
 slot-at-requires c κs = omega (arith, as-data c .ready .slot)
-
-count-from-requires : tie.Need-count-from-requires
-count-from-requires c κs = search needs
-
-amount-requires : tie.Need-amount-requires
-amount-requires c κs = search needs
 
 store-value-requires : tie.Need-store-value-requires
 store-value-requires c κs = (c .before .before .before .before .if1 .taken, stored-value (c .before))
@@ -46,24 +42,12 @@ store-requires c κs =
     let v = stored-value (c .before .before .before .before) in
     omega (arith, c .before .before .store-value .ensures .0, v .room, v .limit)
 
-same-length : tie.Need-same-length
-same-length c = search needs
-
 returns : tie.Need-returns
 returns c =
     let v = c .before .before .before .store-value in
     let i = c .before .before .before .before .before .before .before .before in
-    rw (word-shape _ (i .if1 .taken), word-count)
+    rw (code-shape _ (i .if1 .taken), code-count)
     (put-data _ _ _ _ _ _ _ (as-data i) _ (c .before .before .before .before .before .before .before .slot-at .ensures .same) _ (asked (c .before .before .before .before .before)) _ (v .ensures .0) _ (c .store .ensures) _ _ (v .ensures .1))
-
-field-of-requires : tie.Need-field-of-requires
-field-of-requires c κs = search needs
-
-enum-known-code : tie.Need-enum-known-code
-enum-known-code c = search needs
-
-enum-told : tie.Need-enum-told
-enum-told c = search needs
 
 returns-2 : tie.Need-returns-2
 returns-2 c = absurd (no-value _ _ _ (c .before .before .field-of .ensures .same) (c .before .before .before .if1 .left) (c .enum-told .given .1))
@@ -71,30 +55,27 @@ returns-2 c = absurd (no-value _ _ _ (c .before .before .field-of .ensures .same
 put-move-requires : tie.Need-put-move-requires
 put-move-requires c κs = movable _ _ _ _ _ _ _ (as-move (c .before))
 
-same-length-2 : tie.Need-same-length-2
-same-length-2 c = search needs
-
 returns-3 : tie.Need-returns-3
 unfolding put
 returns-3 c =
     let m = c .before .before in
-    rw (← c .before .before .before .before .before .before .before .field-of .ensures .same, c .before .before .before .before .before .code .given .1) (m .put-move .ensures)
+    rw (← c .before .before .before .before .before .before .before .field-of .ensures .same, c .before .before .before .before .before .role .given .1) (m .put-move .ensures)
 
 pub put-spec : {M : Type 1} → statement M
 put-spec =
     tie.close
     (tie.spec
     slot-at-requires
-    count-from-requires
-    amount-requires
+    (λ c κs. search needs)
+    (λ c κs. search needs)
     store-value-requires
     store-requires
-    same-length
+    (λ c. search needs)
     returns
-    field-of-requires
-    enum-known-code
-    enum-told
+    (λ c κs. search needs)
+    (λ c. search needs)
+    (λ c. search needs)
     returns-2
     put-move-requires
-    same-length-2
+    (λ c. search needs)
     returns-3)

@@ -1,4 +1,5 @@
--- The arms are the clauses of `moved` and `putMove`; what is filled ends where the cursor's end does, which is in the output.
+-- The arms are the clauses of `moved` and `putMove`; what is filled ends where the cursor's end does, which is in the
+-- output.
 use Prim.Native.Nat.{ℕ, _-_, max}
 use native.Mathlib.Omega.{arith}
 use mathlib.Core.Path.{_≡_, refl, ap, _∙_}
@@ -7,16 +8,10 @@ use Rattle.layout.specs.declared.Motion.the-variants.{Skip, Goto}
 use Rattle.record.specs.declared.Cursor.{Cursor}
 use Rattle.record.specs.Bytes.{storeAt}
 use Rattle.record.specs.Geometry.{gotoIn}
-use Rattle.pack_store.specs.writing.{Movable}
+use Rattle.pack_store.specs.inside.writing.{Movable}
 use borrow.Author.Needs.{needs}
 use Rattle.pack_store.proofs.writing.put_move.Statement.{statement}
 use Rattle.pack_store.proofs.writing.put_move.Tie as tie
-
-enum-told : tie.Need-enum-told
-enum-told c = search needs
-
-amount-requires : tie.Need-amount-requires
-amount-requires c κs = search needs
 
 as-skip : (c : tie.After-enum-told) → Movable (c .before .before .before .args .c) Skip (c .before .before .before .args .n) (length (c .before .before .before .args .out .now))
 as-skip c = rw (c .enum-told .given .1) at (c .before .before .before .pre)
@@ -34,26 +29,11 @@ fill-requires c κs = omega (arith, c .before .amount .ensures, as-skip (c .befo
 store-requires : tie.Need-store-requires
 store-requires c κs = let a = c .before .before .before .before in omega (arith, a .amount .ensures, as-skip (a .before) .room, a .before .before .before .before .good)
 
-enum-told-2 : tie.Need-enum-told-2
-enum-told-2 c = search needs
-
-back-requires : tie.Need-back-requires
-back-requires c κs = search needs
-
-enum-told-3 : tie.Need-enum-told-3
-enum-told-3 c = search needs
-
-goto-requires : tie.Need-goto-requires
-goto-requires c κs = search needs
-
 sub-fill : tie.Need-sub-fill
 sub-fill c = omega (arith, reached (c .before .before .before))
 
 fill-requires-2 : tie.Need-fill-requires-2
 fill-requires-2 c κs = let g = c .before .before .before in omega (arith, reached g, as-goto (g .before) .room)
-
-same-length : tie.Need-same-length
-same-length c = search needs
 
 returns : tie.Need-returns
 returns c =
@@ -62,9 +42,6 @@ returns c =
 
 returns-2 : tie.Need-returns-2
 returns-2 c = rw (c .before .enum-told2 .given .1) (c .back .ensures, refl)
-
-same-length-2 : tie.Need-same-length-2
-same-length-2 c = search needs
 
 returns-3 : tie.Need-returns-3
 returns-3 c =
@@ -77,18 +54,18 @@ pub put-move-spec : {M : Type 1} → statement M
 put-move-spec =
     tie.close
     (tie.spec
-    enum-told
-    amount-requires
+    (λ c. search needs)
+    (λ c κs. search needs)
     fill-requires
     store-requires
-    enum-told-2
-    back-requires
-    enum-told-3
-    goto-requires
+    (λ c. search needs)
+    (λ c κs. search needs)
+    (λ c. search needs)
+    (λ c κs. search needs)
     sub-fill
     fill-requires-2
-    same-length
+    (λ c. search needs)
     returns
     returns-2
-    same-length-2
+    (λ c. search needs)
     returns-3)

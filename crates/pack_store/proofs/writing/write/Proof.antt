@@ -5,33 +5,32 @@ use mathlib.Core.Path.{_≡_, refl}
 use mathlib.Core.Logic.{⊎-elim}
 use lib.ListN.{getD}
 use borrow.Author.Needs.{needs}
-use Rattle.layout.specs.Words.{FieldOf, fieldOf, slotsTaken}
+use Rattle.layout.specs.Codes.{fieldOf}
+use Rattle.layout.specs.inside.Parsing.{FieldOf}
+use Rattle.layout.specs.Layout.{slotsTaken}
 use Rattle.layout.proofs.Steps.{field-fits}
 use Rattle.pack_store.proofs.writing.WriteLaws.{Writing, slot-taken, slot-kept, writing-none, writing-done, writing-ready, writing-next}
 use Rattle.pack_store.proofs.writing.write.Statement.{statement}
 use Rattle.pack_store.proofs.writing.write.Tie as tie
 
 abbrev Inv-loop : tie.InvT-loop
-Inv-loop words n slots area out₀ c₀ k₀ i₀ out c k i = Writing area n words slots out₀ out i k c
+Inv-loop codes n slots area out₀ c₀ k₀ i₀ out c k i = Writing area n codes slots out₀ out i k c
 
 abbrev μ-loop : tie.MeasureT-loop
-μ-loop words n slots area out₀ c₀ k₀ i₀ out c k i = n - i
-
-new-requires : tie.Need-new-requires Inv-loop μ-loop
-new-requires c κs = search needs
+μ-loop codes n slots area out₀ c₀ k₀ i₀ out c k i = n - i
 
 loop-holds : tie.Need-loop-holds Inv-loop μ-loop
 loop-holds c = rw (c .new .ensures) (writing-none _ _ _ _ _ (c .before .before .before .before .before .pre))
 
-mul-word : tie.Need-mul-word Inv-loop μ-loop
-mul-word c = omega (arith, c .before .before .before .before .before .before .before .pre .prepared)
+mul-code : tie.Need-mul-code Inv-loop μ-loop
+mul-code c = omega (arith, c .before .before .before .before .before .before .before .pre .prepared)
 
-shared-slice-read-word : tie.Need-shared-slice-read-word Inv-loop μ-loop
-shared-slice-read-word c = omega (arith, c .before .before .before .before .before .before .before .before .pre .prepared)
+shared-slice-read-code : tie.Need-shared-slice-read-code Inv-loop μ-loop
+shared-slice-read-code c = omega (arith, c .before .before .before .before .before .before .before .before .pre .prepared)
 
--- the word that is read has 32 bits
+-- the code that is read has 32 bits
 field : (c : tie.After-shared-slice-known4 Inv-loop μ-loop)
-    → let w = getD (c .before .before .before .before .before .before .before .before .args .words .now) (c .before .before .loop .i) 0 in FieldOf w (fieldOf w)
+    → let w = getD (c .before .before .before .before .before .before .before .before .args .codes .now) (c .before .before .loop .i) 0 in FieldOf w (fieldOf w)
 field c = field-fits _ _ (c .shared-slice-known4 .given _ .fits) refl
 
 put-requires : tie.Need-put-requires Inv-loop μ-loop
@@ -48,7 +47,7 @@ add-k c =
 -- both ways through the test leave k at the next slot
 next : (c : tie.Joined1 Inv-loop μ-loop)
     → let l = c .before .before .before .before .before .before .before in
-    c .if1 .k ≡ l .loop .k + slotsTaken (fieldOf (getD (l .before .before .before .before .before .before .args .words .now) (l .loop .i) 0))
+    c .if1 .k ≡ l .loop .k + slotsTaken (fieldOf (getD (l .before .before .before .before .before .before .args .codes .now) (l .loop .i) 0))
 next c = ⊎-elim (λ t. slot-taken _ _ _ (t .0 .taken) (t .1)) (λ t. slot-kept _ _ _ (t .0 .left) (t .1)) (c .if1 .came)
 
 loop-again : tie.Need-loop-again Inv-loop μ-loop
@@ -57,12 +56,6 @@ loop-again c =
     let r = p .before .before in
     let l = r .before .before in
     writing-next _ _ _ _ _ (l .before .before .before .before .before .before .pre) _ _ _ _ (l .loop .inv) (r .before .loop-test .taken) _ (field r) _ _ (p .put .ensures) (p .put .kept .1 .1 .1 .1 .1 .0) _ (next c)
-
-add-i : tie.Need-add-i Inv-loop μ-loop
-add-i c = omega arith
-
-loop-less : tie.Need-loop-less Inv-loop μ-loop
-loop-less c = omega arith
 
 same-length : tie.Need-same-length Inv-loop μ-loop
 same-length c = c .before .loop .inv .long
@@ -76,14 +69,14 @@ write-spec =
     (tie.spec
     Inv-loop
     μ-loop
-    new-requires
+    (λ c κs. search needs)
     loop-holds
-    mul-word
-    shared-slice-read-word
+    mul-code
+    shared-slice-read-code
     put-requires
     add-k
-    add-i
-    loop-less
+    (λ c. omega arith)
+    (λ c. omega arith)
     loop-again
     same-length
     returns)

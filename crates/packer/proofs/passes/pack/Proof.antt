@@ -2,40 +2,25 @@
 use Prim.Native.Nat.{_≤_}
 use native.Mathlib.Omega.{arith}
 use mathlib.Core.Path.{_≡_, sym, _∙_}
-use Rattle.layout.specs.Words.{decoded}
+use Rattle.layout.specs.inside.Parsing.{decoded}
 use Rattle.record.specs.Table.{slotsOf}
 use Rattle.pack_check.specs.declared.measuring.Measured.the-variants.{Length}
-use Rattle.record.specs.Cursor.{origin}
-use Rattle.pack_check.specs.measuring.{checked, measuredOf}
+use Rattle.record.specs.inside.Cursor.{origin}
+use Rattle.pack_check.specs.inside.measuring.{argumentsChecked, measuredOf}
 use Rattle.packer.proofs.passes.Finish.{finish-refused, finish-full, finish-room, finish-done}
 use borrow.Author.Needs.{needs}
 use Rattle.packer.proofs.passes.pack.Statement.{statement}
 use Rattle.packer.proofs.passes.pack.Tie as tie
 
-measure-requires : tie.Need-measure-requires
-measure-requires c κs = search needs
-
-enum-known-m : tie.Need-enum-known-m
-enum-known-m c = search needs
-
 slot-number : (c : tie.After-known-told) → c .before .m .given .0 .1 .0 ≤ 64
 slot-number c = rw (c .before .m .given .1) at (c .before .before .before .measure .ensures .small)
 
 at-length : (c : tie.After-known-told2)
-    → Length (c .before .m2 .given .0 .0) ≡ measuredOf (checked (c .before .before .before .before .before .before .before .before .args .area .now) 0 (slotsOf (c .before .before .before .before .before .before .before .before .args .slots .now)) (decoded (c .before .before .before .before .before .before .before .before .args .n) (c .before .before .before .before .before .before .before .before .args .words .now)) origin)
+    → Length (c .before .m2 .given .0 .0) ≡ measuredOf (argumentsChecked (c .before .before .before .before .before .before .before .before .args .area .now) 0 (slotsOf (c .before .before .before .before .before .before .before .before .args .slots .now)) (decoded (c .before .before .before .before .before .before .before .before .args .n) (c .before .before .before .before .before .before .before .before .args .codes .now)) origin)
 at-length c = sym (c .before .m2 .given .1) ∙ c .before .before .before .measure .ensures .same
 
 cast-refused : tie.Need-cast-refused
 cast-refused c = omega (arith, slot-number c)
-
-refused-requires : tie.Need-refused-requires
-refused-requires c κs = search needs
-
-enum-known-m-2 : tie.Need-enum-known-m-2
-enum-known-m-2 c = search needs
-
-refused-requires-2 : tie.Need-refused-requires-2
-refused-requires-2 c κs = search needs
 
 returns : tie.Need-returns
 returns c =
@@ -49,21 +34,12 @@ write-requires c κs =
     let s = start .args in
     record {
       prepared = start .pre .0;
-      room = finish-room (s .area .now) (slotsOf (s .slots .now)) (decoded (s .n) (s .words .now)) (s .output .now) _ (at-length k) (c .before .if1 .left);
+      room = finish-room (s .area .now) (slotsOf (s .slots .now)) (decoded (s .n) (s .codes .now)) (s .output .now) _ (at-length k) (c .before .if1 .left);
       limit = start .pre .1;
     }
 
-cast-accepted : tie.Need-cast-accepted
-cast-accepted c = search needs
-
-accepted-requires : tie.Need-accepted-requires
-accepted-requires c κs = search needs
-
 returns-2 : tie.Need-returns-2
 returns-2 c = rw (c .refused .ensures) (finish-refused _ _ _ _ _ _ (sym (c .before .before .m .given .1) ∙ c .before .before .before .before .measure .ensures .same))
-
-same-length : tie.Need-same-length
-same-length c = search needs
 
 returns-3 : tie.Need-returns-3
 returns-3 c =
@@ -75,16 +51,16 @@ pub pack-spec : {M : Type 1} → statement M
 pack-spec =
     tie.close
     (tie.spec
-    measure-requires
-    enum-known-m
+    (λ c κs. search needs)
+    (λ c. search needs)
     cast-refused
-    refused-requires
-    enum-known-m-2
-    refused-requires-2
+    (λ c κs. search needs)
+    (λ c. search needs)
+    (λ c κs. search needs)
     returns
     write-requires
-    cast-accepted
-    accepted-requires
+    (λ c. search needs)
+    (λ c κs. search needs)
     returns-2
-    same-length
+    (λ c. search needs)
     returns-3)

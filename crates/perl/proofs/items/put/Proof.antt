@@ -5,31 +5,16 @@ use Rattle.perl.proofs.items.Blocks.{flag-short, put-over, put-whole}
 use Rattle.perl.proofs.items.put.Statement.{statement}
 use Rattle.perl.proofs.items.put.Tie as tie
 
-letter-size-requires : tie.Need-letter-size-requires
-letter-size-requires c κs = search needs
-
 add-count : tie.Need-add-count
 add-count c = record { fits = omega (arith, flag-short (c .before .before .before .args .flagged)) }
 
 add-end : tie.Need-add-end
 add-end c = record { fits = omega (arith, flag-short (c .before .before .before .args .flagged)) }
 
-add-result : tie.Need-add-result
-add-result c = search needs
-
 returns : tie.Need-returns
 returns c =
     let s = c .before .before .before .before in
     put-over (s .args .out .now) (s .args .text .now) (s .args .to) (s .args .letter) (s .args .flagged) (s .args .start) (s .args .n) _ (c .before .letter-size .ensures) (s .pre .0) (c .if1 .taken)
-
-put-letter-requires : tie.Need-put-letter-requires
-put-letter-requires c κs = search needs
-
-copy-requires : tie.Need-copy-requires
-copy-requires c κs = search needs
-
-same-length : tie.Need-same-length
-same-length c = search needs
 
 returns-2 : tie.Need-returns-2
 returns-2 c =
@@ -42,12 +27,12 @@ pub put-spec : {M : Type 1} → statement M
 put-spec =
     tie.close
     (tie.spec
-    letter-size-requires
+    (λ c κs. search needs)
     add-count
     add-end
-    add-result
+    (λ c. search needs)
     returns
-    put-letter-requires
-    copy-requires
-    same-length
+    (λ c κs. search needs)
+    (λ c κs. search needs)
+    (λ c. search needs)
     returns-2)

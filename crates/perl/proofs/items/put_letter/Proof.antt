@@ -11,23 +11,11 @@ use Rattle.perl.proofs.items.put_letter.Tie as tie
 room : (c : tie.Then1) → c .before .args .to + 2 ≤ length (c .before .args .out .now)
 room c = rw (c .if1 .taken) at (c .before .pre)
 
-slice-write-out : tie.Need-slice-write-out
-slice-write-out c = search needs
-
-add-out : tie.Need-add-out
-add-out c = search needs
-
 slice-write-out-2 : tie.Need-slice-write-out-2
 slice-write-out-2 c = simp length-set (omega (arith, room c))
 
-same-length : tie.Need-same-length
-same-length c = search needs
-
 returns : tie.Need-returns
 returns c = rw (c .if1 .taken) (two-bytes (c .before .args .out .now) (c .before .args .to) (c .before .args .letter) 117 (omega (arith, room c)))
-
-same-length-2 : tie.Need-same-length-2
-same-length-2 c = search needs
 
 returns-2 : tie.Need-returns-2
 returns-2 c = rw (c .if1 .left) (one-byte (c .before .args .out .now) (c .before .args .to) (c .before .args .letter) (omega arith))
@@ -36,10 +24,10 @@ pub put-letter-spec : {M : Type 1} → statement M
 put-letter-spec =
     tie.close
     (tie.spec
-    slice-write-out
-    add-out
+    (λ c. search needs)
+    (λ c. search needs)
     slice-write-out-2
-    same-length
+    (λ c. search needs)
     returns
-    same-length-2
+    (λ c. search needs)
     returns-2)

@@ -5,45 +5,15 @@ use Rattle.perl.proofs.items.Letters.{letter-unknown, count-inside, let
 use Rattle.perl.proofs.items.single.Statement.{statement}
 use Rattle.perl.proofs.items.single.Tie as tie
 
-shared-slice-read-c : tie.Need-shared-slice-read-c
-shared-slice-read-c c = search needs
-
-letter-of-requires : tie.Need-letter-of-requires
-letter-of-requires c κs = search needs
-
-enum-known-l : tie.Need-enum-known-l
-enum-known-l c = search needs
-
-enum-told : tie.Need-enum-told
-enum-told c = search needs
-
 returns : tie.Need-returns
 returns c =
     let s = c .before .before .before .before .before .before in
     letter-unknown (s .args .text .now) _ _ _ _ (sym (c .before .before .letter-of .ensures) ∙ c .enum-told .given .1)
 
-add-number : tie.Need-add-number
-add-number c = search needs
-
-number-requires : tie.Need-number-requires
-number-requires c κs = search needs
-
-add-digits : tie.Need-add-digits
-add-digits c = search needs
-
-sub-digits : tie.Need-sub-digits
-sub-digits c = search needs
-
-add-put : tie.Need-add-put
-add-put c = search needs
-
 put-requires : tie.Need-put-requires
 put-requires c κs =
     let s = c .before .before .before .before .before .before .before .before .before .before in
     (count-inside (s .args .text .now) _ _ (s .pre .0) (c .before .before .number .ensures .1), s .pre .1, s .pre .2, s .pre .3)
-
-same-length : tie.Need-same-length
-same-length c = search needs
 
 returns-2 : tie.Need-returns-2
 returns-2 c =
@@ -55,16 +25,16 @@ pub single-spec : {M : Type 1} → statement M
 single-spec =
     tie.close
     (tie.spec
-    shared-slice-read-c
-    letter-of-requires
-    enum-known-l
-    enum-told
+    (λ c. search needs)
+    (λ c κs. search needs)
+    (λ c. search needs)
+    (λ c. search needs)
     returns
-    add-number
-    number-requires
-    add-digits
-    sub-digits
-    add-put
+    (λ c. search needs)
+    (λ c κs. search needs)
+    (λ c. search needs)
+    (λ c. search needs)
+    (λ c. search needs)
     put-requires
-    same-length
+    (λ c. search needs)
     returns-2)

@@ -3,7 +3,7 @@ use mathlib.Core.Path.{_∙_}
 use native.Mathlib.Omega.{arith}
 use lib.ListN.{length}
 use borrow.Author.Needs.{needs}
-use Rattle.perl.specs.tokens.{maxDepth}
+use Rattle.perl.specs.Tokens.{maxDepth}
 use Rattle.perl.proofs.tokens.Numbers.{repeats}
 use Rattle.perl.proofs.readers.Turns.{letter-item, too-deep, group-bounds, group-stray, group-written, Turn, turn-none, turn-small, turn-space, turn-item, item-after, ends-top, ends-open, ends-close, ends-unopened, ends-empty, ends-bad}
 use borrow.Fn.Kinds.{In}

@@ -1,7 +1,7 @@
 -- The letter of each arm is computed; of another byte none of the tests of the definition holds.
 use mathlib.Core.Path.{sym, ap}
 use borrow.Author.Tests.{ne-eqb}
-use Rattle.perl.specs.tokens.{letterOf}
+use Rattle.perl.specs.Tokens.{letterOf}
 use Rattle.perl.proofs.tokens.letter_of.Statement.{statement}
 use Rattle.perl.proofs.tokens.letter_of.Tie as tie
 

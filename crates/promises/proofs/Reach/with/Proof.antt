@@ -6,20 +6,11 @@ use borrow.Author.Needs.{needs}
 use Rattle.promises.proofs.Reach.with.Statement.{statement}
 use Rattle.promises.proofs.Reach.with.Tie as tie
 
-slots-taken-requires : tie.Need-slots-taken-requires
-slots-taken-requires c κs = search needs
-
 add-t6 : tie.Need-add-t6
-add-t6 c = omega (arith, bit-le (takesSlot (c .before .before .args .f .code)), c .before .slots-taken .ensures)
-
-fills-requires : tie.Need-fills-requires
-fills-requires c κs = search needs
-
-add-t8 : tie.Need-add-t8
-add-t8 c = search needs
+add-t6 c = omega (arith, bit-le (takesSlot (c .before .before .args .f .role)), c .before .slots-taken .ensures)
 
 returns : tie.Need-returns
 returns c = cc
 
 pub with-spec : {M : Type 1} → statement M
-with-spec = tie.close (tie.spec slots-taken-requires add-t6 fills-requires add-t8 returns)
+with-spec = tie.close (tie.spec (λ c κs. search needs) add-t6 (λ c κs. search needs) (λ c. search needs) returns)

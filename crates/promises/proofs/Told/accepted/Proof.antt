@@ -3,11 +3,8 @@ use borrow.Author.Needs.{needs}
 use Rattle.promises.proofs.Told.accepted.Statement.{statement}
 use Rattle.promises.proofs.Told.accepted.Tie as tie
 
-accepted-requires : tie.Need-accepted-requires
-accepted-requires c κs = search needs
-
 returns : tie.Need-returns
 returns c = rw (c .accepted .ensures)
 
 pub accepted-spec : {M : Type 1} → statement M
-accepted-spec = tie.close (tie.spec accepted-requires returns)
+accepted-spec = tie.close (tie.spec (λ c κs. search needs) returns)

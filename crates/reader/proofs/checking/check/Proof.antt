@@ -16,35 +16,14 @@ use Rattle.reader.proofs.checking.check.Tie as tie
 sized : (c : tie.Else1) → Fit (length (c .before .before .before .before .before .before .args .layout .now)) (length (c .before .before .before .before .before .before .args .slots .now)) (length (c .before .before .before .before .before .before .args .bytes .now)) (length (c .before .before .before .before .before .before .args .area .now)) (c .before .before .before .before .before .before .args .mark)
 sized c = fit (sym (c .before .sizes-fit .ensures) ∙ not-false _ (c .if1 .left))
 
-sizes-fit-requires : tie.Need-sizes-fit-requires
-sizes-fit-requires c κs = search needs
-
-refused-requires : tie.Need-refused-requires
-refused-requires c κs = search needs
-
 returns : tie.Need-returns
 returns c = check-refused _ _ _ _ _ (sizes-refuse _ _ _ _ _ (sym (c .before .before .sizes-fit .ensures) ∙ not-true _ (c .before .if1 .taken))) (c .refused .ensures)
-
-slice-aggregate-parse : tie.Need-slice-aggregate-parse
-slice-aggregate-parse c = search needs
 
 parse-requires : tie.Need-parse-requires
 parse-requires c κs = (sized (c .before) .text, le-refl maxLayout)
 
-enum-known-p : tie.Need-enum-known-p
-enum-known-p c = search needs
-
 cast-refused : tie.Need-cast-refused
 cast-refused c = omega (arith, sized (c .before .before .before .before .before .before) .text, refused-inside false _ _ _ (parsed-refused _ _ _ _ _ (c .before .before .before .before .parse .ensures) (c .before .p .given .1)))
-
-refused-requires-2 : tie.Need-refused-requires-2
-refused-requires-2 c κs = search needs
-
-enum-known-p-2 : tie.Need-enum-known-p-2
-enum-known-p-2 c = search needs
-
-slice-aggregate-fits : tie.Need-slice-aggregate-fits
-slice-aggregate-fits c = search needs
 
 sub-fits : tie.Need-sub-fits
 sub-fits c = omega (arith, sized (c .before .before .before .before .before .before .before) .start)
@@ -65,16 +44,16 @@ pub check-spec : {M : Type 1} → statement M
 check-spec =
     tie.close
     (tie.spec
-    sizes-fit-requires
-    refused-requires
+    (λ c κs. search needs)
+    (λ c κs. search needs)
     returns
-    slice-aggregate-parse
+    (λ c. search needs)
     parse-requires
-    enum-known-p
+    (λ c. search needs)
     cast-refused
-    refused-requires-2
-    enum-known-p-2
-    slice-aggregate-fits
+    (λ c κs. search needs)
+    (λ c. search needs)
+    (λ c. search needs)
     sub-fits
     fits-requires
     returns-2

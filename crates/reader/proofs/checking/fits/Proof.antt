@@ -4,26 +4,11 @@ use borrow.Author.Needs.{needs}
 use Rattle.reader.proofs.checking.fits.Statement.{statement}
 use Rattle.reader.proofs.checking.fits.Tie as tie
 
-refused-requires : tie.Need-refused-requires
-refused-requires c κs = search needs
-
 returns : tie.Need-returns
 returns c = fitting-slots _ _ _ _ (c .before .if1 .taken) (c .refused .ensures)
 
-measure-requires : tie.Need-measure-requires
-measure-requires c κs = search needs
-
-refused-requires-2 : tie.Need-refused-requires-2
-refused-requires-2 c κs = search needs
-
 returns-2 : tie.Need-returns-2
 returns-2 c = fitting-room _ _ _ _ (c .before .before .before .if1 .left) (c .before .before .measure .ensures) (c .before .if2 .taken) (c .refused2 .ensures)
-
-cast-accepted : tie.Need-cast-accepted
-cast-accepted c = search needs
-
-accepted-requires : tie.Need-accepted-requires
-accepted-requires c κs = search needs
 
 returns-3 : tie.Need-returns-3
 returns-3 c = fitting-all _ _ _ _ (c .before .before .before .if1 .left) (c .before .before .measure .ensures) (c .before .if2 .left) (c .accepted .ensures)
@@ -32,11 +17,11 @@ pub fits-spec : {M : Type 1} → statement M
 fits-spec =
     tie.close
     (tie.spec
-    refused-requires
+    (λ c κs. search needs)
     returns
-    measure-requires
-    refused-requires-2
+    (λ c κs. search needs)
+    (λ c κs. search needs)
     returns-2
-    cast-accepted
-    accepted-requires
+    (λ c. search needs)
+    (λ c κs. search needs)
     returns-3)

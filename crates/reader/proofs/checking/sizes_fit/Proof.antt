@@ -5,9 +5,6 @@ use borrow.Author.Tests.{not-true, not-false}
 use Rattle.reader.proofs.checking.sizes_fit.Statement.{statement}
 use Rattle.reader.proofs.checking.sizes_fit.Tie as tie
 
-lengths-fit-requires : tie.Need-lengths-fit-requires
-lengths-fit-requires c κs = search needs
-
 returns : tie.Need-returns
 returns c = rw (sym (c .before .lengths-fit .ensures) ∙ not-true _ (c .if1 .taken))
 
@@ -15,4 +12,4 @@ returns-2 : tie.Need-returns-2
 returns-2 c = rw (sym (c .before .lengths-fit .ensures) ∙ not-false _ (c .if1 .left))
 
 pub sizes-fit-spec : {M : Type 1} → statement M
-sizes-fit-spec = tie.close (tie.spec lengths-fit-requires returns returns-2)
+sizes-fit-spec = tie.close (tie.spec (λ c κs. search needs) returns returns-2)

@@ -5,31 +5,13 @@ use Rattle.reader.proofs.passes.Calls.{surely-room, surely-put, unfit-l
 use Rattle.reader.proofs.passes.read.Statement.{statement}
 use Rattle.reader.proofs.passes.read.Tie as tie
 
-sub-surely-read : tie.Need-sub-surely-read
-sub-surely-read c = search needs
-
-surely-read-requires : tie.Need-surely-read-requires
-surely-read-requires c κs = search needs
-
 fill-requires : tie.Need-fill-requires
 fill-requires c κs =
     let k = c .before .before .before .before .before .before .before .before .pre in
     ((k .few, k .room, k .whole), surely-room k (sym (c .before .before .before .surely-read .ensures) ∙ c .before .before .if1 .taken))
 
-same-length : tie.Need-same-length
-same-length c = search needs
-
-same-length-2 : tie.Need-same-length-2
-same-length-2 c = search needs
-
 returns : tie.Need-returns
 returns c = surely-put (c .before .before .before .before .before .before .before .before .before .before .before .before .before .pre) (sym (c .before .before .before .before .before .before .before .before .surely-read .ensures) ∙ c .before .before .before .before .before .before .before .if1 .taken) (c .before .before .before .before .fill .ensures)
-
-sub-fits : tie.Need-sub-fits
-sub-fits c = search needs
-
-fits-requires : tie.Need-fits-requires
-fits-requires c κs = search needs
 
 returns-2 : tie.Need-returns-2
 returns-2 c = unfit-left (c .before .before .before .before .before .before .before .before .before .pre) (c .before .before .fits2 .ensures) (c .if2 .taken)
@@ -39,12 +21,6 @@ fill-requires-2 c κs =
     let k = c .before .before .before .before .before .before .before .before .before .before .before .pre in
     ((k .few, k .room, k .whole), fit-room k (c .before .before .before .before .fits2 .ensures) (c .before .before .if2 .left))
 
-same-length-3 : tie.Need-same-length-3
-same-length-3 c = search needs
-
-same-length-4 : tie.Need-same-length-4
-same-length-4 c = search needs
-
 returns-3 : tie.Need-returns-3
 returns-3 c = fit-put (c .before .before .before .before .before .before .before .before .before .before .before .before .before .before .before .before .pre) (c .before .before .before .before .before .before .before .before .before .fits2 .ensures) (c .before .before .before .before .before .before .before .if2 .left) (c .before .before .before .before .fill2 .ensures)
 
@@ -52,16 +28,16 @@ pub read-spec : {M : Type 1} → statement M
 read-spec =
     tie.close
     (tie.spec
-    sub-surely-read
-    surely-read-requires
+    (λ c. search needs)
+    (λ c κs. search needs)
     fill-requires
-    same-length
-    same-length-2
+    (λ c. search needs)
+    (λ c. search needs)
     returns
-    sub-fits
-    fits-requires
+    (λ c. search needs)
+    (λ c κs. search needs)
     returns-2
     fill-requires-2
-    same-length-3
-    same-length-4
+    (λ c. search needs)
+    (λ c. search needs)
     returns-3)

@@ -1,4 +1,4 @@
--- Each way out is one law of the bound of a word's field.
+-- Each way out is one law of the bound of a code's field.
 use native.Mathlib.Omega.{arith}
 use borrow.Author.Needs.{needs}
 use Rattle.reading.proofs.measure.Bounds.{bound-moved, bound-string, bound-numbers}
@@ -8,12 +8,6 @@ use Rattle.reading.proofs.measure.field_bound.Tie as tie
 returns : tie.Need-returns
 returns c = (bound-moved _ _ (c .if1 .taken), omega arith)
 
-items-requires : tie.Need-items-requires
-items-requires c κs = search needs
-
-mul-result : tie.Need-mul-result
-mul-result c = search needs
-
 returns-2 : tie.Need-returns-2
 returns-2 c = (bound-string _ _ (c .before .before .if1 .left) (c .before .items .ensures .0) (c .if2 .taken), omega (arith, c .before .items .ensures .1))
 
@@ -21,4 +15,4 @@ returns-3 : tie.Need-returns-3
 returns-3 c = (bound-numbers _ _ (c .before .before .if1 .left) (c .before .items .ensures .0) (c .if2 .left), omega (arith, c .before .items .ensures .1))
 
 pub field-bound-spec : {M : Type 1} → statement M
-field-bound-spec = tie.close (tie.spec returns items-requires mul-result returns-2 returns-3)
+field-bound-spec = tie.close (tie.spec returns (λ c κs. search needs) (λ c. search needs) returns-2 returns-3)

@@ -2,7 +2,7 @@
 use Prim.Native.Nat.{_-_, _≤_}
 use native.Mathlib.Omega.{arith}
 use borrow.Author.Needs.{needs}
-use Rattle.layout.specs.Words.{decoded}
+use Rattle.layout.specs.inside.Parsing.{decoded}
 use Rattle.reading.proofs.positions.Turns.{ran-end, ran-short, ran-moved, ran-found}
 use Rattle.reading.proofs.measure.Run.{found-inside}
 use Rattle.reading.proofs.measure.Measured.{Measured, measured-start, measured-moved, measured-more, measured-done}
@@ -10,34 +10,19 @@ use Rattle.reading.proofs.measure.measure.Statement.{statement}
 use Rattle.reading.proofs.measure.measure.Tie as tie
 
 abbrev Inv-loop : tie.InvT-loop
-Inv-loop words n bytes c₀ size₀ i₀ c size i = (i ≤ n) × Measured bytes (decoded n words) i c size
+Inv-loop codes n bytes c₀ size₀ i₀ c size i = (i ≤ n) × Measured bytes (decoded n codes) i c size
 
 abbrev μ-loop : tie.MeasureT-loop
-μ-loop words n bytes c₀ size₀ i₀ c size i = n - i
-
-new-requires : tie.Need-new-requires Inv-loop μ-loop
-new-requires c κs = search needs
+μ-loop codes n bytes c₀ size₀ i₀ c size i = n - i
 
 loop-holds : tie.Need-loop-holds Inv-loop μ-loop
 loop-holds c = (omega arith, measured-start _ (c .new .ensures))
-
-mul-word : tie.Need-mul-word Inv-loop μ-loop
-mul-word c = omega arith
-
-shared-slice-read-word : tie.Need-shared-slice-read-word Inv-loop μ-loop
-shared-slice-read-word c = omega arith
-
-add-i : tie.Need-add-i Inv-loop μ-loop
-add-i c = omega arith
 
 moved-by-requires : tie.Need-moved-by-requires Inv-loop μ-loop
 moved-by-requires c κs =
     let l = c .before .before .before in
     let ran = l .loop .inv .1 .ran in
     (ran .inside, omega (arith, ran .size, l .before .before .before .before .pre .2))
-
-loop-less : tie.Need-loop-less Inv-loop μ-loop
-loop-less c = omega arith
 
 loop-again : tie.Need-loop-again Inv-loop μ-loop
 loop-again c =
@@ -76,9 +61,6 @@ size-of-requires c κs =
 add-size : tie.Need-add-size Inv-loop μ-loop
 add-size c = omega (arith, c .before .before .before .before .before .before .before .before .before .loop .inv .1 .small, c .size-of .ensures .small)
 
-loop-less-2 : tie.Need-loop-less-2 Inv-loop μ-loop
-loop-less-2 c = omega arith
-
 loop-again-2 : tie.Need-loop-again-2 Inv-loop μ-loop
 loop-again-2 c =
     let l = c .before .before .before .before .before .before .before .before .before in
@@ -98,13 +80,13 @@ measure-spec =
     (tie.spec
     Inv-loop
     μ-loop
-    new-requires
+    (λ c κs. search needs)
     loop-holds
-    mul-word
-    shared-slice-read-word
-    add-i
+    (λ c. omega arith)
+    (λ c. omega arith)
+    (λ c. omega arith)
     moved-by-requires
-    loop-less
+    (λ c. omega arith)
     loop-again
     sub-left
     items-requires
@@ -113,6 +95,6 @@ measure-spec =
     load-requires
     size-of-requires
     add-size
-    loop-less-2
+    (λ c. omega arith)
     loop-again-2
     returns-2)

@@ -3,24 +3,6 @@ use borrow.Author.Needs.{needs}
 use Rattle.reading.proofs.positions.moved.Statement.{statement}
 use Rattle.reading.proofs.positions.moved.Tie as tie
 
-enum-told : tie.Need-enum-told
-enum-told c = search needs
-
-skip-requires : tie.Need-skip-requires
-skip-requires c κs = search needs
-
-enum-told-2 : tie.Need-enum-told-2
-enum-told-2 c = search needs
-
-back-requires : tie.Need-back-requires
-back-requires c κs = search needs
-
-enum-told-3 : tie.Need-enum-told-3
-enum-told-3 c = search needs
-
-seek-requires : tie.Need-seek-requires
-seek-requires c κs = search needs
-
 returns : tie.Need-returns
 returns c = rw (c .before .enum-told .given .1) (c .skip .ensures)
 
@@ -34,12 +16,12 @@ pub moved-spec : {M : Type 1} → statement M
 moved-spec =
     tie.close
     (tie.spec
-    enum-told
-    skip-requires
-    enum-told-2
-    back-requires
-    enum-told-3
-    seek-requires
+    (λ c. search needs)
+    (λ c κs. search needs)
+    (λ c. search needs)
+    (λ c κs. search needs)
+    (λ c. search needs)
+    (λ c κs. search needs)
     returns
     returns-2
     returns-3)

@@ -9,9 +9,6 @@ load-hex-requires c κs =
     let pre = rw (c .before .if1 .taken) at (c .before .before .before .before .pre) in
     (pre .1, pre .0 .within)
 
-same-length : tie.Need-same-length
-same-length c = search needs
-
 returns : tie.Need-returns
 returns c =
     λ u.
@@ -24,9 +21,6 @@ load-binary-requires c κs =
     let pre = rw (c .before .if1 .left) at (c .before .before .before .before .pre) in
     (digits-limit (pre .0), pre .1, pre .0 .within)
 
-same-length-2 : tie.Need-same-length-2
-same-length-2 c = search needs
-
 returns-2 : tie.Need-returns-2
 returns-2 c =
     λ u.
@@ -35,4 +29,4 @@ returns-2 c =
     rw binary (loaded-digits u (pre .0) (c .before .before .load-binary .ensures .1 u))
 
 pub digits-spec : {M : Type 1} → statement M
-digits-spec = tie.close (tie.spec load-hex-requires same-length returns load-binary-requires same-length-2 returns-2)
+digits-spec = tie.close (tie.spec load-hex-requires (λ c. search needs) returns load-binary-requires (λ c. search needs) returns-2)

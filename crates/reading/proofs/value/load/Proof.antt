@@ -3,7 +3,8 @@ use native.Mathlib.Nat.{le-antisymm}
 use native.Mathlib.Omega.{arith}
 use Prim.Native.Nat.{_≤_}
 use mathlib.Core.Path.{_≡_, refl, ap}
-use Rattle.layout.specs.Words.{lastData, typeNumbered, shapeNumbered}
+use Rattle.layout.specs.Codes.{lastData, typeNumbered}
+use Rattle.layout.specs.inside.Parsing.{shapeNumbered}
 use Rattle.layout.proofs.Numbered.{past}
 use Rattle.reading.proofs.value.Loads.{text-asked, digits-asked, integers-asked, reals-asked}
 use borrow.Author.Needs.{needs}
@@ -125,127 +126,73 @@ reals-requires-4 c κs =
     let s = c .before .before .before .before in
     reals-asked (s .args .u) _ _ (s .pre .0 .1) (s .pre .1) (ap shapeNumbered (last (c .before)))
 
-same-length : tie.Need-same-length
-same-length c = search needs
-
 returns : tie.Need-returns
 unfolding shapeNumbered typeNumbered
 returns c = rw (c .before .before .before .before .match .keys1) (c .before .before .text .ensures _)
-
-same-length-2 : tie.Need-same-length-2
-same-length-2 c = search needs
 
 returns-2 : tie.Need-returns-2
 unfolding shapeNumbered typeNumbered
 returns-2 c = rw (c .before .before .before .before .match .keys2) (c .before .before .text2 .ensures _)
 
-same-length-3 : tie.Need-same-length-3
-same-length-3 c = search needs
-
 returns-3 : tie.Need-returns-3
 unfolding shapeNumbered typeNumbered
 returns-3 c = rw (c .before .before .before .before .match .keys3) (c .before .before .digits .ensures _)
-
-same-length-4 : tie.Need-same-length-4
-same-length-4 c = search needs
 
 returns-4 : tie.Need-returns-4
 unfolding shapeNumbered typeNumbered
 returns-4 c = rw (c .before .before .before .before .match .keys4) (c .before .before .digits2 .ensures _)
 
-same-length-5 : tie.Need-same-length-5
-same-length-5 c = search needs
-
 returns-5 : tie.Need-returns-5
 unfolding shapeNumbered typeNumbered
 returns-5 c = rw (c .before .before .before .before .match .keys5) (c .before .before .digits3 .ensures _)
-
-same-length-6 : tie.Need-same-length-6
-same-length-6 c = search needs
 
 returns-6 : tie.Need-returns-6
 unfolding shapeNumbered typeNumbered
 returns-6 c = rw (c .before .before .before .before .match .keys6) (c .before .before .digits4 .ensures _)
 
-same-length-7 : tie.Need-same-length-7
-same-length-7 c = search needs
-
 returns-7 : tie.Need-returns-7
 unfolding shapeNumbered typeNumbered
 returns-7 c = rw (c .before .before .before .before .match .keys7) (c .before .before .integers .ensures)
-
-same-length-8 : tie.Need-same-length-8
-same-length-8 c = search needs
 
 returns-8 : tie.Need-returns-8
 unfolding shapeNumbered typeNumbered
 returns-8 c = rw (c .before .before .before .before .match .keys8) (c .before .before .integers2 .ensures)
 
-same-length-9 : tie.Need-same-length-9
-same-length-9 c = search needs
-
 returns-9 : tie.Need-returns-9
 unfolding shapeNumbered typeNumbered
 returns-9 c = rw (c .before .before .before .before .match .keys9) (c .before .before .integers3 .ensures)
-
-same-length-10 : tie.Need-same-length-10
-same-length-10 c = search needs
 
 returns-10 : tie.Need-returns-10
 unfolding shapeNumbered typeNumbered
 returns-10 c = rw (c .before .before .before .before .match .keys10) (c .before .before .integers4 .ensures)
 
-same-length-11 : tie.Need-same-length-11
-same-length-11 c = search needs
-
 returns-11 : tie.Need-returns-11
 unfolding shapeNumbered typeNumbered
 returns-11 c = rw (c .before .before .before .before .match .keys11) (c .before .before .integers5 .ensures)
-
-same-length-12 : tie.Need-same-length-12
-same-length-12 c = search needs
 
 returns-12 : tie.Need-returns-12
 unfolding shapeNumbered typeNumbered
 returns-12 c = rw (c .before .before .before .before .match .keys12) (c .before .before .integers6 .ensures)
 
-same-length-13 : tie.Need-same-length-13
-same-length-13 c = search needs
-
 returns-13 : tie.Need-returns-13
 unfolding shapeNumbered typeNumbered
 returns-13 c = rw (c .before .before .before .before .match .keys13) (c .before .before .integers7 .ensures)
-
-same-length-14 : tie.Need-same-length-14
-same-length-14 c = search needs
 
 returns-14 : tie.Need-returns-14
 unfolding shapeNumbered typeNumbered
 returns-14 c = rw (c .before .before .before .before .match .keys14) (c .before .before .integers8 .ensures)
 
-same-length-15 : tie.Need-same-length-15
-same-length-15 c = search needs
-
 returns-15 : tie.Need-returns-15
 unfolding shapeNumbered typeNumbered
 returns-15 c = rw (c .before .before .before .before .match .keys15) (c .before .before .reals .ensures _)
-
-same-length-16 : tie.Need-same-length-16
-same-length-16 c = search needs
 
 returns-16 : tie.Need-returns-16
 unfolding shapeNumbered typeNumbered
 returns-16 c = rw (c .before .before .before .before .match .keys16) (c .before .before .reals2 .ensures _)
 
-same-length-17 : tie.Need-same-length-17
-same-length-17 c = search needs
-
 returns-17 : tie.Need-returns-17
 unfolding shapeNumbered typeNumbered
 returns-17 c = rw (c .before .before .before .before .match .keys17) (c .before .before .reals3 .ensures _)
-
-same-length-18 : tie.Need-same-length-18
-same-length-18 c = search needs
 
 returns-18 : tie.Need-returns-18
 unfolding shapeNumbered typeNumbered
@@ -273,39 +220,39 @@ load-spec =
     reals-requires-2
     reals-requires-3
     reals-requires-4
-    same-length
+    (λ c. search needs)
     returns
-    same-length-2
+    (λ c. search needs)
     returns-2
-    same-length-3
+    (λ c. search needs)
     returns-3
-    same-length-4
+    (λ c. search needs)
     returns-4
-    same-length-5
+    (λ c. search needs)
     returns-5
-    same-length-6
+    (λ c. search needs)
     returns-6
-    same-length-7
+    (λ c. search needs)
     returns-7
-    same-length-8
+    (λ c. search needs)
     returns-8
-    same-length-9
+    (λ c. search needs)
     returns-9
-    same-length-10
+    (λ c. search needs)
     returns-10
-    same-length-11
+    (λ c. search needs)
     returns-11
-    same-length-12
+    (λ c. search needs)
     returns-12
-    same-length-13
+    (λ c. search needs)
     returns-13
-    same-length-14
+    (λ c. search needs)
     returns-14
-    same-length-15
+    (λ c. search needs)
     returns-15
-    same-length-16
+    (λ c. search needs)
     returns-16
-    same-length-17
+    (λ c. search needs)
     returns-17
-    same-length-18
+    (λ c. search needs)
     returns-18)

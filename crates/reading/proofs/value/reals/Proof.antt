@@ -4,17 +4,8 @@ use borrow.Author.Needs.{needs}
 use Rattle.reading.proofs.value.reals.Statement.{statement}
 use Rattle.reading.proofs.value.reals.Tie as tie
 
-load-requires : tie.Need-load-requires
-load-requires c κs = search needs
-
-mul-t11 : tie.Need-mul-t11
-mul-t11 c = search needs
-
-same-length : tie.Need-same-length
-same-length c = search needs
-
 returns : tie.Need-returns
 returns c = λ u. loaded-reals u (c .before .before .before .before .before .before .pre .0) (c .before .before .load .ensures u)
 
 pub reals-spec : {M : Type 1} → statement M
-reals-spec = tie.close (tie.spec load-requires mul-t11 same-length returns)
+reals-spec = tie.close (tie.spec (λ c κs. search needs) (λ c. search needs) (λ c. search needs) returns)

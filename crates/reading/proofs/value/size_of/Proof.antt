@@ -1,7 +1,7 @@
 -- Each form's size is a law of its value.
 use native.Mathlib.Omega.{arith}
 use mathlib.Core.Path.{refl}
-use Rattle.layout.specs.Words.{shapeNumbered}
+use Rattle.layout.specs.inside.Parsing.{shapeNumbered}
 use Rattle.layout.proofs.Numbered.{shape-trimmed}
 use Rattle.reading.proofs.value.Loads.{items-few, inside-as, text-trimmed, size-text, size-numbered, size-as, size-kept}
 use Rattle.reading.proofs.value.size_of.Statement.{statement}

@@ -6,20 +6,14 @@ use borrow.Author.Needs.{needs}
 use Rattle.reading.proofs.value.text.Statement.{statement}
 use Rattle.reading.proofs.value.text.Tie as tie
 
-text-len-requires : tie.Need-text-len-requires
-text-len-requires c κs = search needs
-
 copy-requires : tie.Need-copy-requires
 copy-requires c κs =
     let s = c .before .before .before .before in
     let x = c .before .text-len .ensures in
     (rw (size-text (s .pre .0) x .size false) (s .pre .1), omega (arith, s .pre .0 .within, x .short))
 
-same-length : tie.Need-same-length
-same-length c = search needs
-
 returns : tie.Need-returns
 returns c = λ u. loaded-text u (c .before .before .before .before .before .before .before .pre .0) (c .before .before .before .before .text-len .ensures) (c .before .before .copy .ensures)
 
 pub text-spec : {M : Type 1} → statement M
-text-spec = tie.close (tie.spec text-len-requires copy-requires same-length returns)
+text-spec = tie.close (tie.spec (λ c κs. search needs) copy-requires (λ c. search needs) returns)

@@ -4,9 +4,6 @@ use borrow.Author.Needs.{needs}
 use Rattle.reading.proofs.value.text_len.Statement.{statement}
 use Rattle.reading.proofs.value.text_len.Tie as tie
 
-trimmed-len-requires : tie.Need-trimmed-len-requires
-trimmed-len-requires c κs = search needs
-
 returns : tie.Need-returns
 returns c =
     let s = c .before .before .before in
@@ -16,4 +13,4 @@ returns-2 : tie.Need-returns-2
 returns-2 c = text-kept _ _ _ _ (c .if1 .left)
 
 pub text-len-spec : {M : Type 1} → statement M
-text-len-spec = tie.close (tie.spec trimmed-len-requires returns returns-2)
+text-len-spec = tie.close (tie.spec (λ c κs. search needs) returns returns-2)

@@ -6,18 +6,6 @@ use borrow.Author.Needs.{needs}
 use Rattle.reals.proofs.load.load_single.Statement.{statement}
 use Rattle.reals.proofs.load.load_single.Tie as tie
 
-single-at-requires : tie.Need-single-at-requires
-single-at-requires c κs = search needs
-
-widen-requires : tie.Need-widen-requires
-widen-requires c κs = search needs
-
-put-number-requires : tie.Need-put-number-requires
-put-number-requires c κs = search needs
-
-same-length : tie.Need-same-length
-same-length c = search needs
-
 returns : tie.Need-returns
 returns c =
     let widened = c .before .before .before .before in
@@ -29,8 +17,8 @@ pub load-single-spec : {M : Type 1} → statement M
 load-single-spec =
     tie.close
     (tie.spec
-    single-at-requires
-    widen-requires
-    put-number-requires
-    same-length
+    (λ c κs. search needs)
+    (λ c κs. search needs)
+    (λ c κs. search needs)
+    (λ c. search needs)
     returns)

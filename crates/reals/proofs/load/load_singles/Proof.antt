@@ -17,27 +17,6 @@ abbrev μ-loop : tie.MeasureT-loop
 loop-holds : tie.Need-loop-holds Inv-loop μ-loop
 loop-holds c = (omega arith, wrote-none)
 
-mul-load-single : tie.Need-mul-load-single Inv-loop μ-loop
-mul-load-single c = omega arith
-
-add-load-single : tie.Need-add-load-single Inv-loop μ-loop
-add-load-single c = omega arith
-
-mul-load-single-2 : tie.Need-mul-load-single-2 Inv-loop μ-loop
-mul-load-single-2 c = omega arith
-
-add-load-single-2 : tie.Need-add-load-single-2 Inv-loop μ-loop
-add-load-single-2 c = omega arith
-
-load-single-requires : tie.Need-load-single-requires Inv-loop μ-loop
-load-single-requires c κs = omega arith
-
-add-i : tie.Need-add-i Inv-loop μ-loop
-add-i c = omega arith
-
-loop-less : tie.Need-loop-less Inv-loop μ-loop
-loop-less c = omega arith
-
 loop-again : tie.Need-loop-again Inv-loop μ-loop
 loop-again c =
     let turn = c .before .before .before .before in
@@ -59,13 +38,13 @@ load-singles-spec =
     Inv-loop
     μ-loop
     loop-holds
-    mul-load-single
-    add-load-single
-    mul-load-single-2
-    add-load-single-2
-    load-single-requires
-    add-i
-    loop-less
+    (λ c. omega arith)
+    (λ c. omega arith)
+    (λ c. omega arith)
+    (λ c. omega arith)
+    (λ c κs. omega arith)
+    (λ c. omega arith)
+    (λ c. omega arith)
     loop-again
     same-length
     returns)

@@ -8,17 +8,11 @@ use Rattle.reals.proofs.store.store.Tie as tie
 store-singles-requires : tie.Need-store-singles-requires
 store-singles-requires c κs = rw (c .before .if1 .taken) at (c .before .before .before .before .pre)
 
-same-length : tie.Need-same-length
-same-length c = search needs
-
 returns : tie.Need-returns
 returns c = rw (c .before .before .before .before .if1 .taken) (c .before .before .store-singles .ensures)
 
 store-requires : tie.Need-store-requires
 store-requires c κs = let pre = rw (c .before .if1 .left) at (c .before .before .before .before .pre) in (omega arith, pre .0, pre .1)
-
-same-length-2 : tie.Need-same-length-2
-same-length-2 c = search needs
 
 returns-2 : tie.Need-returns-2
 returns-2 c = rw (c .before .before .before .before .if1 .left, ← stored-doubles) (c .before .before .store .ensures)
@@ -26,4 +20,4 @@ returns-2 c = rw (c .before .before .before .before .if1 .left, ← stored-doubl
 pub store-spec : {M : Type 1} → statement M
 store-spec =
     tie.close
-    (tie.spec store-singles-requires same-length returns store-requires same-length-2 returns-2)
+    (tie.spec store-singles-requires (λ c. search needs) returns store-requires (λ c. search needs) returns-2)

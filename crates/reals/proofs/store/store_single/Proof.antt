@@ -7,24 +7,6 @@ use borrow.Author.Needs.{needs}
 use Rattle.reals.proofs.store.store_single.Statement.{statement}
 use Rattle.reals.proofs.store.store_single.Tie as tie
 
-double-at-requires : tie.Need-double-at-requires
-double-at-requires c κs = search needs
-
-narrow-requires : tie.Need-narrow-requires
-narrow-requires c κs = search needs
-
-in-order-requires : tie.Need-in-order-requires
-in-order-requires c κs = search needs
-
-cast-put-number : tie.Need-cast-put-number
-cast-put-number c = search needs
-
-put-number-requires : tie.Need-put-number-requires
-put-number-requires c κs = search needs
-
-same-length : tie.Need-same-length
-same-length c = search needs
-
 returns : tie.Need-returns
 returns c =
     let ordered = c .before .before .before .before in
@@ -37,10 +19,10 @@ pub store-single-spec : {M : Type 1} → statement M
 store-single-spec =
     tie.close
     (tie.spec
-    double-at-requires
-    narrow-requires
-    in-order-requires
-    cast-put-number
-    put-number-requires
-    same-length
+    (λ c κs. search needs)
+    (λ c κs. search needs)
+    (λ c κs. search needs)
+    (λ c. search needs)
+    (λ c κs. search needs)
+    (λ c. search needs)
     returns)

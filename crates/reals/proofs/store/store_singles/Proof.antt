@@ -17,27 +17,6 @@ abbrev μ-loop : tie.MeasureT-loop
 loop-holds : tie.Need-loop-holds Inv-loop μ-loop
 loop-holds c = (omega arith, wrote-none)
 
-mul-store-single : tie.Need-mul-store-single Inv-loop μ-loop
-mul-store-single c = omega arith
-
-add-store-single : tie.Need-add-store-single Inv-loop μ-loop
-add-store-single c = omega arith
-
-mul-store-single-2 : tie.Need-mul-store-single-2 Inv-loop μ-loop
-mul-store-single-2 c = omega arith
-
-add-store-single-2 : tie.Need-add-store-single-2 Inv-loop μ-loop
-add-store-single-2 c = omega arith
-
-store-single-requires : tie.Need-store-single-requires Inv-loop μ-loop
-store-single-requires c κs = omega arith
-
-add-i : tie.Need-add-i Inv-loop μ-loop
-add-i c = omega arith
-
-loop-less : tie.Need-loop-less Inv-loop μ-loop
-loop-less c = omega arith
-
 loop-again : tie.Need-loop-again Inv-loop μ-loop
 loop-again c =
     let turn = c .before .before .before .before in
@@ -59,13 +38,13 @@ store-singles-spec =
     Inv-loop
     μ-loop
     loop-holds
-    mul-store-single
-    add-store-single
-    mul-store-single-2
-    add-store-single-2
-    store-single-requires
-    add-i
-    loop-less
+    (λ c. omega arith)
+    (λ c. omega arith)
+    (λ c. omega arith)
+    (λ c. omega arith)
+    (λ c κs. omega arith)
+    (λ c. omega arith)
+    (λ c. omega arith)
     loop-again
     same-length
     returns)

@@ -1,4 +1,5 @@
--- What is taken off is the smaller of the position and the amount, so the difference is the definition's, which stops at 0.
+-- What is taken off is the smaller of the position and the amount, so the difference is the definition's, which stops
+-- at 0.
 use Prim.Native.Nat.{ℕ, _-_}
 use native.Mathlib.Omega.{arith}
 use mathlib.Core.Path.{_≡_, ap}
@@ -6,15 +7,6 @@ use borrow.Author.Needs.{needs}
 use Rattle.record.specs.Geometry.{backFrom}
 use Rattle.record.proofs.Cursor.back.Statement.{statement}
 use Rattle.record.proofs.Cursor.back.Tie as tie
-
-amount-requires : tie.Need-amount-requires
-amount-requires c κs = search needs
-
-least-requires : tie.Need-least-requires
-least-requires c κs = search needs
-
-sub-t6 : tie.Need-sub-t6
-sub-t6 c = search needs
 
 returns : tie.Need-returns
 returns c =
@@ -24,4 +16,4 @@ returns c =
     ap (λ (at : ℕ). record { at = at; end = s .end }) e
 
 pub back-spec : {M : Type 1} → statement M
-back-spec = tie.close (tie.spec amount-requires least-requires sub-t6 returns)
+back-spec = tie.close (tie.spec (λ c κs. search needs) (λ c κs. search needs) (λ c. search needs) returns)

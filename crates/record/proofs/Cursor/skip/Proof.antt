@@ -5,19 +5,13 @@ use Rattle.record.proofs.Moves.{amount-small}
 use Rattle.record.proofs.Cursor.skip.Statement.{statement}
 use Rattle.record.proofs.Cursor.skip.Tie as tie
 
-amount-requires : tie.Need-amount-requires
-amount-requires c κs = search needs
-
 add-least : tie.Need-add-least
 add-least c =
     let start = c .before .before in
     omega (arith, amount-small (start .args .n) (start .args .self .end) (start .pre .2))
 
-least-requires : tie.Need-least-requires
-least-requires c κs = search needs
-
 returns : tie.Need-returns
 returns c = cc
 
 pub skip-spec : {M : Type 1} → statement M
-skip-spec = tie.close (tie.spec amount-requires add-least least-requires returns)
+skip-spec = tie.close (tie.spec (λ c κs. search needs) add-least (λ c κs. search needs) returns)

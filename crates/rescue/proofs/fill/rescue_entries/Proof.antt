@@ -1,6 +1,6 @@
 -- Each way out is one law of the definition, by the numbers that the first pass answers.
 use native.Mathlib.Omega.{arith}
-use Rattle.rescue.proofs.fill.Runs.{bounds, legs-few, all-found, kept-few, no-room, has-room, rest-blankable, all-done}
+use Rattle.rescue.proofs.fill.Runs.{bounds, legs-few, all-found, kept-few, no-room, has-room, rest-clearable, all-done}
 use borrow.Author.Needs.{needs}
 use Rattle.rescue.proofs.fill.rescue_entries.Statement.{statement}
 use Rattle.rescue.proofs.fill.rescue_entries.Tie as tie
@@ -11,9 +11,6 @@ measure-requires c κs = (c .before .before .before .pre .2, c .before .before .
 sub-if1 : tie.Need-sub-if1
 sub-if1 c = bounds (c .before .before .before .before .pre .0) .start
 
-refused-requires : tie.Need-refused-requires
-refused-requires c κs = search needs
-
 returns : tie.Need-returns
 returns c = rw (c .refused .ensures) (no-room (c .before .before .before .before .before .before .before .pre .0) (c .before .before .before .before .before .before .before .pre .1) (c .before .before .before .measure .ensures) (c .before .if1 .taken))
 
@@ -23,17 +20,14 @@ fill-requires c κs =
     let found = c .before .before .before .before .measure .ensures in
     ((p .2, p .3, all-found (p .0) (p .1) found), has-room (p .0) (p .1) found (c .before .before .if1 .left))
 
-sub-blank : tie.Need-sub-blank
-sub-blank c = omega (arith, kept-few (c .before .before .before .before .before .before .before .before .before .before .before .before .before .before .before .pre .0) (c .before .before .before .before .before .before .before .before .before .before .before .before .before .before .before .pre .1) (c .before .before .before .before .before .before .before .before .before .before .before .measure .ensures))
+sub-clear : tie.Need-sub-clear
+sub-clear c = omega (arith, kept-few (c .before .before .before .before .before .before .before .before .before .before .before .before .before .before .before .pre .0) (c .before .before .before .before .before .before .before .before .before .before .before .before .before .before .before .pre .1) (c .before .before .before .before .before .before .before .before .before .before .before .measure .ensures))
 
-blank-requires : tie.Need-blank-requires
-blank-requires c κs = rest-blankable (c .before .before .before .before .before .before .before .before .before .before .before .before .before .before .before .pre .0) (c .before .before .before .before .before .before .before .before .before .before .before .before .before .before .before .pre .1) (c .before .before .before .before .before .before .before .before .before .before .before .measure .ensures) (c .before .before .before .before .before .before .before .before .before .if1 .left) (c .before .before .before .before .before .before .fill .ensures)
+clear-requires : tie.Need-clear-requires
+clear-requires c κs = rest-clearable (c .before .before .before .before .before .before .before .before .before .before .before .before .before .before .before .pre .0) (c .before .before .before .before .before .before .before .before .before .before .before .before .before .before .before .pre .1) (c .before .before .before .before .before .before .before .before .before .before .before .measure .ensures) (c .before .before .before .before .before .before .before .before .before .if1 .left) (c .before .before .before .before .before .before .fill .ensures)
 
 sub-saved : tie.Need-sub-saved
 sub-saved c = omega (arith, kept-few (c .before .before .before .before .before .before .before .before .before .before .before .before .before .before .before .before .before .before .before .pre .0) (c .before .before .before .before .before .before .before .before .before .before .before .before .before .before .before .before .before .before .before .pre .1) (c .before .before .before .before .before .before .before .before .before .before .before .before .before .before .before .measure .ensures))
-
-sub-saved-2 : tie.Need-sub-saved-2
-sub-saved-2 c = search needs
 
 saved-requires : tie.Need-saved-requires
 saved-requires c κs =
@@ -42,14 +36,8 @@ saved-requires c κs =
     let size = bounds (c .before .before .before .before .before .before .before .before .before .before .before .before .before .before .before .before .before .before .before .before .pre .0) .lengths .size in
     (omega (arith, few, kept), omega (arith, few), omega (arith, size))
 
-same-length : tie.Need-same-length
-same-length c = search needs
-
-same-length-2 : tie.Need-same-length-2
-same-length-2 c = search needs
-
 returns-2 : tie.Need-returns-2
-returns-2 c = all-done (c .before .before .before .before .before .before .before .before .before .before .before .before .before .before .before .before .before .before .before .before .before .pre .0) (c .before .before .before .before .before .before .before .before .before .before .before .before .before .before .before .before .before .before .before .before .before .pre .1) (c .before .before .before .before .before .before .before .before .before .before .before .before .before .before .before .before .before .measure .ensures) (c .before .before .before .before .before .before .before .before .before .before .before .before .before .before .before .if1 .left) (c .before .before .before .before .before .before .before .before .before .before .before .before .fill .ensures) (c .before .before .before .before .before .before .before .before .before .before .before .before .before .before .before .before .before .before .before .before .before .pre .3) (c .before .before .before .before .before .blank .ensures) (c .saved .ensures)
+returns-2 c = all-done (c .before .before .before .before .before .before .before .before .before .before .before .before .before .before .before .before .before .before .before .before .before .pre .0) (c .before .before .before .before .before .before .before .before .before .before .before .before .before .before .before .before .before .before .before .before .before .pre .1) (c .before .before .before .before .before .before .before .before .before .before .before .before .before .before .before .before .before .measure .ensures) (c .before .before .before .before .before .before .before .before .before .before .before .before .before .before .before .if1 .left) (c .before .before .before .before .before .before .before .before .before .before .before .before .fill .ensures) (c .before .before .before .before .before .before .before .before .before .before .before .before .before .before .before .before .before .before .before .before .before .pre .3) (c .before .before .before .before .before .clear .ensures) (c .saved .ensures)
 
 pub rescue-entries-spec : {M : Type 1} → statement M
 rescue-entries-spec =
@@ -57,14 +45,14 @@ rescue-entries-spec =
     (tie.spec
     measure-requires
     sub-if1
-    refused-requires
+    (λ c κs. search needs)
     returns
     fill-requires
-    sub-blank
-    blank-requires
+    sub-clear
+    clear-requires
     sub-saved
-    sub-saved-2
+    (λ c. search needs)
     saved-requires
-    same-length
-    same-length-2
+    (λ c. search needs)
+    (λ c. search needs)
     returns-2)

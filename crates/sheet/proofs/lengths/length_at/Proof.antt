@@ -4,17 +4,11 @@ use Rattle.sheet.proofs.Entries.{length-here}
 use Rattle.sheet.proofs.lengths.length_at.Statement.{statement}
 use Rattle.sheet.proofs.lengths.length_at.Tie as tie
 
-number-at-requires : tie.Need-number-at-requires
-number-at-requires c κs = search needs
-
 returns : tie.Need-returns
 returns c = rw (c .before .if1 .taken) (length-here _ _ _ (c .number-at .ensures .0))
-
-number-at-requires-2 : tie.Need-number-at-requires-2
-number-at-requires-2 c κs = search needs
 
 returns-2 : tie.Need-returns-2
 returns-2 c = length-here _ _ _ (c .number-at2 .ensures .0)
 
 pub length-at-spec : {M : Type 1} → statement M
-length-at-spec = tie.close (tie.spec number-at-requires returns number-at-requires-2 returns-2)
+length-at-spec = tie.close (tie.spec (λ c κs. search needs) returns (λ c κs. search needs) returns-2)

@@ -6,17 +6,8 @@ use Rattle.sheet_claims.proofs.keep.Keeping.{sheet-room, then-refused, 
 use Rattle.sheet_claims.proofs.keep.keep.Statement.{statement}
 use Rattle.sheet_claims.proofs.keep.keep.Tie as tie
 
-write-requires : tie.Need-write-requires
-write-requires c κs = search needs
-
-same-length : tie.Need-same-length
-same-length c = search needs
-
 returns : tie.Need-returns
 returns c = promised _ _ _ _ _ _ _ (then-refused _ _ _ _ _ _ _ _ (c .before .before .before .write .ensures) (c .if1 .taken))
-
-cast-n : tie.Need-cast-n
-cast-n c = search needs
 
 slice-reshare-prefix-read : tie.Need-slice-reshare-prefix-read
 slice-reshare-prefix-read c =
@@ -27,18 +18,6 @@ slice-reshare-prefix-read c =
 
 slice-aggregate-read : tie.Need-slice-aggregate-read
 slice-aggregate-read c = sym (length-take-le _ _ (slice-reshare-prefix-read (c .before)))
-
-read-requires : tie.Need-read-requires
-read-requires c κs = search needs
-
-same-length-2 : tie.Need-same-length-2
-same-length-2 c = search needs
-
-same-length-3 : tie.Need-same-length-3
-same-length-3 c = search needs
-
-same-length-4 : tie.Need-same-length-4
-same-length-4 c = search needs
 
 returns-2 : tie.Need-returns-2
 returns-2 c =
@@ -51,14 +30,14 @@ pub keep-spec : {M : Type 1} → statement M
 keep-spec =
     tie.close
     (tie.spec
-    write-requires
-    same-length
+    (λ c κs. search needs)
+    (λ c. search needs)
     returns
-    cast-n
+    (λ c. search needs)
     slice-reshare-prefix-read
     slice-aggregate-read
-    read-requires
-    same-length-2
-    same-length-3
-    same-length-4
+    (λ c κs. search needs)
+    (λ c. search needs)
+    (λ c. search needs)
+    (λ c. search needs)
     returns-2)

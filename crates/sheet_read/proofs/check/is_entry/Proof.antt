@@ -9,14 +9,8 @@ use borrow.Author.Needs.{needs}
 use Rattle.sheet_read.proofs.check.is_entry.Statement.{statement}
 use Rattle.sheet_read.proofs.check.is_entry.Tie as tie
 
-sub-left : tie.Need-sub-left
-sub-left c = search needs
-
 returns : tie.Need-returns
 returns c = begins-short (c .before .before .args .w) (drop (c .before .before .args .at) (c .before .before .args .sheet .now)) (rw length-drop (c .if1 .taken))
-
-length-at-requires : tie.Need-length-at-requires
-length-at-requires c κs = search needs
 
 returns-2 : tie.Need-returns-2
 returns-2 c = begins-empty (c .before .before .before .before .args .w) (drop (c .before .before .before .before .args .at) (c .before .before .before .before .args .sheet .now)) (rw length-drop (c .before .before .if1 .left)) _ (c .before .length-at .ensures) (c .if2 .taken)
@@ -24,23 +18,11 @@ returns-2 c = begins-empty (c .before .before .before .before .args .w) (drop (c
 returns-3 : tie.Need-returns-3
 returns-3 c = begins-long (c .before .before .before .before .before .args .w) (drop (c .before .before .before .before .before .args .at) (c .before .before .before .before .before .args .sheet .now)) (rw length-drop (c .before .before .before .if1 .left)) _ (c .before .before .length-at .ensures) (omega (arith, c .before .if2 .left)) (rw length-drop (c .if3 .taken))
 
-add-kind : tie.Need-add-kind
-add-kind c = search needs
-
-shared-slice-read-kind : tie.Need-shared-slice-read-kind
-shared-slice-read-kind c = search needs
-
 cast-if4 : tie.Need-cast-if4
 cast-if4 c = let s = c .before .before .before .before .before .before in omega (arith, c .shared-slice-known2 .given (s .args .at + s .args .w))
 
 returns-4 : tie.Need-returns-4
 returns-4 c = begins-kind (c .before .before .before .before .before .before .before .args .w) (drop (c .before .before .before .before .before .before .before .args .at) (c .before .before .before .before .before .before .before .args .sheet .now)) (rw length-drop (c .before .before .before .before .before .if1 .left)) _ (c .before .before .before .before .length-at .ensures) (omega (arith, c .before .before .before .if2 .left)) (rw length-drop (c .before .before .if3 .left)) _ (sym (getD-drop (c .before .before .before .before .before .before .before .args .at) (c .before .before .before .before .before .before .before .args .sheet .now) (c .before .before .before .before .before .before .before .args .w) 0)) (c .if4 .taken)
-
-sub-whole-items : tie.Need-sub-whole-items
-sub-whole-items c = search needs
-
-whole-items-requires : tie.Need-whole-items-requires
-whole-items-requires c κs = search needs
 
 returns-5 : tie.Need-returns-5
 returns-5 c = c .whole-items .ensures ∙ begins-whole (c .before .before .before .before .before .before .before .before .args .w) (drop (c .before .before .before .before .before .before .before .before .args .at) (c .before .before .before .before .before .before .before .before .args .sheet .now)) (rw length-drop (c .before .before .before .before .before .before .if1 .left)) _ (c .before .before .before .before .before .length-at .ensures) (omega (arith, c .before .before .before .before .if2 .left)) (rw length-drop (c .before .before .before .if3 .left)) _ (sym (getD-drop (c .before .before .before .before .before .before .before .before .args .at) (c .before .before .before .before .before .before .before .before .args .sheet .now) (c .before .before .before .before .before .before .before .before .args .w) 0)) (c .before .if4 .left)
@@ -49,15 +31,15 @@ pub is-entry-spec : {M : Type 1} → statement M
 is-entry-spec =
     tie.close
     (tie.spec
-    sub-left
+    (λ c. search needs)
     returns
-    length-at-requires
+    (λ c κs. search needs)
     returns-2
     returns-3
-    add-kind
-    shared-slice-read-kind
+    (λ c. search needs)
+    (λ c. search needs)
     cast-if4
     returns-4
-    sub-whole-items
-    whole-items-requires
+    (λ c. search needs)
+    (λ c κs. search needs)
     returns-5)

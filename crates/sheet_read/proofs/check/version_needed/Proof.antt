@@ -9,14 +9,8 @@ use Rattle.sheet_read.proofs.check.version_needed.Tie as tie
 returns : tie.Need-returns
 returns c = rw (eq-eqb _ _ (c .if1 .taken))
 
-mul-result : tie.Need-mul-result
-mul-result c = search needs
-
-add-result : tie.Need-add-result
-add-result c = search needs
-
 returns-2 : tie.Need-returns-2
 returns-2 c = rw (ne-eqb _ _ (c .if1 .left)) (not-less (c .before .args .entries * 3 + c .before .args .values) 65536)
 
 pub version-needed-spec : {M : Type 1} → statement M
-version-needed-spec = tie.close (tie.spec returns mul-result add-result returns-2)
+version-needed-spec = tie.close (tie.spec returns (λ c. search needs) (λ c. search needs) returns-2)

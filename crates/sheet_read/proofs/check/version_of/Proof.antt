@@ -7,11 +7,8 @@ use Rattle.sheet_read.proofs.check.version_of.Tie as tie
 returns : tie.Need-returns
 returns c = version-none (c .before .args .sheet .now) (c .if1 .taken)
 
-shared-slice-read-result : tie.Need-shared-slice-read-result
-shared-slice-read-result c = search needs
-
 returns-2 : tie.Need-returns-2
 returns-2 c = version-some (c .before .before .args .sheet .now) (c .before .if1 .left)
 
 pub version-of-spec : {M : Type 1} → statement M
-version-of-spec = tie.close (tie.spec returns shared-slice-read-result returns-2)
+version-of-spec = tie.close (tie.spec returns (λ c. search needs) returns-2)

@@ -9,9 +9,6 @@ use Rattle.sheet_read.proofs.check.whole_items.Tie as tie
 returns : tie.Need-returns
 returns c = simp (eq-eqb _ _ (c .if1 .taken))
 
-item-size-requires : tie.Need-item-size-requires
-item-size-requires c κs = search needs
-
 rem-result : tie.Need-rem-result
 rem-result c = omega (arith, c .item-size .ensures, item-some (c .before .before .args .kind))
 
@@ -19,4 +16,4 @@ returns-2 : tie.Need-returns-2
 returns-2 c = simp (ne-eqb _ _ (c .before .if1 .left), c .item-size .ensures)
 
 pub whole-items-spec : {M : Type 1} → statement M
-whole-items-spec = tie.close (tie.spec returns item-size-requires rem-result returns-2)
+whole-items-spec = tie.close (tie.spec returns (λ c κs. search needs) rem-result returns-2)

@@ -5,9 +5,6 @@ use borrow.Author.Needs.{needs}
 use Rattle.sheet_read.proofs.fill.items_of.Statement.{statement}
 use Rattle.sheet_read.proofs.fill.items_of.Tie as tie
 
-item-size-requires : tie.Need-item-size-requires
-item-size-requires c κs = search needs
-
 div-result : tie.Need-div-result
 div-result c = omega (arith, c .item-size .ensures, item-some (c .before .args .kind))
 
@@ -15,4 +12,4 @@ returns : tie.Need-returns
 returns c = rw (c .item-size .ensures)
 
 pub items-of-spec : {M : Type 1} → statement M
-items-of-spec = tie.close (tie.spec item-size-requires div-result returns)
+items-of-spec = tie.close (tie.spec (λ c κs. search needs) div-result returns)

@@ -17,20 +17,11 @@ length-at-requires c κs = let s = c .before .before .before in let t = there (s
 sub-size : tie.Need-sub-size
 sub-size c = let s = c .before .before .before .before in let t = there (s .args .w) (s .args .sheet .now) (s .args .at) (s .pre .0 .2) (s .pre .0 .1) in omega (arith, t .some, c .length-at .ensures)
 
-add-kind : tie.Need-add-kind
-add-kind c = search needs
-
 shared-slice-read-kind : tie.Need-shared-slice-read-kind
 shared-slice-read-kind c = let s = c .before .before .before .before .before in let t = there (s .args .w) (s .args .sheet .now) (s .args .at) (s .pre .0 .2) (s .pre .0 .1) in omega (arith, t .inside, t .some)
 
 cast-set-slot : tie.Need-cast-set-slot
 cast-set-slot c = let s = c .before .before .before .before .before .before in omega (arith, c .before .shared-slice-known2 .given (s .args .at + s .args .w))
-
-start-of-requires : tie.Need-start-of-requires
-start-of-requires c κs = search needs
-
-items-of-requires : tie.Need-items-of-requires
-items-of-requires c κs = search needs
 
 set-slot-requires : tie.Need-set-slot-requires
 set-slot-requires c κs =
@@ -41,23 +32,11 @@ set-slot-requires c κs =
     let room = s .pre .1 in
     (room .row, omega (arith, c .before .start-of .ensures, start-small kind (s .args .to) maxArea (omega (arith, room .room, room .limit))), omega (arith, c .items-of .ensures, items-small kind size, t .long, c .before .before .before .before .length-at .ensures, room .room, room .limit), omega arith)
 
-add-copy : tie.Need-add-copy
-add-copy c = search needs
-
-add-copy-2 : tie.Need-add-copy-2
-add-copy-2 c = search needs
-
 copy-requires : tie.Need-copy-requires
 copy-requires c κs =
     let s = c .before .before .before .before .before .before .before .before .before .before .before .before in
     let t = there (s .args .w) (s .args .sheet .now) (s .args .at) (s .pre .0 .2) (s .pre .0 .1) in
     (omega (arith, s .pre .1 .room, t .long, c .before .before .before .before .before .before .before .before .length-at .ensures), omega (arith, t .inside, t .some, c .before .before .before .before .before .before .before .before .length-at .ensures))
-
-same-length : tie.Need-same-length
-same-length c = search needs
-
-same-length-2 : tie.Need-same-length-2
-same-length-2 c = search needs
 
 returns : tie.Need-returns
 returns c = let s = c .before .before .before .before .before .before .before .before .before .before .before .before .before .before .before in let t = there (s .args .w) (s .args .sheet .now) (s .args .at) (s .pre .0 .2) (s .pre .0 .1) in put-as t refl (ap (λ n. n - 1) (c .before .before .before .before .before .before .before .before .before .before .before .length-at .ensures)) (c .before .before .before .before .before .before .before .before .start-of .ensures) (c .before .before .before .before .before .before .before .items-of .ensures) (c .before .before .before .before .before .before .set-slot .ensures) (rw (add-one (s .args .w)) at (c .before .before .copy .ensures))
@@ -68,15 +47,15 @@ put-spec =
     (tie.spec
     length-at-requires
     sub-size
-    add-kind
+    (λ c. search needs)
     shared-slice-read-kind
     cast-set-slot
-    start-of-requires
-    items-of-requires
+    (λ c κs. search needs)
+    (λ c κs. search needs)
     set-slot-requires
-    add-copy
-    add-copy-2
+    (λ c. search needs)
+    (λ c. search needs)
     copy-requires
-    same-length
-    same-length-2
+    (λ c. search needs)
+    (λ c. search needs)
     returns)

@@ -7,15 +7,6 @@ use Rattle.sheet_write.proofs.store.Writing.{sheet-stored}
 use Rattle.sheet_write.proofs.store.fill.Statement.{statement}
 use Rattle.sheet_write.proofs.store.fill.Tie as tie
 
-slice-write-out : tie.Need-slice-write-out
-slice-write-out c = search needs
-
-add-body : tie.Need-add-body
-add-body c = search needs
-
-sub-body : tie.Need-sub-body
-sub-body c = search needs
-
 put-number-requires : tie.Need-put-number-requires
 put-number-requires c κs = simp length-set (omega (arith, c .before .before .before .before .pre .0 .room))
 
@@ -35,9 +26,9 @@ pub fill-spec : {M : Type 1} → statement M
 fill-spec =
     tie.close
     (tie.spec
-    slice-write-out
-    add-body
-    sub-body
+    (λ c. search needs)
+    (λ c. search needs)
+    (λ c. search needs)
     put-number-requires
     put-body-requires
     same-length

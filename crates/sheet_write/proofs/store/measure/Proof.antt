@@ -1,4 +1,4 @@
--- What the loop keeps is `Sizing`: the slots so far fit, and their entries take so many bytes.
+-- What the loop keeps is `Sizing`: the slots before k fit, and the header with their entries takes `size` bytes.
 use Prim.Native.Nat.{_-_}
 use mathlib.Core.Path.{sym, _∙_}
 use borrow.Author.Tests.{not-true, not-false}
@@ -15,9 +15,6 @@ abbrev μ-loop : tie.MeasureT-loop
 
 loop-holds : tie.Need-loop-holds Inv-loop μ-loop
 loop-holds c = sizing-none _ _ _
-
-slot-at-requires : tie.Need-slot-at-requires Inv-loop μ-loop
-slot-at-requires c κs = omega arith
 
 slot-fits-requires : tie.Need-slot-fits-requires Inv-loop μ-loop
 slot-fits-requires c κs = (c .slot-at .ensures .start, c .slot-at .ensures .len)
@@ -45,12 +42,6 @@ add-size c = omega (arith, loop-again c .small, loop-again c .within, c .before 
 add-size-2 : tie.Need-add-size-2 Inv-loop μ-loop
 add-size-2 c = omega (arith, loop-again c .small, loop-again c .within, c .before .before .before .before .before .before .before .before .pre .0)
 
-add-k : tie.Need-add-k Inv-loop μ-loop
-add-k c = omega arith
-
-loop-less : tie.Need-loop-less Inv-loop μ-loop
-loop-less c = omega arith
-
 returns-2 : tie.Need-returns-2 Inv-loop μ-loop
 returns-2 c =
     let inv = c .before .loop .inv in
@@ -64,13 +55,13 @@ measure-spec =
     Inv-loop
     μ-loop
     loop-holds
-    slot-at-requires
+    (λ c κs. omega arith)
     slot-fits-requires
     returns
     value-size-requires
     add-size
     add-size-2
-    add-k
-    loop-less
+    (λ c. omega arith)
+    (λ c. omega arith)
     loop-again
     returns-2)

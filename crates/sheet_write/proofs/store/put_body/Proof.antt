@@ -18,19 +18,10 @@ add-at c = omega (arith, c .before .before .before .pre .room, c .before .before
 loop-holds : tie.Need-loop-holds Inv-loop μ-loop
 loop-holds c = rw add-one (storing-none _ _ _ _ (c .before .before .before .pre .fits))
 
-slot-at-requires : tie.Need-slot-at-requires Inv-loop μ-loop
-slot-at-requires c κs = omega arith
-
 put-entry-requires : tie.Need-put-entry-requires Inv-loop μ-loop
 put-entry-requires c κs =
     let l = c .before .before .before .loop in
     (storing-room _ _ _ _ _ (l .k) (l .at) (c .before .before .before .before .before .before .before .pre) (l .inv) (c .before .before .loop-test .taken) _ (c .before .slot-at .ensures), c .before .slot-at .ensures .len)
-
-add-k : tie.Need-add-k Inv-loop μ-loop
-add-k c = omega arith
-
-loop-less : tie.Need-loop-less Inv-loop μ-loop
-loop-less c = omega arith
 
 loop-again : tie.Need-loop-again Inv-loop μ-loop
 loop-again c =
@@ -51,10 +42,10 @@ put-body-spec =
     μ-loop
     add-at
     loop-holds
-    slot-at-requires
+    (λ c κs. omega arith)
     put-entry-requires
-    add-k
-    loop-less
+    (λ c. omega arith)
+    (λ c. omega arith)
     loop-again
     same-length
     returns)

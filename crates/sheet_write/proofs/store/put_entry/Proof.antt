@@ -12,31 +12,13 @@ use borrow.Author.Needs.{needs}
 use Rattle.sheet_write.proofs.store.put_entry.Statement.{statement}
 use Rattle.sheet_write.proofs.store.put_entry.Tie as tie
 
-value-size-requires : tie.Need-value-size-requires
-value-size-requires c κs = search needs
-
 add-put-number : tie.Need-add-put-number
 add-put-number c =
     let s = c .before .before .before .before in
     omega (arith, c .before .value-size .ensures, length-value (s .args .area .now) (s .args .a) (s .pre .0 .fits), s .pre .0 .room, s .pre .0 .small)
 
-put-number-requires : tie.Need-put-number-requires
-put-number-requires c κs = search needs
-
 cast-out : tie.Need-cast-out
 cast-out c = let s = c .before .before .before .before .before .before .before .before in omega (arith, slot-kind (s .args .area .now) (s .args .a) (s .pre .0 .fits))
-
-add-out : tie.Need-add-out
-add-out c = search needs
-
-slice-write-out : tie.Need-slice-write-out
-slice-write-out c = search needs
-
-add-put-value : tie.Need-add-put-value
-add-put-value c = search needs
-
-add-put-value-2 : tie.Need-add-put-value-2
-add-put-value-2 c = search needs
 
 put-value-requires : tie.Need-put-value-requires
 put-value-requires c κs =
@@ -76,14 +58,14 @@ pub put-entry-spec : {M : Type 1} → statement M
 put-entry-spec =
     tie.close
     (tie.spec
-    value-size-requires
+    (λ c κs. search needs)
     add-put-number
-    put-number-requires
+    (λ c κs. search needs)
     cast-out
-    add-out
-    slice-write-out
-    add-put-value
-    add-put-value-2
+    (λ c. search needs)
+    (λ c. search needs)
+    (λ c. search needs)
+    (λ c. search needs)
     put-value-requires
     add-result
     add-result-2

@@ -11,9 +11,6 @@ use Rattle.sheet_write.proofs.store.value_size.Tie as tie
 returns : tie.Need-returns
 returns c = simp (eq-eqb _ _ (c .if1 .taken))
 
-item-size-requires : tie.Need-item-size-requires
-item-size-requires c κs = search needs
-
 small : (c : tie.After-struct-known) → c .before .before .before .args .a .len * c .before .item-size .result ≤ numberLimit * integerSize
 small c =
     let a = c .before .before .before .args .a in
@@ -26,4 +23,4 @@ returns-2 : tie.Need-returns-2
 returns-2 c = simp (ne-eqb _ _ (c .before .before .if1 .left), c .before .item-size .ensures)
 
 pub value-size-spec : {M : Type 1} → statement M
-value-size-spec = tie.close (tie.spec returns item-size-requires mul-result returns-2)
+value-size-spec = tie.close (tie.spec returns (λ c κs. search needs) mul-result returns-2)

@@ -1,22 +1,13 @@
 -- The arms are the clauses of `bytesFor`, and eight bytes an item do not wrap.
 use native.Mathlib.Omega.{arith}
-use Rattle.layout.specs.declared.Code.the-variants.{Data}
+use Rattle.layout.specs.declared.Role.the-variants.{Data}
 use Rattle.layout.specs.declared.Shape.the-variants.{Integers}
-use Rattle.layout.specs.Words.{FitCode}
-use Rattle.record.specs.Geometry.{itemsLimit}
+use Rattle.layout.specs.inside.Parsing.{FitRole}
+use Rattle.record.specs.inside.Bounds.{itemsLimit}
 use Rattle.record.proofs.Bounds.{per-byte-small, real-small, product-small}
 use borrow.Author.Needs.{needs}
 use Rattle.slot_table.proofs.sizes.bytes_for.Statement.{statement}
 use Rattle.slot_table.proofs.sizes.bytes_for.Tie as tie
-
-enum-told : tie.Need-enum-told
-enum-told c = search needs
-
-enum-known-s : tie.Need-enum-known-s
-enum-known-s c = search needs
-
-per-byte-requires : tie.Need-per-byte-requires
-per-byte-requires c κs = search needs
 
 sub-result : tie.Need-sub-result
 sub-result c = omega (arith, c .per-byte .ensures, per-byte-small (c .before .before .s .given .0 .0))
@@ -24,36 +15,21 @@ sub-result c = omega (arith, c .per-byte .ensures, per-byte-small (c .before .be
 add-result : tie.Need-add-result
 add-result c = omega (arith, c .per-byte .ensures, per-byte-small (c .before .before .s .given .0 .0))
 
-per-byte-requires-2 : tie.Need-per-byte-requires-2
-per-byte-requires-2 c κs = search needs
-
 div-result : tie.Need-div-result
 div-result c = omega (arith, c .per-byte2 .ensures, per-byte-small (c .before .before .before .s .given .0 .0))
-
-enum-known-s-2 : tie.Need-enum-known-s-2
-enum-known-s-2 c = search needs
 
 mul-result : tie.Need-mul-result
 mul-result c =
     let start = c .before .before .before in
     let s = c .before .s2 .given in
-    let fit : FitCode (Data (Integers (s .0 .0) (s .0 .1 .0))) = rw (s .1) at (start .pre .1) in
+    let fit : FitRole (Data (Integers (s .0 .0) (s .0 .1 .0))) = rw (s .1) at (start .pre .1) in
     omega (arith, product-small (start .args .n) (s .0 .0) itemsLimit 8 (omega arith) (fit .1))
-
-enum-known-s-3 : tie.Need-enum-known-s-3
-enum-known-s-3 c = search needs
-
-real-size-requires : tie.Need-real-size-requires
-real-size-requires c κs = search needs
 
 mul-result-2 : tie.Need-mul-result-2
 mul-result-2 c =
     let start = c .before .before .before .before in
     let single = c .before .before .s3 .given .0 .0 in
     omega (arith, product-small (start .args .n) (c .real-size .result) itemsLimit 8 (omega arith) (omega (arith, c .real-size .ensures, real-small single)))
-
-returns : tie.Need-returns
-returns c = search needs
 
 returns-2 : tie.Need-returns-2
 returns-2 c = rw (c .before .before .before .s .given .1) (cc)
@@ -68,19 +44,19 @@ pub bytes-for-spec : {M : Type 1} → statement M
 bytes-for-spec =
     tie.close
     (tie.spec
-    enum-told
-    enum-known-s
-    per-byte-requires
+    (λ c. search needs)
+    (λ c. search needs)
+    (λ c κs. search needs)
     sub-result
     add-result
-    per-byte-requires-2
+    (λ c κs. search needs)
     div-result
-    enum-known-s-2
+    (λ c. search needs)
     mul-result
-    enum-known-s-3
-    real-size-requires
+    (λ c. search needs)
+    (λ c κs. search needs)
     mul-result-2
-    returns
+    (λ c. search needs)
     returns-2
     returns-3
     returns-4)

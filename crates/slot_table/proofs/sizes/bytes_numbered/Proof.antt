@@ -6,15 +6,6 @@ use borrow.Author.Needs.{needs}
 use Rattle.slot_table.proofs.sizes.bytes_numbered.Statement.{statement}
 use Rattle.slot_table.proofs.sizes.bytes_numbered.Tie as tie
 
-width-power-requires : tie.Need-width-power-requires
-width-power-requires c κs = search needs
-
-cast-result : tie.Need-cast-result
-cast-result c = search needs
-
-shl-result : tie.Need-shl-result
-shl-result c = search needs
-
 returns : tie.Need-returns
 returns c =
     let s = c .before .before in
@@ -22,12 +13,6 @@ returns c =
 
 returns-2 : tie.Need-returns-2
 returns-2 c = rw (shape-text _ (c .if2 .taken))
-
-add-result : tie.Need-add-result
-add-result c = search needs
-
-add-result-2 : tie.Need-add-result-2
-add-result-2 c = search needs
 
 returns-3 : tie.Need-returns-3
 returns-3 c = rw (shape-binary _ (c .before .if2 .left) (c .if3 .taken))
@@ -39,12 +24,12 @@ pub bytes-numbered-spec : {M : Type 1} → statement M
 bytes-numbered-spec =
     tie.close
     (tie.spec
-    width-power-requires
-    cast-result
-    shl-result
+    (λ c κs. search needs)
+    (λ c. search needs)
+    (λ c. search needs)
     returns
     returns-2
-    add-result
-    add-result-2
+    (λ c. search needs)
+    (λ c. search needs)
     returns-3
     returns-4)

@@ -6,23 +6,11 @@ use borrow.Author.Needs.{needs}
 use Rattle.slots.proofs.pack.pack_first.Statement.{statement}
 use Rattle.slots.proofs.pack.pack_first.Tie as tie
 
-refused-requires : tie.Need-refused-requires
-refused-requires c κs = search needs
-
 returns : tie.Need-returns
 returns c = rw (c .refused .ensures) (pack-many _ _ _ _ _ (c .before .if1 .taken))
 
-mul-end : tie.Need-mul-end
-mul-end c = search needs
-
 slice-aggregate-pack : tie.Need-slice-aggregate-pack
 slice-aggregate-pack c = first-part (c .before .before .before .before .before .before .args .numbers .now) (c .before .before .before .before .before .before .args .count) (c .before .if1 .left) (search needs)
-
-pack-requires : tie.Need-pack-requires
-pack-requires c κs = search needs
-
-same-length : tie.Need-same-length
-same-length c = search needs
 
 returns-2 : tie.Need-returns-2
 returns-2 c = c .before .before .pack .ensures ∙ pack-few _ _ _ _ _ (c .before .before .before .before .before .if1 .left)
@@ -31,10 +19,10 @@ pub pack-first-spec : {M : Type 1} → statement M
 pack-first-spec =
     tie.close
     (tie.spec
-    refused-requires
+    (λ c κs. search needs)
     returns
-    mul-end
+    (λ c. search needs)
     slice-aggregate-pack
-    pack-requires
-    same-length
+    (λ c κs. search needs)
+    (λ c. search needs)
     returns-2)

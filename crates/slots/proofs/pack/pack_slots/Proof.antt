@@ -1,4 +1,5 @@
--- `pack::pack_slots` meets its contract: a walk of its MIR, by hand, with two calls. A local array of zeros is lent by `&mut` to `load` and by `&` to `pack_first`; all else is passed on.
+-- `pack::pack_slots` meets its contract: a walk of its MIR, by hand, with two calls. A local array of zeros is lent by
+-- `&mut` to `load` and by `&` to `pack_first`; all else is passed on.
 use mathlib.Core.Path.{_≡_, refl, sym, subst, _∙_}
 use Prim.Native.Nat.{ℕ, _<_, _≤_}
 use mathlib.Core.List.{List, [], _∷_}
@@ -43,13 +44,13 @@ use denote.Triple.Table.{entered, cited}
 use denote.Triple.Walked.{says, Stays, stay-dropped, gave-slice, walkOf, goes-dropped, goes-gave-slice, Walks, ends-at, walked, walk-meets}
 use denote.Exit.{yes}
 use Rattle.record.specs.declared.Answer.{Answer}
-use Rattle.slots.specs.declared.Slot.{Slot}
+use Rattle.slots.specs.declared.SlotRecord.{SlotRecord}
 use Rattle.slots.specs.Slots.{maxNumbers, taken}
-use Rattle.slots.specs.pack.{packFirst}
+use Rattle.slots.specs.inside.pack.{packFirst}
 use Rattle.slots.proofs.pack.Calls.{pack-loaded}
 use Rattle.slots.proofs.Arrays.{arr, cells-part, part-cells, room-back}
 use Rattle.slots.proofs.Zeros.{zeros, zeros-fit, zeros-apart}
-use Rattle.slots.proofs.Slot as T
+use Rattle.slots.proofs.SlotRecord as T
 use Rattle.record.proofs.Answer as TA
 use Rattle.record.proofs.Answer.Laws as TA′
 use Rattle.record.specs.Packing.{Packed}
@@ -78,9 +79,9 @@ stayed = (stay-dropped (shrSlice 0 tt (λ _. u8)) yes, (stay-dropped (shrSlice 1
 abbrev PackFirst : {M : Type 1} (𝓤 : URA M) (H : Heap 𝓤) (A : Atoms 𝓤) (mem : Memory → SProp 𝓤) (run : Routine → Fun 𝓤) → Contract 𝓤
 PackFirst 𝓤 H A mem run = tripleOf 𝓤 H A pf.signature (pf.spec 𝓤 H A mem run)
 
-module _ {M : Type 1} (𝓤 : URA M) (H : Heap 𝓤) (A : Atoms 𝓤) (W : Given 𝓤 H A) (mem : Memory → SProp 𝓤) (run : Routine → Fun 𝓤) (κ₀ κ₁ κ₂ κ₃ : Lft) (q₀ q₁ q₂ q₃ : Share) (t : RefT (List ℕ)) (x : RefT (List Slot)) (a o : RefT (List ℕ))
+module _ {M : Type 1} (𝓤 : URA M) (H : Heap 𝓤) (A : Atoms 𝓤) (W : Given 𝓤 H A) (mem : Memory → SProp 𝓤) (run : Routine → Fun 𝓤) (κ₀ κ₁ κ₂ κ₃ : Lft) (q₀ q₁ q₂ q₃ : Share) (t : RefT (List ℕ)) (x : RefT (List SlotRecord)) (a o : RefT (List ℕ))
     (gt : Room u8 (length (t .now))) (gn : Room R (length (x .now))) (ga : Room u8 (length (a .now))) (go : Room u8 (length (o .now))) where
-  abbrev ys : List Slot
+  abbrev ys : List SlotRecord
   ys = x .now
 
   abbrev n : ℕ
@@ -167,7 +168,8 @@ module _ {M : Type 1} (𝓤 : URA M) (H : Heap 𝓤) (A : Atoms 𝓤) (W : Given
         -- [the output's last list; true; the tokens and the result; the lender's part]
         move ! (2 ∷ []) $ split ! $ split ! $ move ! (1 ∷ []) $ split ! $ lft-end ! tt $ move ! (0 ∷ 6 ∷ []) $ lent-back ! tt $
         use1 W (‵ (cells (mem′ u32) (scratch ys) l 0)) (part-cells u32 (length (scratch ys)) 𝓤 H A W l (scratch ys)) $ use1 W (‵ (froom (arr u32 maxNumbers) l 0)) (room-back u32 maxNumbers 𝓤 H A W l (scratch ys) (scratch-long ys)) $
-        -- [the array's room; the area's and the output's tokens; the layout's token; the result; the output's last list; true]
+        -- [the array's room; the area's and the output's tokens; the layout's token; the result; the output's last
+        -- list; true]
         move ! (1 ∷ []) $ split ! $ move ! (1 ∷ []) $ split ! $ at-once ! $ show ! (Got u) (r, z .1 .1 .1 .1 .0) $ check ! (e, long) $ keep ! (5 ∷ 6 ∷ 0 ∷ 2 ∷ 4 ∷ 3 ∷ []) $ done !))))
 
   module _ (𝓣 : Tables 𝓤 H) (known-load : Triple 𝓤 (𝓣 .C #slots·load) (Load 𝓤 H A mem run)) (known-pack : Triple 𝓤 (𝓣 .C #slots·pack·pack-first) (PackFirst 𝓤 H A mem run)) where
@@ -187,7 +189,8 @@ module _ {M : Type 1} (𝓤 : URA M) (H : Heap 𝓤) (A : Atoms 𝓤) (W : Given
         move ! (22 ∷ []) $ use1 W (‵ (cells (mem′ u32) (zeros maxNumbers) l₅ 0)) (zeros-apart 𝓤 H A W maxNumbers l₅) $ lft-new ! tt (λ ν. move ! (1 ∷ []) $
         use1 W (later (some (λ (δ : GName). ‵ (Own-zeros 𝓤 H A W mem run κ₁ q₁ x l₅ ν δ (length (zeros maxNumbers))) ⊛ ‵ (flent (ν ∷ []) (Held u32 (length (zeros maxNumbers)) l₅ 0 δ))))) (lends-slice 𝓤 H A W u32 (named 1) (ν ∷ []) (zeros maxNumbers) l₅ 0 (subst (Room u32) (sym zeros-long) room-numbers)) $ await ! tt $ pick ! (λ δ. split ! $
         rewrite ! 0 (λ (k : ℕ). ‵ (Own-zeros 𝓤 H A W mem run κ₁ q₁ x l₅ ν δ k)) zeros-long refl $ move ! (9 ∷ 2 ∷ 5 ∷ 0 ∷ []) $ group ! 4 $ use1 W (raw (Load 𝓤 H A mem run .pre (to-load 𝓤 H A W mem run κ₁ q₁ x l₅ ν δ))) (asked-load 𝓤 H A W mem run κ₁ q₁ x l₅ ν δ) $
-        -- [what `load` asks; the lender's part; output's; area's; layout's; their tokens; _12; …; that _5 dies; _4; …; _0; …]
+        -- [what `load` asks; the lender's part; output's; area's; layout's; their tokens; _12; …; that _5 dies; _4; …;
+        -- _0; …]
         calls-at ! (fmOf 𝓤 H (W .laws) 𝓣) (Load 𝓤 H A mem run) known-load (to-load 𝓤 H A W mem run κ₁ q₁ x l₅ ν δ) (and-then ! (load ! (from ! (stop !)) (look ! 27 refl)) (and-then ! (load ! (from ! (stop !)) (look ! 16 refl)) (no-more !))) (λ u.
         use2 W (later (some (λ (r : ℕ). given (r ≡ taken n) (‵ (usize .own r (u ∷ [])) ⊛ (‵ (flft κ₁ q₁) ⊛ ‵ (cells (mem′ u32) (scratch ys) l₅ 0)))))) (back-load 𝓤 H A W mem run κ₁ q₁ x l₅ ν δ u) $ await ! tt $ pick ! (λ r. learn ! (λ _. split ! $
         peeks ! usize (Is usize) (shows 𝓤 H A usize) r (u ∷ []) (λ is-r. land ! (from ! (stop !)) (init ! 20 refl (uint-lawful 𝓤 H A W w64 .typed r _ is-r .0)) $ drop ! $ split ! $
@@ -206,7 +209,8 @@ module _ {M : Type 1} (𝓤 : URA M) (H : Heap 𝓤) (A : Atoms 𝓤) (W : Given
         use2 W (later (some (λ (p : Answer × List ℕ). given (Fine p) (‵ (Ans .own (p .0) (v ∷ [])) ⊛ (‵ (finally u8 (o .name) (p .1)) ⊛ (‵ (flft κ₃ q₃) ⊛ (‵ (flft κ₂ q₂) ⊛ (‵ (flft κ₀ q₀) ⊛ ‵ (froom (arr u32 maxNumbers) l₅ 0))))))))) (back-pack l₅ μ ε v) $ await ! tt $ pick ! (λ p. learn ! (λ f. split ! $
         peeks ! Ans (Is Ans) (shows 𝓤 H A Ans) (p .0) (v ∷ []) (λ is. land ! (from ! (stop !)) (init ! 26 refl (LL.lawful TA.the-type TA′.the-laws 𝓤 H A W .typed (p .0) _ is .0)) $
         move ! (1 ∷ []) $ split ! $ move ! (1 ∷ []) $ split ! $ move ! (1 ∷ []) $ split ! $ move ! (1 ∷ []) $ split ! $ move ! (1 ∷ 5 ∷ 4 ∷ 3 ∷ 2 ∷ 6 ∷ 0 ∷ []) $
-        -- [the array's room; the answer; the output's last list; the tokens of output, area, slots and layout; _12; …; that _5 dies; _4; …; _0; …]
+        -- [the array's room; the answer; the output's last list; the tokens of output, area, slots and layout; _12; …;
+        -- that _5 dies; _4; …; _0; …]
         returns ! (look ! 30 refl) $ forget ! 7 refl $ forget ! 9 refl $ forget ! 11 refl $ forget ! 13 refl $ forget ! 15 refl $ forget ! 17 refl $ forget ! 19 refl $ forget ! 22 refl $ forget ! 24 refl $ forget ! 26 refl $ forget ! 28 refl $ forget ! 30 refl $
         move ! (30 ∷ 31 ∷ []) $ free1 ! $ move ! (28 ∷ 29 ∷ []) $ free1 ! $ move ! (26 ∷ 27 ∷ []) $ free1 ! $ move ! (24 ∷ 25 ∷ []) $ free1 ! $ move ! (22 ∷ 23 ∷ []) $ free1 ! $ move ! (0 ∷ 21 ∷ []) $ free1 ! $ move ! (18 ∷ 19 ∷ []) $ free1 ! $ move ! (16 ∷ 17 ∷ []) $ free1 ! $ move ! (14 ∷ 15 ∷ []) $ free1 ! $ move ! (12 ∷ 13 ∷ []) $ free1 ! $ move ! (10 ∷ 11 ∷ []) $ free1 ! $ move ! (8 ∷ 9 ∷ []) $ free1 ! $ move ! (6 ∷ 7 ∷ []) $ free1 ! $ free0 ! $
         by ! (exits p v f))))))))))))))))))))))))))

@@ -9,29 +9,11 @@ use Rattle.record.specs.Table.{slotWidth}
 use Rattle.slots.proofs.read.read_first.Statement.{statement}
 use Rattle.slots.proofs.read.read_first.Tie as tie
 
-refused-requires : tie.Need-refused-requires
-refused-requires c κs = search needs
-
 returns : tie.Need-returns
 returns c = rw (c .refused .ensures) (read-many _ _ _ _ _ _ (c .before .if1 .taken))
 
-mul-end : tie.Need-mul-end
-mul-end c = search needs
-
-slice-relend-prefix-read : tie.Need-slice-relend-prefix-read
-slice-relend-prefix-read c = search needs
-
 slice-aggregate-read : tie.Need-slice-aggregate-read
 slice-aggregate-read c = first-part (c .before .before .before .before .before .before .args .numbers .now) (c .before .before .before .before .before .before .args .count) (c .before .if1 .left) (search needs)
-
-read-requires : tie.Need-read-requires
-read-requires c κs = search needs
-
-same-length : tie.Need-same-length
-same-length c = search needs
-
-same-length-2 : tie.Need-same-length-2
-same-length-2 c = search needs
 
 part-back : (c : tie.After-slice-known4) → length (c .before .before .before .before .read .last .1 .1 .0) ≡ length (take (c .before .before .before .before .before .before .before .before .before .before .before .before .args .count * slotWidth) (c .before .before .before .before .before .before .before .before .before .before .before .before .args .numbers .now))
 part-back c = search needs
@@ -43,12 +25,12 @@ pub read-first-spec : {M : Type 1} → statement M
 read-first-spec =
     tie.close
     (tie.spec
-    refused-requires
+    (λ c κs. search needs)
     returns
-    mul-end
-    slice-relend-prefix-read
+    (λ c. search needs)
+    (λ c. search needs)
     slice-aggregate-read
-    read-requires
-    same-length
-    same-length-2
+    (λ c κs. search needs)
+    (λ c. search needs)
+    (λ c. search needs)
     returns-2)

@@ -1,4 +1,6 @@
--- `read::read_slots` meets its contract: a walk of its MIR, by hand, with three calls. A local array of zeros is lent by `&mut` to `load` and to `read_first`, and by `&` to `save`; the slots are lent by `&` to `load` and come back, and `save` has them last.
+-- `read::read_slots` meets its contract: a walk of its MIR, by hand, with three calls. A local array of zeros is lent
+-- by `&mut` to `load` and to `read_first`, and by `&` to `save`; the slots are lent by `&` to `load` and come back, and
+-- `save` has them last.
 use mathlib.Core.Path.{_≡_, refl, sym, ap, subst, _∙_}
 use Prim.Native.Nat.{ℕ, _+_, _*_, _<_, _≤_, _^_}
 use mathlib.Core.List.{List, [], _∷_, _++_}
@@ -44,15 +46,15 @@ use denote.Triple.Table.{entered, cited}
 use denote.Triple.Walked.{says, Stays, stay-dropped, gave-slice, walkOf, goes-dropped, goes-gave-slice, Walks, ends-at, walked, walk-meets}
 use denote.Exit.{yes}
 use Rattle.record.specs.declared.ReadAnswer.{ReadAnswer}
-use Rattle.slots.specs.declared.Slot.{Slot}
+use Rattle.slots.specs.declared.SlotRecord.{SlotRecord}
 use Rattle.slots.specs.Slots.{maxNumbers, slotsFrom, taken}
-use Rattle.slots.specs.read.{readFirst}
+use Rattle.slots.specs.Reading.{readFirst}
 use Rattle.slots.proofs.Limits.{taken-within}
 use Rattle.slots.proofs.read.Calls.{read-loaded}
 use Rattle.slots.proofs.Turns.{numbers-fit}
 use Rattle.slots.proofs.Arrays.{arr, cells-part, part-cells, room-back}
 use Rattle.slots.proofs.Zeros.{zeros, zeros-fit, zeros-apart}
-use Rattle.slots.proofs.Slot as T
+use Rattle.slots.proofs.SlotRecord as T
 use Rattle.record.proofs.ReadAnswer as TA
 use Rattle.record.proofs.ReadAnswer.Laws as TA′
 use Rattle.record.specs.Reading.{ReadAll}
@@ -95,7 +97,7 @@ module _ {M : Type 1} (𝓤 : URA M) (H : Heap 𝓤) (A : Atoms 𝓤) (mem : Mem
 unit-fits : (u : Val) → u ≡ vunit → Holds (hasTy tyUnit u) × WT u
 unit-fits u e = subst (λ (w : Val). Holds (hasTy tyUnit w) × WT w) (sym e) (tt, tt)
 
-module _ {M : Type 1} (𝓤 : URA M) (H : Heap 𝓤) (A : Atoms 𝓤) (W : Given 𝓤 H A) (mem : Memory → SProp 𝓤) (run : Routine → Fun 𝓤) (κ₀ κ₁ κ₂ κ₃ : Lft) (q₀ q₁ q₂ q₃ : Share) (t y : RefT (List ℕ)) (b o : ℕ) (γ : GName) (ys : List Slot) (a : RefT (List ℕ)) (k : ℕ)
+module _ {M : Type 1} (𝓤 : URA M) (H : Heap 𝓤) (A : Atoms 𝓤) (W : Given 𝓤 H A) (mem : Memory → SProp 𝓤) (run : Routine → Fun 𝓤) (κ₀ κ₁ κ₂ κ₃ : Lft) (q₀ q₁ q₂ q₃ : Share) (t y : RefT (List ℕ)) (b o : ℕ) (γ : GName) (ys : List SlotRecord) (a : RefT (List ℕ)) (k : ℕ)
     (gt : Room u8 (length (t .now))) (gy : Room u8 (length (y .now))) (gn : Room R (length ys)) (ga : Room u8 (length (a .now))) (gk : k < 2 ^ 64) where
   abbrev n : ℕ
   n = length ys
@@ -105,7 +107,7 @@ module _ {M : Type 1} (𝓤 : URA M) (H : Heap 𝓤) (A : Atoms 𝓤) (W : Given
   c = taken n
 
   -- the slots' reference, under the name δ
-  abbrev xs : GName → RefT (List Slot)
+  abbrev xs : GName → RefT (List SlotRecord)
   xs δ = record { ptr = (b, o); name = δ; now = ys }
 
   -- the array's, where it lies at l, at the numbers ws
@@ -153,13 +155,13 @@ module _ {M : Type 1} (𝓤 : URA M) (H : Heap 𝓤) (A : Atoms 𝓤) (W : Given
   abbrev Fine : Left → Type 0
   Fine p = (_≡_ {A = ReadAll} (record { answer = p .0; slots = take (n * slotWidth) (p .1); area = p .2 }) (readFirst (t .now) (y .now) (scratch ys) n (a .now) k)) × (length (p .1) ≡ length (scratch ys)) × (length (p .2) ≡ length (a .now))
 
-  abbrev Saved : List ℕ → List Slot → Type 0
+  abbrev Saved : List ℕ → List SlotRecord → Type 0
   Saved ws zs = (zs ≡ slotsFrom (take (c * slotWidth) ws) ++ rest c ys) × (length zs ≡ n)
 
   numbers-long : (p : Left) → Fine p → length (p .1) ≡ maxNumbers
   numbers-long p f = f .1 ∙ scratch-long ys
 
-  exits : (p : Left) (zs : List Slot) (v : Val) → Fine p → Saved (p .1) zs
+  exits : (p : Left) (zs : List SlotRecord) (v : Val) → Fine p → Saved (p .1) zs
       → ent 𝓤 (⋆ 𝓤 H A (‵ (Ans .own (p .0) (v ∷ [])) ∷ ‵ (finally R γ zs) ∷ ‵ (finally u8 (a .name) (p .2)) ∷ ‵ (flft κ₃ q₃) ∷ ‵ (flft κ₂ q₂) ∷ ‵ (flft κ₁ q₁) ∷ ‵ (flft κ₀ q₀) ∷ [])) (Post v)
   exits p zs v f s =
       qed W (‵ (Ans .own (p .0) (v ∷ [])) ∷ ‵ (finally R γ zs) ∷ ‵ (finally u8 (a .name) (p .2)) ∷ ‵ (flft κ₃ q₃) ∷ ‵ (flft κ₂ q₂) ∷ ‵ (flft κ₁ q₁) ∷ ‵ (flft κ₀ q₀) ∷ []) ∵
@@ -231,14 +233,14 @@ module _ {M : Type 1} (𝓤 : URA M) (H : Heap 𝓤) (A : Atoms 𝓤) (W : Given
         nothing ! $ move ! (2 ∷ 0 ∷ []) $ join ! $ move ! (1 ∷ 0 ∷ []) $ join ! $ frame ! $
         nothing ! $ owned ! usize (Is usize) (uint-makes 𝓤 H A W w64) c _ (refl, lt-of-le-of-lt (taken-within n .0) (gn .0)) $ fjoin ! $ move ! (2 ∷ 0 ∷ []) $ fjoin ! $ move ! (1 ∷ 0 ∷ []) $ fjoin ! $ done !
 
-    abbrev Got-save : Val → List Slot → SProp 𝓤
+    abbrev Got-save : Val → List SlotRecord → SProp 𝓤
     Got-save u zs = guard 𝓤 ((u ≡ vunit) × Saved ws zs) (⋆ 𝓤 H A (‵ (finally R γ zs) ∷ ‵ (flft κ₂ q₂) ∷ ‵ (froom (arr u32 maxNumbers) l 0) ∷ []))
 
     back-save : (u : Val) → ent 𝓤 (sep 𝓤 (Save 𝓤 H A mem run .post to-save u) (sem 𝓤 H A Lent-w)) (H .⇛ (ex 𝓤 (Got-save u)))
     back-save u =
         qed W (raw (Save 𝓤 H A mem run .post to-save u) ∷ ‵ Lent-w ∷ []) ∵ updating ! $
         use1 W (later (some (λ (r : Unit {0}). ((‵ (flft κ₂ q₂) ⊛ (‵ (flft (ρ ∷ []) fullShare) ⊛ ‵ ftrue)) ⊛ ‵ (unit .own r (u ∷ []))) ⊛ raw (ensured 𝓤 H A sv.ended (sv.clauses 𝓤 H A mem run) (κ₂, (ρ ∷ [], tt)) (xs γ, (xa l ε ws, (c, tt))) tt r)))) (id⊢ 𝓤 _) $ await ! tt $ pick ! (λ r.
-        split ! $ move ! (1 ∷ []) $ use1 W (some (λ (z : List Slot × (Unit {0} × (Unit {0} × Unit {0}))). ‵ (lasts sv.ended (κ₂, (ρ ∷ [], tt)) (xs γ, (xa l ε ws, (c, tt))) z) ⊛ raw (fact 𝓤 (z .0 ≡ slotsFrom (take (c * slotWidth) ws) ++ rest c ys)))) (id⊢ 𝓤 _) $ pick ! (λ z.
+        split ! $ move ! (1 ∷ []) $ use1 W (some (λ (z : List SlotRecord × (Unit {0} × (Unit {0} × Unit {0}))). ‵ (lasts sv.ended (κ₂, (ρ ∷ [], tt)) (xs γ, (xa l ε ws, (c, tt))) z) ⊛ raw (fact 𝓤 (z .0 ≡ slotsFrom (take (c * slotWidth) ws) ++ rest c ys)))) (id⊢ 𝓤 _) $ pick ! (λ z.
         split ! $ move ! (1 ∷ []) $ heard ! (z .0 ≡ slotsFrom (take (c * slotWidth) ws) ++ rest c ys) (λ e. fsplit ! $ fsplit ! $ move ! (1 ∷ []) $ feqL ! (λ as-many.
         -- [the slots' last list; true; the tokens and the result; the lender's part]
         move ! (2 ∷ []) $ split ! $ move ! (1 ∷ []) $ feqL ! (λ is-unit. split ! $ move ! (1 ∷ []) $ split ! $ lft-end ! tt $ move ! (0 ∷ 5 ∷ []) $ lent-back ! tt $
@@ -267,13 +269,15 @@ module _ {M : Type 1} (𝓤 : URA M) (H : Heap 𝓤) (A : Atoms 𝓤) (W : Given
         rewrite ! 0 (λ (m : ℕ). ‵ (Own-zeros 𝓤 H A W mem run κ₂ q₂ (xs γ) l₆ ν δ m)) zeros-long refl $ lft-new ! tt (λ η. move ! (5 ∷ 9 ∷ []) $
         use2 W (later (some (λ (δ′ : GName). ‵ (ShrSlice (named 0) (η ∷ []) R .own (xs δ′) (vs ∷ [])) ⊛ ‵ (LentShared R κ₂ (η ∷ []) q₂ γ b o ys)))) (lends-shared R κ₂ (η ∷ []) q₂ γ b o 𝓤 H A W (named 2) (named 0) ys) $ await ! tt $ pick ! (λ δ′. split ! $
         move ! (2 ∷ 5 ∷ 0 ∷ 3 ∷ []) $ group ! 4 $ use1 W (raw (Load 𝓤 H A mem run .pre (to-load 𝓤 H A W mem run (η ∷ []) fullShare (xs δ′) l₆ ν δ))) (asked-load 𝓤 H A W mem run (η ∷ []) fullShare (xs δ′) l₆ ν δ) $
-        -- [what `load` asks; what is kept of the slots; the lender's part; area's; record's; layout's; their tokens; _22; …; that _6 dies; _5; …; _0; …]
+        -- [what `load` asks; what is kept of the slots; the lender's part; area's; record's; layout's; their tokens;
+        -- _22; …; that _6 dies; _5; …; _0; …]
         calls-at ! (fmOf 𝓤 H (W .laws) 𝓣) (Load 𝓤 H A mem run) known-load (to-load 𝓤 H A W mem run (η ∷ []) fullShare (xs δ′) l₆ ν δ) (and-then ! (load ! (from ! (stop !)) (look ! 33 refl)) (and-then ! (load ! (from ! (stop !)) (look ! 29 refl)) (no-more !))) (λ u. move ! (0 ∷ 2 ∷ []) $
         use2 W (later (some (λ (r : ℕ). given (r ≡ c) (‵ (usize .own r (u ∷ [])) ⊛ (‵ (flft (η ∷ []) fullShare) ⊛ ‵ (cells (mem′ u32) (scratch ys) l₆ 0)))))) (back-load 𝓤 H A W mem run (η ∷ []) fullShare (xs δ′) l₆ ν δ u) $ await ! tt $ pick ! (λ r. learn ! (λ is-c. split ! $
         peeks ! usize (Is usize) (shows 𝓤 H A usize) r (u ∷ []) (λ is-r. land ! (from ! (stop !)) (init ! 39 refl (uint-lawful 𝓤 H A W w64 .typed r _ is-r .0)) $
         rewrite ! 39 (λ (v : Val). ‵ (fat fullShare (tyInt w64) l₇ 0 v)) (ap only (is-r .0)) refl $ rewrite ! 39 (λ (j : ℕ). ‵ (fat fullShare (tyInt w64) l₇ 0 (vint w64 j))) is-c refl $ drop ! $ split ! $ lft-end ! tt $ move ! (0 ∷ 2 ∷ []) $
         use2 W (later (‵ Own-s ⊛ ‵ (flft κ₂ q₂))) (comes-back-shared R κ₂ (η ∷ []) q₂ γ b o 𝓤 H A W (named 2) (named 0) ys gn) $ await ! tt $ split ! $
-        -- [slots'; their token; the cells; area's; record's; layout's; their tokens; _22; …; that _6 dies; _5; …; _0; …]
+        -- [slots'; their token; the cells; area's; record's; layout's; their tokens; _22; …; that _6 dies; _5; …; _0;
+        -- …]
         assigns ! (addr ! (from ! (stop !))) (from ! (stop !)) (init ! 27 refl (tt, tt)) $
         assigns ! (agg ! (and-then ! (load ! (from ! (stop !)) (look ! 27 refl)) (and-then ! (lit ! tt) (no-more !)))) (from ! (stop !)) (init ! 25 refl (tt, (tt, (record { fits = lit< tt }, tt)))) $
         assigns ! (of-opd ! (load ! (from ! (fld ! refl (stop !))) (look-in ! 46 (sub ! 1 refl (whole !))))) (from ! (stop !)) (init ! 23 refl (tt, record { fits = gn .0 })) $
@@ -287,7 +291,8 @@ module _ {M : Type 1} (𝓤 : URA M) (H : Heap 𝓤) (A : Atoms 𝓤) (W : Given
         use2 W (later (some (λ (p : Left). given (Fine p) (‵ (Ans .own (p .0) (v ∷ [])) ⊛ (‵ (finally u8 (a .name) (p .2)) ⊛ (‵ (flft κ₃ q₃) ⊛ (‵ (flft κ₁ q₁) ⊛ (‵ (flft κ₀ q₀) ⊛ ‵ (cells (mem′ u32) (p .1) l₆ 0))))))))) (back-read l₆ μ ε v) $ await ! tt $ pick ! (λ p. learn ! (λ f. split ! $
         peeks ! Ans (Is Ans) (shows 𝓤 H A Ans) (p .0) (v ∷ []) (λ is. land ! (from ! (stop !)) (init ! 32 refl (LL.lawful TA.the-type TA′.the-laws 𝓤 H A W .typed (p .0) _ is .0)) $
         move ! (1 ∷ []) $ split ! $ move ! (1 ∷ []) $ split ! $ move ! (1 ∷ []) $ split ! $ move ! (1 ∷ []) $ split ! $
-        -- [layout's token; the cells; record's token; area's token; the area's last list; the answer; slots'; their token; _22; …; that _6 dies; _5; …; _0; …]
+        -- [layout's token; the cells; record's token; area's token; the area's last list; the answer; slots'; their
+        -- token; _22; …; that _6 dies; _5; …; _0; …]
         assigns ! (addr ! (from ! (fld ! refl (hop ! (look-in ! 45 (sub ! 0 refl (whole !))) (stop !))))) (from ! (stop !)) (init ! 14 refl (tt, tt)) $
         assigns ! (agg ! (and-then ! (load ! (from ! (stop !)) (look ! 14 refl)) (and-then ! (load ! (from ! (fld ! refl (stop !))) (look-in ! 45 (sub ! 1 refl (whole !)))) (no-more !)))) (from ! (stop !)) (init ! 12 refl (tt, (tt, (record { fits = gn .0 }, tt)))) $
         assigns ! (addr ! (from ! (stop !))) (from ! (stop !)) (init ! 10 refl (tt, tt)) $
@@ -295,13 +300,15 @@ module _ {M : Type 1} (𝓤 : URA M) (H : Heap 𝓤) (A : Atoms 𝓤) (W : Given
         move ! (1 ∷ []) $ use1 W (‵ (arr-parts (shares u32) (length (p .1)) .part fullShare (p .1) l₆ 0)) (cells-part u32 (length (p .1)) 𝓤 H A W l₆ (p .1) refl) $ lft-new ! tt (λ ρ. move ! (1 ∷ []) $
         use1 W (later (some (λ (ε′ : GName). ‵ (See-n l₆ ρ ε′ (p .1) (numbers-long p f) (length (p .1))) ⊛ ‵ (Lent-w l₆ ρ ε′ (p .1) (numbers-long p f))))) (lends-shr-slice 𝓤 H A W u32 (named 1) (ρ ∷ []) fullShare (p .1) l₆ 0 (subst (Room u32) (sym (numbers-long p f)) room-numbers)) $ await ! tt $ pick ! (λ ε′. split ! $
         rewrite ! 0 (λ (m : ℕ). ‵ (See-n l₆ ρ ε′ (p .1) (numbers-long p f) m)) (numbers-long p f) refl $ move ! (9 ∷ 2 ∷ 8 ∷ 0 ∷ []) $ group ! 4 $ use1 W (raw (Save 𝓤 H A mem run .pre (to-save l₆ ρ ε′ (p .1) (numbers-long p f)))) (asked-save l₆ ρ ε′ (p .1) (numbers-long p f)) $
-        -- [what `save` asks; the lender's part; layout's, record's and area's tokens; the area's last list; the answer; _22; …; that _6 dies; _5; …; _0; …]
+        -- [what `save` asks; the lender's part; layout's, record's and area's tokens; the area's last list; the answer;
+        -- _22; …; that _6 dies; _5; …; _0; …]
         calls-at ! (fmOf 𝓤 H (W .laws) 𝓣) (Save 𝓤 H A mem run) known-save (to-save l₆ ρ ε′ (p .1) (numbers-long p f)) (and-then ! (load ! (from ! (stop !)) (look ! 11 refl)) (and-then ! (load ! (from ! (stop !)) (look ! 7 refl)) (and-then ! (load ! (from ! (stop !)) (look ! 37 refl)) (no-more !)))) (λ w.
-        use2 W (later (some (λ (zs : List Slot). given ((w ≡ vunit) × Saved (p .1) zs) (‵ (finally R γ zs) ⊛ (‵ (flft κ₂ q₂) ⊛ ‵ (froom (arr u32 maxNumbers) l₆ 0)))))) (back-save l₆ ρ ε′ (p .1) (numbers-long p f) w) $ await ! tt $ pick ! (λ zs. learn ! (λ s.
+        use2 W (later (some (λ (zs : List SlotRecord). given ((w ≡ vunit) × Saved (p .1) zs) (‵ (finally R γ zs) ⊛ (‵ (flft κ₂ q₂) ⊛ ‵ (froom (arr u32 maxNumbers) l₆ 0)))))) (back-save l₆ ρ ε′ (p .1) (numbers-long p f) w) $ await ! tt $ pick ! (λ zs. learn ! (λ s.
         land ! (from ! (stop !)) (init ! 14 refl (unit-fits w (s .0))) $ split ! $ move ! (1 ∷ []) $ split ! $
         assigns ! (of-opd ! (load ! (from ! (stop !)) (look ! 36 refl))) (from ! (stop !)) (init ! 51 refl (LL.lawful TA.the-type TA′.the-laws 𝓤 H A W .typed (p .0) _ is .0)) $
         move ! (1 ∷ 7 ∷ 2 ∷ 6 ∷ 5 ∷ 0 ∷ 4 ∷ 3 ∷ []) $
-        -- [the array's room; the answer; the last lists of slots and area; the tokens of area, slots, record and layout; _22; …; that _6 dies; _5; …; _0; …]
+        -- [the array's room; the answer; the last lists of slots and area; the tokens of area, slots, record and
+        -- layout; _22; …; that _6 dies; _5; …; _0; …]
         returns ! (look ! 51 refl) $ forget ! 8 refl $ forget ! 10 refl $ forget ! 12 refl $ forget ! 14 refl $ forget ! 16 refl $ forget ! 18 refl $ forget ! 20 refl $ forget ! 22 refl $ forget ! 24 refl $ forget ! 26 refl $ forget ! 28 refl $ forget ! 30 refl $ forget ! 32 refl $ forget ! 34 refl $ forget ! 36 refl $ forget ! 38 refl $ forget ! 41 refl $ forget ! 43 refl $ forget ! 45 refl $ forget ! 47 refl $ forget ! 49 refl $ forget ! 51 refl $
         move ! (51 ∷ 52 ∷ []) $ free1 ! $ move ! (49 ∷ 50 ∷ []) $ free1 ! $ move ! (47 ∷ 48 ∷ []) $ free1 ! $ move ! (45 ∷ 46 ∷ []) $ free1 ! $ move ! (43 ∷ 44 ∷ []) $ free1 ! $ move ! (41 ∷ 42 ∷ []) $ free1 ! $ move ! (0 ∷ 40 ∷ []) $ free1 ! $ move ! (37 ∷ 38 ∷ []) $ free1 ! $ move ! (35 ∷ 36 ∷ []) $ free1 ! $ move ! (33 ∷ 34 ∷ []) $ free1 ! $ move ! (31 ∷ 32 ∷ []) $ free1 ! $ move ! (29 ∷ 30 ∷ []) $ free1 ! $ move ! (27 ∷ 28 ∷ []) $ free1 ! $ move ! (25 ∷ 26 ∷ []) $ free1 ! $ move ! (23 ∷ 24 ∷ []) $ free1 ! $ move ! (21 ∷ 22 ∷ []) $ free1 ! $ move ! (19 ∷ 20 ∷ []) $ free1 ! $ move ! (17 ∷ 18 ∷ []) $ free1 ! $ move ! (15 ∷ 16 ∷ []) $ free1 ! $ move ! (13 ∷ 14 ∷ []) $ free1 ! $ move ! (11 ∷ 12 ∷ []) $ free1 ! $ move ! (9 ∷ 10 ∷ []) $ free1 ! $ move ! (7 ∷ 8 ∷ []) $ free1 ! $ free0 ! $
         by ! (exits p zs v f (s .1))))))))))))))))))))))))))))))))))))))))))))

@@ -1,4 +1,5 @@
--- `rows_pack::pack_rows` meets its contract: a walk of its MIR, by hand. The array of slots is copied to a local, and its first part lent by `&` to `slots::pack::pack_slots`; all else is passed on.
+-- `rows_pack::pack_rows` meets its contract: a walk of its MIR, by hand. The array of slots is copied to a local, and
+-- its first part lent by `&` to `slots::pack::pack_slots`; all else is passed on.
 use mathlib.Core.Path.{_≡_, refl, sym, subst}
 use Prim.Native.Nat.{ℕ, _≤_}
 use mathlib.Core.List.{List, [], _∷_, _++_}
@@ -44,10 +45,10 @@ use denote.Triple.Table.{entered, cited}
 use denote.Triple.Walked.{says, needs, Stays, stay-dropped, gave-slice, walkOf, goes-dropped, goes-gave-slice, Walks, ends-at, walked, walk-meets}
 use denote.Exit.{yes}
 use Rattle.record.specs.declared.Answer.{Answer}
-use Rattle.slots.specs.declared.Slot.{Slot}
-use Rattle.slots.specs.Slots.{numbersOf, rows}
-use Rattle.slots.proofs.Slot as T
-use Rattle.slots.proofs.Slot.Laws as T′
+use Rattle.slots.specs.declared.SlotRecord.{SlotRecord}
+use Rattle.slots.specs.Slots.{slotsNumbers, tableRows}
+use Rattle.slots.proofs.SlotRecord as T
+use Rattle.slots.proofs.SlotRecord.Laws as T′
 use Rattle.slots.proofs.Arrays.{arr, apart, cells-part, part-cells, room-back, Behind, cut, joined}
 use Rattle.slots.proofs.Turns.{rows-fit}
 use Rattle.slots.proofs.Requires.{no-requires}
@@ -67,12 +68,12 @@ abbrev R : RattleType
 R = T.the-row
 
 abbrev Table : RattleType
-Table = Array R rows
+Table = Array R tableRows
 
 abbrev Ans : RattleType
 Ans = TA.the-row
 
-abbrev spelled : List Slot → List Val
+abbrev spelled : List SlotRecord → List Val
 spelled = array-vals (LL.vals T.the-type T′.the-laws)
 
 lawful : {M : Type 1} (𝓤 : URA M) (H : Heap 𝓤) (A : Atoms 𝓤) → Given 𝓤 H A → Lawful 𝓤 H A R
@@ -84,15 +85,15 @@ stayed = (stay-dropped (shrSlice 0 tt (λ _. u8)) yes, (stay-dropped (plain (λ 
 abbrev PackSlots : {M : Type 1} (𝓤 : URA M) (H : Heap 𝓤) (A : Atoms 𝓤) (mem : Memory → SProp 𝓤) (run : Routine → Fun 𝓤) → Contract 𝓤
 PackSlots 𝓤 H A mem run = tripleOf 𝓤 H A ps.signature (ps.spec 𝓤 H A mem run)
 
-module _ {M : Type 1} (𝓤 : URA M) (H : Heap 𝓤) (A : Atoms 𝓤) (W : Given 𝓤 H A) (mem : Memory → SProp 𝓤) (run : Routine → Fun 𝓤) (κ₀ κ₁ κ₂ : Lft) (q₀ q₁ q₂ : Share) (t : RefT (List ℕ)) (xs : List Slot) (n : ℕ) (a o : RefT (List ℕ))
-    (gt : Room u8 (length (t .now))) (is : Is Table xs (spelled xs)) (most : n ≤ rows) (ga : Room u8 (length (a .now))) (go : Room u8 (length (o .now))) where
+module _ {M : Type 1} (𝓤 : URA M) (H : Heap 𝓤) (A : Atoms 𝓤) (W : Given 𝓤 H A) (mem : Memory → SProp 𝓤) (run : Routine → Fun 𝓤) (κ₀ κ₁ κ₂ : Lft) (q₀ q₁ q₂ : Share) (t : RefT (List ℕ)) (xs : List SlotRecord) (n : ℕ) (a o : RefT (List ℕ))
+    (gt : Room u8 (length (t .now))) (is : Is Table xs (spelled xs)) (most : n ≤ tableRows) (ga : Room u8 (length (a .now))) (go : Room u8 (length (o .now))) where
   abbrev v : Val
   v = only (spelled xs)
 
-  all : length xs ≡ rows
+  all : length xs ≡ tableRows
   all = is .1 .0 .1
 
-  abbrev firsts : List Slot
+  abbrev firsts : List SlotRecord
   firsts = take n xs
 
   as-many : length firsts ≡ n
@@ -127,7 +128,7 @@ module _ {M : Type 1} (𝓤 : URA M) (H : Heap 𝓤) (A : Atoms 𝓤) (W : Given
 
   -- what is known of the answer and of the output's last list
   abbrev Fine : Answer × List ℕ → Type 0
-  Fine p = (_≡_ {A = Packed} (record { answer = p .0; output = p .1 }) (pack (t .now) (numbersOf firsts) (a .now) (o .now))) × (length (p .1) ≡ length (o .now))
+  Fine p = (_≡_ {A = Packed} (record { answer = p .0; output = p .1 }) (pack (t .now) (slotsNumbers firsts) (a .now) (o .now))) × (length (p .1) ≡ length (o .now))
 
   exits : (p : Answer × List ℕ) (u : Val) → Fine p → ent 𝓤 (⋆ 𝓤 H A (‵ (Ans .own (p .0) (u ∷ [])) ∷ ‵ (finally u8 (o .name) (p .1)) ∷ ‵ (flft κ₂ q₂) ∷ ‵ (flft κ₁ q₁) ∷ ‵ (flft κ₀ q₀) ∷ [])) (Post u)
   exits p u f =
@@ -138,7 +139,7 @@ module _ {M : Type 1} (𝓤 : URA M) (H : Heap 𝓤) (A : Atoms 𝓤) (W : Given
 
   -- ---- `pack_slots`, where the array lies at l
   module _ (l ν : ℕ) (δ : GName) where
-    abbrev x : RefT (List Slot)
+    abbrev x : RefT (List SlotRecord)
     x = record { ptr = (l, 0); name = δ; now = firsts }
 
     abbrev See-s : ℕ → Fml
@@ -153,7 +154,7 @@ module _ {M : Type 1} (𝓤 : URA M) (H : Heap 𝓤) (A : Atoms 𝓤) (W : Given
     abbrev κs : Lft × (Lft × (Lft × (Lft × Unit {0})))
     κs = (κ₀, (ν ∷ [], (κ₁, (κ₂, tt))))
 
-    abbrev args : RefT (List ℕ) × (RefT (List Slot) × (RefT (List ℕ) × (RefT (List ℕ) × Unit {0})))
+    abbrev args : RefT (List ℕ) × (RefT (List SlotRecord) × (RefT (List ℕ) × (RefT (List ℕ) × Unit {0})))
     args = (t, (x, (a, (o, tt))))
 
     abbrev to : PackSlots 𝓤 H A mem run .Ghost
@@ -166,20 +167,21 @@ module _ {M : Type 1} (𝓤 : URA M) (H : Heap 𝓤) (A : Atoms 𝓤) (W : Given
         nothing ! $ move ! (4 ∷ 0 ∷ []) $ fjoin ! $ move ! (3 ∷ 0 ∷ []) $ fjoin ! $ move ! (2 ∷ 0 ∷ []) $ fjoin ! $ move ! (1 ∷ 0 ∷ []) $ fjoin ! $ done !
 
     abbrev Got : Val → Answer × List ℕ → SProp 𝓤
-    Got u p = guard 𝓤 (Fine p) (⋆ 𝓤 H A (‵ (Ans .own (p .0) (u ∷ [])) ∷ ‵ (finally u8 (o .name) (p .1)) ∷ ‵ (flft κ₂ q₂) ∷ ‵ (flft κ₁ q₁) ∷ ‵ (flft κ₀ q₀) ∷ ‵ (froom (arr R rows) l 0) ∷ []))
+    Got u p = guard 𝓤 (Fine p) (⋆ 𝓤 H A (‵ (Ans .own (p .0) (u ∷ [])) ∷ ‵ (finally u8 (o .name) (p .1)) ∷ ‵ (flft κ₂ q₂) ∷ ‵ (flft κ₁ q₁) ∷ ‵ (flft κ₀ q₀) ∷ ‵ (froom (arr R tableRows) l 0) ∷ []))
 
     back : (u : Val) → ent 𝓤 (sep 𝓤 (PackSlots 𝓤 H A mem run .post to u) (sem 𝓤 H A Kept)) (H .⇛ (ex 𝓤 (Got u)))
     back u =
         qed W (raw (PackSlots 𝓤 H A mem run .post to u) ∷ ‵ Kept ∷ []) ∵ updating ! $
         use1 W (later (some (λ (r : Answer). ((‵ (flft κ₀ q₀) ⊛ (‵ (flft (ν ∷ []) fullShare) ⊛ (‵ (flft κ₁ q₁) ⊛ (‵ (flft κ₂ q₂) ⊛ ‵ ftrue)))) ⊛ ‵ (Ans .own r (u ∷ []))) ⊛ raw (ensured 𝓤 H A ps.ended (ps.clauses 𝓤 H A mem run) κs args tt r)))) (id⊢ 𝓤 _) $ await ! tt $ pick ! (λ r.
-        split ! $ move ! (1 ∷ []) $ use1 W (some (λ (z : Unit {0} × (Unit {0} × (Unit {0} × (List ℕ × Unit {0})))). ‵ (lasts ps.ended κs args z) ⊛ raw (fact 𝓤 (_≡_ {A = Packed} (record { answer = r; output = z .1 .1 .1 .0 }) (pack (t .now) (numbersOf firsts) (a .now) (o .now)))))) (id⊢ 𝓤 _) $ pick ! (λ z.
-        split ! $ move ! (1 ∷ []) $ heard ! (_≡_ {A = Packed} (record { answer = r; output = z .1 .1 .1 .0 }) (pack (t .now) (numbersOf firsts) (a .now) (o .now))) (λ e.
+        split ! $ move ! (1 ∷ []) $ use1 W (some (λ (z : Unit {0} × (Unit {0} × (Unit {0} × (List ℕ × Unit {0})))). ‵ (lasts ps.ended κs args z) ⊛ raw (fact 𝓤 (_≡_ {A = Packed} (record { answer = r; output = z .1 .1 .1 .0 }) (pack (t .now) (slotsNumbers firsts) (a .now) (o .now)))))) (id⊢ 𝓤 _) $ pick ! (λ z.
+        split ! $ move ! (1 ∷ []) $ heard ! (_≡_ {A = Packed} (record { answer = r; output = z .1 .1 .1 .0 }) (pack (t .now) (slotsNumbers firsts) (a .now) (o .now))) (λ e.
         fsplit ! $ drop ! $ fsplit ! $ drop ! $ fsplit ! $ drop ! $ fsplit ! $ fsplit ! $ move ! (1 ∷ []) $ feqL ! (λ long.
         -- [the output's last list; true; the tokens and the result; the lender's part]
         move ! (2 ∷ []) $ split ! $ split ! $ move ! (1 ∷ []) $ split ! $ lft-end ! tt $ move ! (6 ∷ []) $ fsplit ! $ move ! (2 ∷ 0 ∷ []) $ lent-back ! tt $
         use1 W (‵ (cells (mem′ R) firsts l 0)) (part-cells R (length firsts) 𝓤 H A W l firsts) $ use2 W (‵ (cells (mem′ R) (firsts ++ drop-list n xs) l 0)) (joined R l n xs 𝓤 H A W firsts refl) $
-        rewrite ! 0 (λ (zs : List Slot). ‵ (cells (mem′ R) zs l 0)) (take-append-drop n xs) refl $ use1 W (‵ (froom (arr R rows) l 0)) (room-back R rows 𝓤 H A W l xs all) $
-        -- [the array's room; the area's and the output's tokens; the layout's token; the result; the output's last list; true]
+        rewrite ! 0 (λ (zs : List SlotRecord). ‵ (cells (mem′ R) zs l 0)) (take-append-drop n xs) refl $ use1 W (‵ (froom (arr R tableRows) l 0)) (room-back R tableRows 𝓤 H A W l xs all) $
+        -- [the array's room; the area's and the output's tokens; the layout's token; the result; the output's last
+        -- list; true]
         move ! (1 ∷ []) $ split ! $ move ! (1 ∷ []) $ split ! $ at-once ! $ show ! (Got u) (r, z .1 .1 .1 .0) $ check ! (e, long) $ keep ! (5 ∷ 6 ∷ 0 ∷ 2 ∷ 4 ∷ 3 ∷ []) $ done !))))
 
   module _ (𝓣 : Tables 𝓤 H) (known : Triple 𝓤 (𝓣 .C #slots·pack·pack-slots) (PackSlots 𝓤 H A mem run)) where
@@ -188,26 +190,27 @@ module _ {M : Type 1} (𝓤 : URA M) (H : Heap 𝓤) (A : Atoms 𝓤) (W : Given
         qed W ((‵ (flft κ₀ q₀) ⊛ (‵ (flft κ₁ q₁) ⊛ (‵ (flft κ₂ q₂) ⊛ ‵ ftrue))) ∷ ‵ (owns (ShrSlice (named 0) κ₀ u8 ∷ Table ∷ usize ∷ ShrSlice (named 1) κ₁ u8 ∷ MutSlice (named 2) κ₂ u8 ∷ []) (t, (xs, (n, (a, (o, tt))))) at) ∷ []) ∵
         enter ! (𝓣 .C) (𝓣 .Λ) code.function (vt ∷ v ∷ vint w64 n ∷ va ∷ vo ∷ []) _ $
         alloc1 ! (λ l₀. alloc1 ! (λ l₁. alloc1 ! (λ l₂. alloc1 ! (λ l₃. alloc1 ! (λ l₄. alloc1 ! (λ l₅. alloc1 ! (λ l₆. alloc1 ! (λ l₇. alloc1 ! (λ l₈. alloc1 ! (λ l₉. alloc1 ! (λ l₁₀. alloc0 ! $ params1 ! $
-        pass1 ! (init ! 18 refl (tt, (tt, (record { fits = gt .0 }, tt)))) $ pass1 ! (init ! 16 refl (array-lawful 𝓤 H A W R (lawful 𝓤 H A W) rows .typed xs (v ∷ []) is .0)) $ pass1 ! (init ! 14 refl (tt, record { fits = rows-fit n most .0 })) $ pass1 ! (init ! 12 refl (tt, (tt, (record { fits = ga .0 }, tt)))) $ pass1 ! (init ! 10 refl (tt, (tt, (record { fits = go .0 }, tt)))) $ pass0 ! $
+        pass1 ! (init ! 18 refl (tt, (tt, (record { fits = gt .0 }, tt)))) $ pass1 ! (init ! 16 refl (array-lawful 𝓤 H A W R (lawful 𝓤 H A W) tableRows .typed xs (v ∷ []) is .0)) $ pass1 ! (init ! 14 refl (tt, record { fits = rows-fit n most .0 })) $ pass1 ! (init ! 12 refl (tt, (tt, (record { fits = ga .0 }, tt)))) $ pass1 ! (init ! 10 refl (tt, (tt, (record { fits = go .0 }, tt)))) $ pass0 ! $
         move ! (22 ∷ 23 ∷ []) $ split ! $ move ! (1 ∷ []) $ split ! $ move ! (1 ∷ []) $ split ! $ move ! (1 ∷ []) $ drop ! $
         move ! (3 ∷ []) $ fsplit ! $ move ! (1 ∷ []) $ fsplit ! $ drop ! $ fsplit ! $ drop ! $ fsplit ! $ move ! (1 ∷ []) $ fsplit ! $ move ! (1 ∷ []) $ drop ! $
         -- [what output, area and layout own; their tokens; _10; …; _0; …]
-        assigns ! (of-opd ! (load ! (from ! (stop !)) (look ! 22 refl))) (from ! (stop !)) (init ! 14 refl (array-lawful 𝓤 H A W R (lawful 𝓤 H A W) rows .typed xs (v ∷ []) is .0)) $
+        assigns ! (of-opd ! (load ! (from ! (stop !)) (look ! 22 refl))) (from ! (stop !)) (init ! 14 refl (array-lawful 𝓤 H A W R (lawful 𝓤 H A W) tableRows .typed xs (v ∷ []) is .0)) $
         assigns ! (addr ! (from ! (stop !))) (from ! (stop !)) (init ! 12 refl (tt, tt)) $
         assigns ! (agg ! (and-then ! (load ! (from ! (stop !)) (look ! 12 refl)) (and-then ! (load ! (from ! (stop !)) (look ! 20 refl)) (no-more !)))) (from ! (stop !)) (init ! 10 refl (tt, (tt, (record { fits = rows-fit n most .0 }, tt)))) $
         assigns ! (addr ! (from ! (fld ! refl (hop ! (look-in ! 16 (sub ! 0 refl (whole !))) (stop !))))) (from ! (stop !)) (init ! 8 refl (tt, tt)) $
         assigns ! (agg ! (and-then ! (load ! (from ! (stop !)) (look ! 8 refl)) (and-then ! (load ! (from ! (fld ! refl (stop !))) (look-in ! 16 (sub ! 1 refl (whole !)))) (no-more !)))) (from ! (stop !)) (init ! 6 refl (tt, (tt, (record { fits = go .0 }, tt)))) $
-        move ! (14 ∷ []) $ use1 W (‵ (cells (mem′ R) xs l₆ 0)) (apart R rows 𝓤 H A W tt (LL.makes T.the-type T′.the-plain 𝓤 H A) l₆ xs v is) $
+        move ! (14 ∷ []) $ use1 W (‵ (cells (mem′ R) xs l₆ 0)) (apart R tableRows 𝓤 H A W tt (LL.makes T.the-type T′.the-plain 𝓤 H A) l₆ xs v is) $
         use1 W (‵ (cells (mem′ R) firsts l₆ 0) ⊛ ‵ (Behind R l₆ n xs)) (cut R l₆ n xs 𝓤 H A W) $ split ! $
         use1 W (‵ (arr-parts (shares R) (length firsts) .part fullShare firsts l₆ 0)) (cells-part R (length firsts) 𝓤 H A W l₆ firsts refl) $ lft-new ! tt (λ ν. move ! (1 ∷ []) $
         use1 W (later (some (λ (δ : GName). ‵ (See-s l₆ ν δ (length firsts)) ⊛ ‵ (Lent l₆ ν δ)))) (lends-shr-slice 𝓤 H A W R (named 1) (ν ∷ []) fullShare firsts l₆ 0 (subst (Room R) (sym as-many) (rows-fit n most))) $ await ! tt $ pick ! (λ δ. split ! $
         rewrite ! 0 (λ (m : ℕ). ‵ (See-s l₆ ν δ m)) as-many refl $ move ! (1 ∷ 3 ∷ []) $ fjoin ! $ move ! (1 ∷ 0 ∷ []) $ move ! (8 ∷ 2 ∷ 7 ∷ 6 ∷ 5 ∷ 0 ∷ 4 ∷ 3 ∷ []) $ group ! 8 $ use1 W (raw (PackSlots 𝓤 H A mem run .pre (to l₆ ν δ))) (asked l₆ ν δ) $
         -- [what the callee asks; the lender's part; _10; …; that _6 dies; _5; …; _0; …]
         calls-at ! (fmOf 𝓤 H (W .laws) 𝓣) (PackSlots 𝓤 H A mem run) known (to l₆ ν δ) (and-then ! (load ! (from ! (stop !)) (look ! 19 refl)) (and-then ! (load ! (from ! (stop !)) (look ! 6 refl)) (and-then ! (load ! (from ! (stop !)) (look ! 13 refl)) (and-then ! (load ! (from ! (stop !)) (look ! 2 refl)) (no-more !))))) (λ u.
-        use2 W (later (some (λ (p : Answer × List ℕ). given (Fine p) (‵ (Ans .own (p .0) (u ∷ [])) ⊛ (‵ (finally u8 (o .name) (p .1)) ⊛ (‵ (flft κ₂ q₂) ⊛ (‵ (flft κ₁ q₁) ⊛ (‵ (flft κ₀ q₀) ⊛ ‵ (froom (arr R rows) l₆ 0))))))))) (back l₆ ν δ u) $ await ! tt $ pick ! (λ p. learn ! (λ f. split ! $
+        use2 W (later (some (λ (p : Answer × List ℕ). given (Fine p) (‵ (Ans .own (p .0) (u ∷ [])) ⊛ (‵ (finally u8 (o .name) (p .1)) ⊛ (‵ (flft κ₂ q₂) ⊛ (‵ (flft κ₁ q₁) ⊛ (‵ (flft κ₀ q₀) ⊛ ‵ (froom (arr R tableRows) l₆ 0))))))))) (back l₆ ν δ u) $ await ! tt $ pick ! (λ p. learn ! (λ f. split ! $
         peeks ! Ans (Is Ans) (shows 𝓤 H A Ans) (p .0) (u ∷ []) (λ is-r. land ! (from ! (stop !)) (init ! 21 refl (LL.lawful TA.the-type TA′.the-laws 𝓤 H A W .typed (p .0) _ is-r .0)) $
         move ! (1 ∷ []) $ split ! $ move ! (1 ∷ []) $ split ! $ move ! (1 ∷ []) $ split ! $ move ! (1 ∷ []) $ split ! $ move ! (1 ∷ 5 ∷ 4 ∷ 3 ∷ 2 ∷ 0 ∷ []) $
-        -- [the array's room; the answer; the output's last list; the tokens of output, area and layout; _10; …; that _6 dies; _5; …; _0; …]
+        -- [the array's room; the answer; the output's last list; the tokens of output, area and layout; _10; …; that _6
+        -- dies; _5; …; _0; …]
         returns ! (look ! 25 refl) $ forget ! 6 refl $ forget ! 8 refl $ forget ! 10 refl $ forget ! 12 refl $ forget ! 15 refl $ forget ! 17 refl $ forget ! 19 refl $ forget ! 21 refl $ forget ! 23 refl $ forget ! 25 refl $
         move ! (25 ∷ 26 ∷ []) $ free1 ! $ move ! (23 ∷ 24 ∷ []) $ free1 ! $ move ! (21 ∷ 22 ∷ []) $ free1 ! $ move ! (19 ∷ 20 ∷ []) $ free1 ! $ move ! (17 ∷ 18 ∷ []) $ free1 ! $ move ! (15 ∷ 16 ∷ []) $ free1 ! $ move ! (0 ∷ 14 ∷ []) $ free1 ! $ move ! (11 ∷ 12 ∷ []) $ free1 ! $ move ! (9 ∷ 10 ∷ []) $ free1 ! $ move ! (7 ∷ 8 ∷ []) $ free1 ! $ move ! (5 ∷ 6 ∷ []) $ free1 ! $ free0 ! $
         by ! (exits p u f))))))))))))))))))
@@ -215,8 +218,8 @@ module _ {M : Type 1} (𝓤 : URA M) (H : Heap 𝓤) (A : Atoms 𝓤) (W : Given
 module _ {M : Type 1} (𝓤 : URA M) (H : Heap 𝓤) (A : Atoms 𝓤) (W : Given 𝓤 H A) (mem : Memory → SProp 𝓤) (run : Routine → Fun 𝓤) (𝓣 : Tables 𝓤 H) (known : Triple 𝓤 (𝓣 .C #slots·pack·pack-slots) (PackSlots 𝓤 H A mem run)) where
   walks : Walks 𝓤 H A pt.ended stayed (WpFn 𝓤 H (𝓣 .C) (𝓣 .Λ) code.function) (pt.clauses 𝓤 H A mem run)
   walks = walked 𝓤 H A pt.ended stayed (pt.clauses 𝓤 H A mem run) (WpFn 𝓤 H (𝓣 .C) (𝓣 .Λ) code.function) (λ κs. (slice-vals, (spelled, (uint-vals w64, (slice-vals, (slice-vals, tt))))))
-      (λ κs. (shr-slice-tells (named 0) (κs .0) u8, (array-tells R (LL.vals T.the-type T′.the-laws) (LL.tells T.the-type T′.the-laws) rows, (uint-tells w64, (shr-slice-tells (named 1) (κs .1 .0) u8, (mut-slice-tells (named 2) (κs .1 .1 .0) u8, tt))))))
-      (λ κs qs bounds a g are. needs 𝓤 (a .1 .1 .0 ≤ rows) _ (λ p.
+      (λ κs. (shr-slice-tells (named 0) (κs .0) u8, (array-tells R (LL.vals T.the-type T′.the-laws) (LL.tells T.the-type T′.the-laws) tableRows, (uint-tells w64, (shr-slice-tells (named 1) (κs .1 .0) u8, (mut-slice-tells (named 2) (κs .1 .1 .0) u8, tt))))))
+      (λ κs qs bounds a g are. needs 𝓤 (a .1 .1 .0 ≤ tableRows) _ (λ p.
       walk 𝓤 H A W mem run (κs .0) (κs .1 .0) (κs .1 .1 .0) (qs .0) (qs .1 .0) (qs .1 .1 .0) (a .0) (a .1 .0) (a .1 .1 .0) (a .1 .1 .1 .0) (a .1 .1 .1 .1 .0)
       (are .0 .0 .1) (are .1 .0) p (are .1 .1 .1 .0 .0 .1) (are .1 .1 .1 .1 .0 .0 .1) 𝓣 known))
 

@@ -4,14 +4,8 @@ use borrow.Author.Needs.{needs}
 use Rattle.tour_sheet.proofs.means.show.Statement.{statement}
 use Rattle.tour_sheet.proofs.means.show.Tie as tie
 
-mean-requires : tie.Need-mean-requires
-mean-requires c κs = search needs
-
 line-requires : tie.Need-line-requires
 line-requires c κs = rw (c .mean .ensures) (mean-numeric _ _)
 
-returns : tie.Need-returns
-returns c = search needs
-
 pub show-spec : {M : Type 1} → statement M
-show-spec = tie.close (tie.spec mean-requires line-requires returns)
+show-spec = tie.close (tie.spec (λ c κs. search needs) line-requires (λ c. search needs))

@@ -1,3 +1,0 @@
--- The fields of a layout with their places, and what is claimed of them.
-pub mod Placed
-pub mod Claim

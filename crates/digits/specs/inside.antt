@@ -1,0 +1,5 @@
+-- Contracts between inner functions: nothing that a reader of the calls and claims has to believe.
+pub mod Numerals
+pub mod bytes
+pub mod chars
+pub mod store

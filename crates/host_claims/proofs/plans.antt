@@ -1,3 +1,0 @@
--- The claims proved.
-pub mod Stands
-pub mod Later

@@ -1,3 +1,0 @@
--- What reading for a C host means.
-pub mod Calls
-pub mod Claims

@@ -1,3 +1,0 @@
--- What the deciding functions promise.
-pub mod Sizes
-pub mod Checks

@@ -1,3 +1,0 @@
--- What contracts of this crate cite.
-pub mod Run
-pub mod Bounds

@@ -1,3 +1,0 @@
--- The worked examples of sheets hold.
-pub mod Examples
-mod Instance

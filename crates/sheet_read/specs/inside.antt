@@ -1,0 +1,4 @@
+-- Contracts between inner functions: nothing that a reader of the calls and claims has to believe.
+pub mod Steps
+pub mod check
+pub mod fill
