@@ -1,9 +1,10 @@
--- What a call is refused with (document 01, "Numbers that come back"): the numbers, and checks one after the other.
--- The type Refusal is the source's: a case for each line of the table, in its order.
+-- What a call is refused with: the numbers, and checks one after the other. The first eleven are those of document 01,
+-- "Numbers that come back"; those of the requests (02) follow, and the last two are those of `extends`. The type Refusal
+-- is the source's: a case for each line of the table in include/curlew.h, in its order.
 use Prim.Native.Nat.{ℕ, suc}
 use mathlib.Core.Bool.{Bool, true, false}
 use Rattle.layout.specs.declared.Refusal.{Refusal}
-use Rattle.layout.specs.declared.Refusal.the-variants.{BadSize, BadType, BadCount, BadMove, BadSlots, NotSet, BadSlot, WrongKind, BadList, BadDigit, NoRoom, BadSheet, BadVersion, BadMark, BadTemplate, BadReal}
+use Rattle.layout.specs.declared.Refusal.the-variants.{BadSize, BadType, BadCount, BadMove, BadSlots, NotSet, BadSlot, WrongKind, BadList, BadDigit, NoRoom, BadSheet, BadVersion, BadMark, BadTemplate, BadReal, OtherFields, NotPlain}
 
 infixr 10 if_then_else_
 abbrev pub if_then_else_ {ℓ} : {A : Type ℓ} → Bool → A → A → A
@@ -28,6 +29,8 @@ lineOf BadVersion = 12
 lineOf BadMark = 13
 lineOf BadTemplate = 14
 lineOf BadReal = 15
+lineOf OtherFields = 16
+lineOf NotPlain = 17
 
 -- the number of a refusal: 0 is that of an accepted call, so the first line has 1
 abbrev pub numberOf : Refusal → ℕ

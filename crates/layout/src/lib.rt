@@ -108,7 +108,7 @@ pub enum Role {
     Move(Motion),
 }
 
-// What a call is refused with, in the order of the numbers (01, Numbers that come back).
+// What a call is refused with, in the order of the numbers (the table in include/curlew.h).
 pub enum Refusal {
     BadSize,
     BadType,
@@ -126,6 +126,8 @@ pub enum Refusal {
     BadMark,
     BadTemplate,
     BadReal,
+    OtherFields,
+    NotPlain,
 }
 
 pub enum Count {

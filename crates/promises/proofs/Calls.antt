@@ -10,19 +10,18 @@ use Rattle.layout.specs.declared.Field.{Field}
 use Rattle.layout.specs.declared.Parsed.{Parsed}
 use Rattle.layout.specs.declared.Parsed.the-variants.{Fields, Refused}
 use Rattle.layout.specs.declared.Refusal.{Refusal}
-use Rattle.layout.specs.declared.Refusal.the-variants.{BadSize, BadSlots, NoRoom}
-use Rattle.layout.specs.Refusals.{numberOf, ok, refused}
+use Rattle.layout.specs.declared.Refusal.the-variants.{BadSize, BadSlots, NoRoom, OtherFields, NotPlain}
+use Rattle.layout.specs.Refusals.{ok, refused}
 use Rattle.layout.specs.Layout.{maxLayout, fieldsOf}
 use Rattle.layout.specs.inside.Parsing.{decoded, Parses}
 use Rattle.layout.proofs.Laws.{ok-inj}
 use Rattle.layout.proofs.Decoded.{decoded-length, Learnt, parsed-fields, parsed-refused}
 use Rattle.layout.proofs.Places.{refused-inside}
-use Rattle.record.specs.Packing.{refusal}
 use Rattle.promises.specs.declared.Promise.{Promise}
 use Rattle.promises.specs.declared.Promise.the-variants.{Grows, Keeps, Joins, Plain, Slots, Room}
 use Rattle.promises.specs.declared.Told.{Told}
 use Rattle.promises.specs.Placed.{Placed, fieldsIn, placedFields}
-use Rattle.promises.specs.Promises.{reachStart, nowhere, firstDifference, told, layoutFields, promised, fieldsDiffer, notPlain, refusedNew, grown, extendedBy, extended}
+use Rattle.promises.specs.Promises.{reachStart, nowhere, firstDifference, told, refusedIn, layoutFields, promised, grown, extendedBy, extended}
 use Rattle.promises.specs.inside.Walk.{keptFront, sameFront, PlaceOf, Holds, ReadAs, BreaksAt, GrownAs}
 use Rattle.promises.proofs.Places.{Placing, placing, placed-fields, placed-refused}
 use Rattle.promises.proofs.Fronts.{break-none, break-at, differ-none, differ-at, front-few}
@@ -82,7 +81,7 @@ module _ (text : List ℕ) (n : ℕ) (ws : List ℕ) (h : Holds text n ws) where
     front : (ps : List Placed) → placedFields text ≡ ok ps → k ≡ sameFront fs (fieldsIn ps)
     front ps e = rw (codes-fields ps e) same
 
-    pub grown-differs : (r : ℕ) → k < length fs → PlaceOf text k r → GrownAs text fs (refusedNew fieldsDiffer r)
+    pub grown-differs : (r : ℕ) → k < length fs → PlaceOf text k r → GrownAs text fs (refusedIn 1 OtherFields r)
     unfolding grown
     grown-differs r l p ps e =
         let first : firstDifference (length text) fs ps ≡ r =
@@ -96,17 +95,17 @@ module _ (text : List ℕ) (n : ℕ) (ws : List ℕ) (h : Holds text n ws) where
       alike ps e = differ-none (length text) fs ps (omega (arith, front ps e))
 
       module _ (a : ℕ) (plain : BreaksAt text Plain a) where
-        pub grown-breaks : (a ≡ nowhere → ⊥) → GrownAs text fs (refusedNew notPlain a)
+        pub grown-breaks : (a ≡ nowhere → ⊥) → GrownAs text fs (refusedIn 1 NotPlain a)
         unfolding grown
         grown-breaks some ps e = rw (alike ps e, ← plain ps e, ne-eqb a nowhere some)
 
         module _ (no-a : a ≡ nowhere) (b : ℕ) (slots : BreaksAt text Slots b) where
-          pub grown-slots : (b ≡ nowhere → ⊥) → GrownAs text fs (refusedNew (numberOf BadSlots) b)
+          pub grown-slots : (b ≡ nowhere → ⊥) → GrownAs text fs (refusedIn 1 BadSlots b)
           unfolding grown
           grown-slots some ps e = rw (alike ps e, ← plain ps e, no-a, ← slots ps e, ne-eqb b nowhere some)
 
           module _ (no-b : b ≡ nowhere) (c : ℕ) (room : BreaksAt text Room c) where
-            pub grown-room : (c ≡ nowhere → ⊥) → GrownAs text fs (refusedNew (numberOf NoRoom) c)
+            pub grown-room : (c ≡ nowhere → ⊥) → GrownAs text fs (refusedIn 1 NoRoom c)
             unfolding grown
             grown-room some ps e =
                 rw (alike ps e, ← plain ps e, no-a, ← slots ps e, no-b, ← room ps e, ne-eqb c nowhere some)
@@ -122,7 +121,7 @@ module _ (text : List ℕ) (n : ℕ) (ws : List ℕ) (h : Holds text n ws) where
 -- ---- the calls
 
 module _ (layout : List ℕ) where
-  pub promises-refused : (why : Refusal) (place : ℕ) → layoutFields layout ≡ refused why place → record { answer = refusal why place; fourth = 0 } ≡ promised layout
+  pub promises-refused : (why : Refusal) (place : ℕ) → layoutFields layout ≡ refused why place → refusedIn 0 why place ≡ promised layout
   unfolding promised
   promises-refused why place e = rw e
 
@@ -134,7 +133,7 @@ module _ (layout : List ℕ) where
       rw (layout-placed layout n ws h (w .placed) (w .here), p (w .placed) (w .here), q (w .placed) (w .here), r (w .placed) (w .here))
 
 module _ (fs : List Field) (new : List ℕ) where
-  pub by-refused : (why : Refusal) (place : ℕ) → layoutFields new ≡ refused why place → record { answer = refusal why place; fourth = 1 } ≡ extendedBy fs new
+  pub by-refused : (why : Refusal) (place : ℕ) → layoutFields new ≡ refused why place → refusedIn 1 why place ≡ extendedBy fs new
   unfolding extendedBy
   by-refused why place e = rw e
 
@@ -145,7 +144,7 @@ module _ (fs : List Field) (new : List ℕ) where
       g (w .placed) (w .here) ∙ rw (layout-placed new n ws h (w .placed) (w .here))
 
 module _ (old new : List ℕ) where
-  pub extends-refused : (why : Refusal) (place : ℕ) → layoutFields old ≡ refused why place → record { answer = refusal why place; fourth = 0 } ≡ extended old new
+  pub extends-refused : (why : Refusal) (place : ℕ) → layoutFields old ≡ refused why place → refusedIn 0 why place ≡ extended old new
   unfolding extended
   extends-refused why place e = rw e
 

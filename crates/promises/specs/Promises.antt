@@ -12,8 +12,9 @@ use Rattle.layout.specs.declared.Shape.the-variants.{Text, Digits, Integers, Re
 use Rattle.layout.specs.declared.Count.{Count}
 use Rattle.layout.specs.declared.Count.the-variants.{Absent, Star, Times}
 use Rattle.layout.specs.declared.Field.{Field}
-use Rattle.layout.specs.declared.Refusal.the-variants.{BadSize, BadSlots, NoRoom}
-use Rattle.layout.specs.Refusals.{if_then_else_, numberOf, Result, ok, refused, _>>=_, demand}
+use Rattle.layout.specs.declared.Refusal.{Refusal}
+use Rattle.layout.specs.declared.Refusal.the-variants.{BadSize, BadSlots, NoRoom, OtherFields, NotPlain}
+use Rattle.layout.specs.Refusals.{if_then_else_, Result, ok, refused, _>>=_, demand}
 use Rattle.layout.specs.Layout.{maxLayout, toNat, slotsTaken}
 use Rattle.record.specs.Table.{maxSlots, maxRecord}
 use Rattle.record.specs.Packing.{accepted, refusal}
@@ -129,6 +130,15 @@ firstDifference end (f ∷ fs) (p ∷ ps) = if sameField f (p .what) then firstD
 abbrev pub told : ℕ → ℕ → ℕ → Told
 told first second third = record { answer = accepted first second; fourth = third }
 
+-- a refusal: its place lies in the layout that the fourth number says, 1 for the new layout of `extends` and else 0
+abbrev pub refusedIn : ℕ → Refusal → ℕ → Told
+refusedIn which why place = record { answer = refusal why place; fourth = which }
+
+-- what is answered of a layout that has been judged, or its refusal
+abbrev pub inLayout : ℕ → Result Told → Told
+inLayout which (ok t) = t
+inLayout which (refused why place) = refusedIn which why place
+
 -- the fields of a layout, or the refusal that packing by it would give: 1, then 2, 3 and 4
 unfoldable pub layoutFields : List ℕ → Result (List Placed)
 unfolding placedFields
@@ -136,51 +146,40 @@ layoutFields layout = do
   _ ← demand (leb (length layout) maxLayout) BadSize 0
   placedFields layout
 
--- goes on with the fields of a layout; where it is refused, the fourth number says which layout it was
-abbrev pub inLayout : ℕ → Result (List Placed) → (List Placed → Told) → Told
-inLayout which (ok ps) next = next ps
-inLayout which (refused why place) next = record { answer = refusal why place; fourth = which }
-
 -- ---- the calls
 
 -- what is answered of a layout: 0 and three places, where it breaks the promise to grow, to keep everything, to be
 -- joined
 unfoldable pub promised : List ℕ → Told
 unfolding layoutFields firstBreak
-promised layout =
-    inLayout 0 (layoutFields layout) (λ ps. told (firstBreak Grows ps) (firstBreak Keeps ps) (firstBreak Joins ps))
+promised layout = inLayout 0 do
+  ps ← layoutFields layout
+  ok (told (firstBreak Grows ps) (firstBreak Keeps ps) (firstBreak Joins ps))
 
--- the two refusals of `extends` that no other call has; their numbers follow those of crates/layout/specs/Refusals.antt
-abbrev pub fieldsDiffer : ℕ
-fieldsDiffer = 17
-
-abbrev pub notPlain : ℕ
-notPlain = 18
-
--- a refusal of the new layout, which is number 1 (the old one is number 0)
-abbrev pub refusedNew : ℕ → ℕ → Told
-refusedNew number place = record { answer = record { number = number; first = place; second = 0 }; fourth = 1 }
-
--- refuses the new layout at a place, and goes on where there is none
-abbrev pub refusedAt : ℕ → ℕ → Told → Told
-refusedAt number place next = if eqb place nowhere then next else refusedNew number place
+-- one check: refuses at a place, and passes where there is none
+abbrev pub refuseAt : Refusal → ℕ → Result (Unit {0})
+refuseAt why place = demand (eqb place nowhere) why place
 
 -- What is answered of the old layout's fields and the new one's, whose text has `end` bytes: 17, 18, 5 and 11 in this
 -- order; or 0, the old fields, the fields added, 0.
-unfoldable pub grown : ℕ → List Field → List Placed → Told
+unfoldable pub grown : ℕ → List Field → List Placed → Result Told
 unfolding firstDifference firstBreak
-grown end fs ps =
-    refusedAt fieldsDiffer (firstDifference end fs ps)
-    (refusedAt notPlain (firstBreak Plain ps)
-    (refusedAt (numberOf BadSlots) (firstBreak Slots ps)
-    (refusedAt (numberOf NoRoom) (firstBreak Room ps)
-    (told (length fs) (length ps - length fs) 0))))
+grown end fs ps = do
+  _ ← refuseAt OtherFields (firstDifference end fs ps)
+  _ ← refuseAt NotPlain (firstBreak Plain ps)
+  _ ← refuseAt BadSlots (firstBreak Slots ps)
+  _ ← refuseAt NoRoom (firstBreak Room ps)
+  ok (told (length fs) (length ps - length fs) 0)
 
 -- what is answered of the old layout's fields and the new text, once that is read
 unfoldable pub extendedBy : List Field → List ℕ → Told
 unfolding layoutFields grown
-extendedBy fs new = inLayout 1 (layoutFields new) (λ ps. grown (length new) fs ps)
+extendedBy fs new = inLayout 1 do
+  ps ← layoutFields new
+  grown (length new) fs ps
 
 unfoldable pub extended : List ℕ → List ℕ → Told
 unfolding layoutFields extendedBy
-extended old new = inLayout 0 (layoutFields old) (λ os. extendedBy (fieldsIn os) new)
+extended old new = inLayout 0 do
+  os ← layoutFields old
+  ok (extendedBy (fieldsIn os) new)

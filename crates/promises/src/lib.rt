@@ -11,10 +11,9 @@ ghost use Rattle.layout.specs.Lent.{before, after};
 ghost use Rattle.layout.specs.Layout.{maxLayout, takesSlot, toNat};
 ghost use Rattle.layout.specs.Codes.{fieldOf};
 ghost use Rattle.layout.specs.inside.Parsing.{FitRole, FitCount, decoded};
-ghost use Rattle.record.specs.Packing.{refusal};
 ghost use Rattle.runs.specs.Ends.{plainRole, plainCount, fills};
 ghost use Rattle.lossless.specs.Claim.{showsAll, losslessRole};
-ghost use Rattle.promises.specs.Promises.{reachStart, reachWith, plainField, losslessField, slotsInTable, endInRecord, inLimits, keptBy, sameField, told, refusedNew, promised, extendedBy, extended};
+ghost use Rattle.promises.specs.Promises.{reachStart, reachWith, plainField, losslessField, slotsInTable, endInRecord, inLimits, keptBy, sameField, told, refusedIn, promised, extendedBy, extended};
 ghost use Rattle.promises.specs.inside.Walk.{keptFront, codeReach, codesReach, sameFront, typeIn, PlaceOf, Holds, ReadAs, BreaksAt, GrownAs};
 use layout::Count;
 use layout::Field;
@@ -53,11 +52,6 @@ pub struct Told {
 
 // What stands for a place where there is none.
 const NOWHERE: u32 = 4294967295;
-
-// The numbers of the two refusals that `extends` alone gives.
-const FIELDS_DIFFER: u32 = 17;
-
-const NOT_PLAIN: u32 = 18;
 
 // ---- how far a layout has come
 
@@ -338,27 +332,13 @@ impl Told {
         }
     }
 
-    // A refusal that other calls give too; `which` says in which layout its place lies.
+    // `which` says in which layout the place lies.
     fn refused(why: Refusal, place: u32, which: u32) -> Told
-        ensures { λ r. ⌜ r ≡ record { answer = refusal why place; fourth = which } ⌝ }
+        ensures { λ r. ⌜ r ≡ refusedIn which why place ⌝ }
     {
         Told {
             answer: Answer::refused(why, place),
             fourth: which,
-        }
-    }
-
-    // A refusal of the new layout that no other call gives.
-    fn refused_new(number: u32, place: u32) -> Told
-        ensures { λ r. ⌜ r ≡ refusedNew number place ⌝ }
-    {
-        Told {
-            answer: Answer {
-                number: number,
-                first: place,
-                second: 0,
-            },
-            fourth: 1,
         }
     }
 }
@@ -401,11 +381,11 @@ fn grown(old: &[u32], m: usize, text: &[u8], new: &[u32], n: usize) -> Told
 {
     let k = same_front(old, m, new, n);
     if k < m {
-        return Told::refused_new(FIELDS_DIFFER, place_of(text, k) as u32);
+        return Told::refused(Refusal::OtherFields, place_of(text, k) as u32, 1);
     }
     let plain = first_break(text, new, n, Promise::Plain);
     if plain != NOWHERE {
-        return Told::refused_new(NOT_PLAIN, plain);
+        return Told::refused(Refusal::NotPlain, plain, 1);
     }
     let slots = first_break(text, new, n, Promise::Slots);
     if slots != NOWHERE {

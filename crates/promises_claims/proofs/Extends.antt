@@ -10,10 +10,11 @@ use lib.ListN.{length, length-append, length-map}
 use lib.Dec.{T, eqb}
 use borrow.Author.Tests.{eqb-true}
 use Rattle.layout.specs.declared.Field.{Field}
-use Rattle.layout.specs.declared.Refusal.the-variants.{BadSlots, NoRoom}
-use Rattle.layout.specs.Refusals.{if_then_else_, numberOf, Result, ok, refused}
+use Rattle.layout.specs.declared.Refusal.{Refusal}
+use Rattle.layout.specs.declared.Refusal.the-variants.{BadSlots, NoRoom, OtherFields, NotPlain}
+use Rattle.layout.specs.Refusals.{if_then_else_, Result, ok, _>>=_}
 use Rattle.layout.specs.Layout.{maxLayout}
-use Rattle.layout.proofs.Laws.{ok-inj, no-number-zero}
+use Rattle.layout.proofs.Laws.{ok-inj, bound, demanded}
 use Rattle.layout.proofs.Decoded.{count-append}
 use Rattle.layout.proofs.Joining.{joined-fields}
 use Rattle.runs.proofs.Calls.{T→true}
@@ -23,12 +24,12 @@ use Rattle.promises.specs.declared.Promise.{Promise}
 use Rattle.promises.specs.declared.Promise.the-variants.{Plain, Slots, Room}
 use Rattle.promises.specs.declared.Told.{Told}
 use Rattle.promises.specs.Placed.{Placed, fieldsIn}
-use Rattle.promises.specs.Promises.{reachStart, plainField, nowhere, firstBreak, sameField, firstDifference, told, layoutFields, inLayout, refusedNew, refusedAt, fieldsDiffer, notPlain, grown, extendedBy, extended}
+use Rattle.promises.specs.Promises.{reachStart, plainField, nowhere, firstBreak, sameField, firstDifference, told, layoutFields, refuseAt, grown, extendedBy, extended}
 use Rattle.promises.proofs.Same.{same-equal, same-itself}
 use Rattle.promises_claims.specs.Claim.{Stand, SameFields, Accepted, Limited, Extension, layoutsOf, Extends, GrowsItself, GrowsBy}
 use Rattle.promises_claims.proofs.Kept.{true→T, allKeep, unbroken, slots-kept, room-kept, plain-kept}
 use Rattle.promises_claims.proofs.NotEmpty.{end-append, not-empty, spoken, speaks}
-use Rattle.promises_claims.proofs.Promises.{Found, found, Opened, opened, promises-hold}
+use Rattle.promises_claims.proofs.Promises.{Found, found, Opened, opened, not-refused, promises-hold}
 
 -- ---- the old fields and others after them
 
@@ -73,33 +74,28 @@ record Passed (fs : List Field) (new : List ℕ) : Type 0 where
   room : firstBreak Room placed ≡ nowhere
 
 -- a place that is not refused is none
-no-place : (number place : ℕ) (next : Told) → (number ≡ 0 → ⊥) → refusedAt number place next .answer .number ≡ 0
-    → (place ≡ nowhere) × (next .answer .number ≡ 0)
-no-place number place next some = go (eqb place nowhere) refl
-  where
-    go : (t : Bool) → eqb place nowhere ≡ t → (if t then next else refusedNew number place) .answer .number ≡ 0
-        → (place ≡ nowhere) × (next .answer .number ≡ 0)
-    go true e k = (eqb-true place nowhere e, k)
-    go false e k = absurd (some k)
+no-place : (why : Refusal) (place : ℕ) (next : Unit {0} → Result Told) (t : Told) → (refuseAt why place >>= next) ≡ ok t
+    → (place ≡ nowhere) × (next tt ≡ ok t)
+no-place why place next t e =
+    let (none, rest) = demanded (eqb place nowhere) why place next t e in
+    (eqb-true place nowhere none, rest)
 
-passed : (fs : List Field) (new : List ℕ) (ps : List Placed) → layoutFields new ≡ ok ps
-    → grown (length new) fs ps .answer .number ≡ 0 → Passed fs new
+passed : (fs : List Field) (new : List ℕ) (ps : List Placed) (t : Told) → layoutFields new ≡ ok ps
+    → grown (length new) fs ps ≡ ok t → Passed fs new
 unfolding grown
-passed fs new ps e z =
-    let (alike, z₁) =
-    no-place fieldsDiffer (firstDifference (length new) fs ps) _ (λ (k : fieldsDiffer ≡ 0). omega arith) z in
-    let (plain, z₂) = no-place notPlain (firstBreak Plain ps) _ (λ (k : notPlain ≡ 0). omega arith) z₁ in
-    let (slots, z₃) = no-place (numberOf BadSlots) (firstBreak Slots ps) _ (no-number-zero BadSlots) z₂ in
-    let (room, z₄) = no-place (numberOf NoRoom) (firstBreak Room ps) _ (no-number-zero NoRoom) z₃ in
+passed fs new ps t e z =
+    let (alike, z₁) = no-place OtherFields (firstDifference (length new) fs ps) _ t z in
+    let (plain, z₂) = no-place NotPlain (firstBreak Plain ps) _ t z₁ in
+    let (slots, z₃) = no-place BadSlots (firstBreak Slots ps) _ t z₂ in
+    let (room, z₄) = no-place NoRoom (firstBreak Room ps) _ t z₃ in
     record { placed = ps; whole = e; alike = alike; plain = plain; slots = slots; room = room }
 
 passed-by : (fs : List Field) (new : List ℕ) → extendedBy fs new .answer .number ≡ 0 → Passed fs new
 unfolding extendedBy
-passed-by fs new z = go (layoutFields new) refl z
-  where
-    go : (r : Result (List Placed)) → layoutFields new ≡ r → inLayout 1 r (λ ps. grown (length new) fs ps) .answer .number ≡ 0 → Passed fs new
-    go (ok ps) e k = passed fs new ps e k
-    go (refused why place) e k = no-number-zero why k
+passed-by fs new z =
+    let (t, e, zero) = not-refused 1 (layoutFields new >>= grown (length new) fs) z in
+    let (ps, whole, rest) = bound (layoutFields new) (grown (length new) fs) t e in
+    passed fs new ps t whole rest
 
 module _ (old new : List ℕ) where
   -- ---- from the answer to the layouts
@@ -129,11 +125,12 @@ module _ (old new : List ℕ) where
 
   pub extension-by : extended old new .answer .number ≡ 0 → Extension old new
   unfolding extended
-  extension-by z = go (layoutFields old) refl z
-    where
-      go : (r : Result (List Placed)) → layoutFields old ≡ r → inLayout 0 r (λ os. extendedBy (fieldsIn os) new) .answer .number ≡ 0 → Extension old new
-      go (ok os) e k = extension os e (passed-by (fieldsIn os) new k)
-      go (refused why place) e k = no-number-zero why k
+  extension-by z =
+      let next : List Placed → Result Told = λ os. ok (extendedBy (fieldsIn os) new) in
+      let (t, e, zero) = not-refused 0 (layoutFields old >>= next) z in
+      let (os, whole, rest) = bound (layoutFields old) next t e in
+      let is : extendedBy (fieldsIn os) new ≡ t = ok-inj rest in
+      extension os whole (passed-by (fieldsIn os) new (ap (λ x. x .answer .number) is ∙ zero))
 
   -- ---- and back
 

@@ -9,9 +9,9 @@ use lib.Dec.{T, leb}
 use borrow.Author.Tests.{le-leb, leb-true}
 use Rattle.layout.specs.declared.Field.{Field}
 use Rattle.layout.specs.declared.Refusal.the-variants.{BadSize}
-use Rattle.layout.specs.Refusals.{Result, ok, refused}
+use Rattle.layout.specs.Refusals.{Result, ok, refused, _>>=_}
 use Rattle.layout.specs.Layout.{maxLayout, fieldsOf}
-use Rattle.layout.proofs.Laws.{demanded, no-number-zero}
+use Rattle.layout.proofs.Laws.{bound, demanded, no-number-zero}
 use Rattle.record.specs.Packing.{pack, packs}
 use Rattle.record.proofs.Sizes.{Sized, sized}
 use Rattle.runs.proofs.Calls.{T→true, packs-passed, accepted-result}
@@ -22,8 +22,9 @@ use Rattle.joining.specs.Claim.{forward, Part}
 use Rattle.joining.proofs.Joining.{joins}
 use Rattle.promises.specs.declared.Promise.{Promise}
 use Rattle.promises.specs.declared.Promise.the-variants.{Grows, Keeps, Joins}
+use Rattle.promises.specs.declared.Told.{Told}
 use Rattle.promises.specs.Placed.{Placed, fieldsIn, placedFields}
-use Rattle.promises.specs.Promises.{reachStart, nowhere, firstBreak, told, layoutFields, inLayout, promised}
+use Rattle.promises.specs.Promises.{reachStart, nowhere, firstBreak, told, inLayout, layoutFields, promised}
 use Rattle.promises.proofs.Places.{Placing, placing, placed-fields}
 use Rattle.promises_claims.specs.Claim.{_⇔_, Stand, Accepted, Packing, Limited, KeepsAll, Archivable, Promises}
 use Rattle.promises_claims.proofs.Places.{stands}
@@ -58,6 +59,11 @@ opened layout ps e =
     let (t, k) = demanded (leb (length layout) maxLayout) BadSize 0 (λ _. placedFields layout) ps e in
     record { short = leb-true (length layout) maxLayout t; fields = placed-fields layout ps k; stand = stands layout ps k }
 
+-- what is answered with 0 was not refused
+pub not-refused : (which : ℕ) (r : Result Told) → inLayout which r .answer .number ≡ 0 → (t : Told) × (r ≡ ok t) × (t .answer .number ≡ 0)
+not-refused which (ok t) z = (t, refl, z)
+not-refused which (refused why place) z = no-number-zero why z
+
 module _ (layout : List ℕ) where
   module _ (a : Accepted layout) where
     f : Found layout (a .fields)
@@ -89,12 +95,13 @@ module _ (layout : List ℕ) where
 
   accepted-by : promised layout .answer .number ≡ 0 → Accepted layout
   unfolding promised
-  accepted-by z = go (layoutFields layout) refl z
-    where
-      go : (r : Result (List Placed)) → layoutFields layout ≡ r
-          → inLayout 0 r (λ ps. told (firstBreak Grows ps) (firstBreak Keeps ps) (firstBreak Joins ps)) .answer .number ≡ 0 → Accepted layout
-      go (ok ps) e k = let o : Opened layout ps = opened layout ps e in record { fields = fieldsIn ps; short = o .short; has-fields = o .fields }
-      go (refused why place) e k = no-number-zero why k
+  accepted-by z =
+      let tell : List Placed → Result Told =
+      λ ps. ok (told (firstBreak Grows ps) (firstBreak Keeps ps) (firstBreak Joins ps)) in
+      let (t, e, zero) = not-refused 0 (layoutFields layout >>= tell) z in
+      let (ps, whole, rest) = bound (layoutFields layout) tell t e in
+      let o : Opened layout ps = opened layout ps whole in
+      record { fields = fieldsIn ps; short = o .short; has-fields = o .fields }
 
 -- a packing that is accepted has read its layout
 packed-by : (layout area : List ℕ) → Packing layout area → Accepted layout

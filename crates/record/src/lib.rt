@@ -64,6 +64,8 @@ fn line_of(why: Refusal) -> u8
         Refusal::BadMark => 13,
         Refusal::BadTemplate => 14,
         Refusal::BadReal => 15,
+        Refusal::OtherFields => 16,
+        Refusal::NotPlain => 17,
     }
 }
 

@@ -24,14 +24,14 @@ enough c = omega (arith, long (c .before .before .before .before .before), c .if
 returns : tie.Need-returns
 returns c =
     let same = c .before .before .before in
-    rw (c .refused-new .ensures)
+    rw (c .refused .ensures)
     (grown-differs _ _ _ (same .before .before .before .before .pre .2) _ _ (same .same-front .ensures) _ (fewer (c .before .before)) (c .before .place-of .ensures))
 
 returns-2 : tie.Need-returns-2
 returns-2 c =
     let plain = c .before .before in
     let same = plain .before .before in
-    rw (c .refused-new2 .ensures)
+    rw (c .refused2 .ensures)
     (grown-breaks _ _ _ (same .before .before .before .before .pre .2) _ _ (same .same-front .ensures)
     (enough (plain .before)) _ (plain .first-break .ensures) (c .before .if2 .taken))
 
@@ -40,7 +40,7 @@ returns-3 c =
     let slots = c .before .before in
     let plain = slots .before .before in
     let same = plain .before .before in
-    rw (c .refused .ensures)
+    rw (c .refused3 .ensures)
     (grown-slots _ _ _ (same .before .before .before .before .pre .2) _ _ (same .same-front .ensures)
     (enough (plain .before)) _ (plain .first-break .ensures) (slots .before .if2 .left)
     _ (slots .first-break2 .ensures) (c .before .if3 .taken))
@@ -51,7 +51,7 @@ returns-4 c =
     let slots = room .before .before in
     let plain = slots .before .before in
     let same = plain .before .before in
-    rw (c .refused2 .ensures)
+    rw (c .refused4 .ensures)
     (grown-room _ _ _ (same .before .before .before .before .pre .2) _ _ (same .same-front .ensures)
     (enough (plain .before)) _ (plain .first-break .ensures) (slots .before .if2 .left)
     _ (slots .first-break2 .ensures) (room .before .if3 .left) _ (room .first-break3 .ensures) (c .before .if4 .taken))

@@ -20,7 +20,7 @@ use Rattle.promises.specs.declared.Promise.{Promise}
 use Rattle.promises.specs.declared.Reach.{Reach}
 use Rattle.promises.specs.declared.Told.{Told}
 use Rattle.promises.specs.Placed.{Placed, placedFields, placeOf}
-use Rattle.promises.specs.Promises.{reachWith, keptBy, firstBreak, sameField, layoutFields, grown}
+use Rattle.promises.specs.Promises.{reachWith, keptBy, firstBreak, sameField, inLayout, layoutFields, grown}
 
 -- how many fields at the front keep a promise, where the fields before have come as far as r
 unfoldable pub keptFront : Promise → Reach → List Field → ℕ
@@ -75,4 +75,4 @@ BreaksAt text q r = (ps : List Placed) → placedFields text ≡ ok ps → r ≡
 
 -- r is what is answered of the old fields and of the fields of the new text
 abbrev pub GrownAs : List ℕ → List Field → Told → Type 0
-GrownAs text fs r = (ps : List Placed) → placedFields text ≡ ok ps → r ≡ grown (length text) fs ps
+GrownAs text fs r = (ps : List Placed) → placedFields text ≡ ok ps → r ≡ inLayout 1 (grown (length text) fs ps)
