@@ -2,11 +2,13 @@
 // record; or the refusal and its place. Then what is proved of layouts: a line for each, with the four numbers of the
 // answer. Then their fields: 0, fields, 0, and below it a line for each row, in which `-` stands for no count, no slot
 // and what is open, and `*` for a star.
+use super::lists;
+use super::lists::Show;
 use byte_runs::big_endian;
 use describe::fields;
 use promises::Told;
-use tour_text::lines;
 use tour_text::print;
+use tour_text::print::Style;
 
 fn show(layout: &[u8], told: &[u8]) {
     let a = describe::describe(layout);
@@ -29,15 +31,15 @@ fn promises(layout: &[u8]) {
     told(t);
 }
 
-// Asks whether one layout extends another: the old one, a bar, and the new one.
-fn extends(pair: &[u8]) {
-    let bar = lines::find(pair, 0, b'|');
-    if bar < pair.len() {
-        let new = bar + 1;
-        let t = promises::extends(&pair[0..bar], &pair[new..]);
-        print::call(b"extends", pair);
-        told(t);
-    }
+// Asks whether a new layout extends an old one.
+fn extends(old: &[u8], new: &[u8]) {
+    let t = promises::extends(old, new);
+    print::text(b"extends '");
+    print::bytes(old, Style::Escaped);
+    print::text(b"|");
+    print::bytes(new, Style::Escaped);
+    print::text(b"'");
+    told(t);
 }
 
 // The eight numbers of a row, each four bytes.
@@ -109,65 +111,48 @@ fn list(layout: &[u8], run: &mut [u8], told: &[u8]) {
     print::text(b"\n");
 }
 
-fn example(kind: u8, rest: &[u8]) {
+// An example: `d` and a layout that is described, `f` and one whose fields are listed, `s` and one whose fields are
+// listed in a run that holds one row, `p` and one whose promises are asked for, or `e`, an old layout and a new one.
+pub fn example(kind: u8, layout: &[u8], rest: &[u8]) {
     match kind {
-        b'h' => print::heading(rest),
-        b'd' => show(rest, b""),
-        b'p' => promises(rest),
-        b'e' => extends(rest),
-        b'f' => list(rest, &mut [170; 16 * ROW_SIZE], b""),
-        b's' => list(rest, &mut [170; 2 * ROW_SIZE - 1], b"run of 63 bytes"),
+        b'd' => show(layout, b""),
+        b'p' => promises(layout),
+        b'e' => extends(layout, rest),
+        b'f' => list(layout, &mut [170; 16 * ROW_SIZE], b""),
+        b's' => list(layout, &mut [170; 2 * ROW_SIZE - 1], b"run of 63 bytes"),
         _ => (),
     }
 }
 
-fn line(text: &[u8]) {
-    if text.len() < 2 {
-        return;
-    }
-    example(text[0], &text[2..]);
-}
-
-fn run(list: &[u8]) {
-    let mut at = 0;
-    while at < list.len() {
-        let end = lines::find(list, at, b'\n');
-        line(&list[at..end]);
-        at = end + 1;
-    }
-}
-
-// Lists, one example a line: `d` and a layout that is described, `f` and one whose fields are listed, `s` and one whose
-// fields are listed in a run that holds one row, `p` and one whose promises are asked for, `e` and an old layout and a
-// new one, or `h` and a heading. A line of no such letter is no example.
 fn counts() {
-    run(
+    lists::run(
+        Show::Layouts,
         b"
-h Layouts described: layout -> 0, slots, length
-d\x20
-d\x20\x20\x20
-d A8 S2
-d a8 A20 Su Iu c6
-d B9 H3 b
-d wW2i3
-d rQ2
-h\x20
-h Stars
-d a*
-d a*S2b*
-d cu*x3
-h\x20
-h Moves
+h |Layouts described: layout -> 0, slots, length
+d |
+d   |
+d A8 S2|
+d a8 A20 Su Iu c6|
+d B9 H3 b|
+d wW2i3|
+d rQ2|
+h |
+h |Stars
+d a*|
+d a*S2b*|
+d cu*x3|
+h |
+h |Moves
 
 What goes back makes a record shorter than its fields, and what goes on makes it longer.
-d a5X2a1
-d a5X*S
-d @10
-d a3@*a2
-d a*@*S
-d a5@2a1@*a3@10a1
-h\x20
-h Limits
+d a5X2a1|
+d a5X*S|
+d @10|
+d a3@*a2|
+d a*@*S|
+d a5@2a1@*a3@10a1|
+h |
+h |Limits
 ",
     );
 }
@@ -181,40 +166,42 @@ fn limits() {
 
 // A shortest record that is longer than a record may be; then layouts that packing would refuse.
 fn refusals() {
-    run(
+    lists::run(
+        Show::Layouts,
         b"
-d w4096w4096
-h\x20
-h Refused: layout -> number, place, 0
-d c3z
-d c 3
-d au*u
-d S5000000
-d a3cu5000000
-d @
-d x*
-d a2x*
+d w4096w4096|
+h |
+h |Refused: layout -> number, place, 0
+d c3z|
+d c 3|
+d au*u|
+d S5000000|
+d a3cu5000000|
+d @|
+d x*|
+d a2x*|
 ",
     );
 }
 
 // What layouts promise; 4294967295 stands for no place.
 fn promised() {
-    run(
+    lists::run(
+        Show::Layouts,
         b"
-h\x20
-h Promises: layout -> 0, where it may not grow, where reading loses something, where it may not be joined
-p a6 b8 Su
-p A8 S2
-p c x2 c
-p c  su*
-p c0 X c
-p r q
-p a32768
-p a32768 c
-p c @
-h\x20
-h Extends: old|new -> 0, fields of the old layout, fields added, 0; refused: number, place, 0, which layout
+h |
+h |Promises: layout -> 0, where it may not grow, where reading loses something, where it may not be joined
+p a6 b8 Su|
+p A8 S2|
+p c x2 c|
+p c  su*|
+p c0 X c|
+p r q|
+p a32768|
+p a32768 c|
+p c @|
+h |
+h |Extends: old|new -> 0, fields of the old layout, fields added, 0; refused: number, place, 0, which layout
 e A8 S2|A8 S2 S
 e c3 su|c03su
 e |
@@ -245,30 +232,31 @@ fn limit(layout: &[u8], size: &[u8]) {
 
 // Fields: place and bytes in the text, type, flag, count, slot, position, bytes in the record.
 fn listed() {
-    run(
+    lists::run(
+        Show::Layouts,
         b"
-h\x20
-h Fields listed: layout -> 0, fields, 0; place, length, type, flag, count, slot, position, bytes
-f A8 S2
-f\x20\x20a0 Su03x\x20
-f b9H3q2rWI3
-h\x20
-h Moves
-f a5X2a1@*a2
-f @5X3x2@*X*c
-f X9@u4Xu
-h\x20
-h Stars: what they decide is open
-f a6 A12 Su  Su*X2 x* c @10 b12 @* X* c
-f @*a*@*c
-h\x20
-h Refused as reading would: layout -> number, place, 0; then for want of room
-f c3z
-f a3cu5000000
-f @
-s c
-s cs
-s c@
+h |
+h |Fields listed: layout -> 0, fields, 0; place, length, type, flag, count, slot, position, bytes
+f A8 S2|
+f  a0 Su03x |
+f b9H3q2rWI3|
+h |
+h |Moves
+f a5X2a1@*a2|
+f @5X3x2@*X*c|
+f X9@u4Xu|
+h |
+h |Stars: what they decide is open
+f a6 A12 Su  Su*X2 x* c @10 b12 @* X* c|
+f @*a*@*c|
+h |
+h |Refused as reading would: layout -> number, place, 0; then for want of room
+f c3z|
+f a3cu5000000|
+f @|
+s c|
+s cs|
+s c@|
 ",
     );
 }

@@ -10,6 +10,8 @@ mod layouts;
 mod plan_lines;
 // Perl templates.
 mod templates;
+// Lists of examples of them.
+mod lists;
 
 fn main() {
     records::main();

@@ -1,9 +1,10 @@
 // Layouts prepared once: a line for each call, with the layout that was prepared or the numbers of the plan, the
 // arguments or the record, the answer's numbers, and the bytes or the values.
+use super::lists;
+use super::lists::Show;
 use layout::MAX_LAYOUT;
 use record::MAX_NUMBERS;
 use record::SLOT_WIDTH;
-use tour_text::lines;
 use tour_text::notation;
 use tour_text::print;
 use tour_text::print::Style;
@@ -116,9 +117,8 @@ fn two(n: u32, m: u32) {
     forged(&plan);
 }
 
-fn example(kind: u8, layout: &[u8], rest: &[u8]) {
+pub fn example(kind: u8, layout: &[u8], rest: &[u8]) {
     match kind {
-        b'h' => print::heading(rest),
         b'r' => read(layout, rest),
         b's' => short(layout),
         b'm' => long(layout),
@@ -126,31 +126,11 @@ fn example(kind: u8, layout: &[u8], rest: &[u8]) {
     }
 }
 
-fn line(text: &[u8]) {
-    if text.len() < 2 {
-        return;
-    }
-    let bar = lines::find(text, 2, b'|');
-    if bar < text.len() {
-        let rest = bar + 1;
-        example(text[0], &text[2..bar], &text[rest..]);
-    }
-}
-
-fn run(list: &[u8]) {
-    let mut at = 0;
-    while at < list.len() {
-        let end = lines::find(list, at, b'\n');
-        line(&list[at..end]);
-        at = end + 1;
-    }
-}
-
-// Examples, one a line: `m`, a layout and a bar to prepare it into a long run, `s` into one of two numbers; `p`, a
-// layout, a bar and the arguments to pack by its plan; `r`, a layout, a bar and the record to read by it; or `h`, a bar
-// and a heading. A line with no bar is no example.
+// Examples: `m`, a layout and a bar to prepare it into a long run, `s` into one of two numbers; `p`, a layout, a bar and
+// the arguments to pack by its plan; or `r`, a layout, a bar and the record to read by it.
 pub fn main() {
-    run(
+    lists::run(
+        Show::Plans,
         b"
 h |Layouts prepared: numbers of the plan, slots
 m |

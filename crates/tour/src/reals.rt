@@ -1,8 +1,9 @@
 // Reals (document 02, M-108): a line for each call, with the layout, the arguments or the record, the answer's numbers,
 // and the bytes or the values. A double is shown by its pattern.
+use super::lists;
+use super::lists::Show;
 use record::MAX_NUMBERS;
 use record::SLOT_WIDTH;
-use tour_text::lines;
 use tour_text::notation;
 use tour_text::print;
 use tour_text::print::Style;
@@ -45,38 +46,17 @@ fn read(layout: &[u8], bytes: &[u8]) {
     print::text(b"\n");
 }
 
-fn example(kind: u8, layout: &[u8], rest: &[u8]) {
+pub fn example(kind: u8, layout: &[u8], rest: &[u8]) {
     match kind {
-        b'h' => print::heading(rest),
         b'r' => read(layout, rest),
         _ => pack(layout, rest),
     }
 }
 
-fn line(text: &[u8]) {
-    if text.len() < 2 {
-        return;
-    }
-    let bar = lines::find(text, 2, b'|');
-    if bar < text.len() {
-        let rest = bar + 1;
-        example(text[0], &text[2..bar], &text[rest..]);
-    }
-}
-
-fn run(list: &[u8]) {
-    let mut at = 0;
-    while at < list.len() {
-        let end = lines::find(list, at, b'\n');
-        line(&list[at..end]);
-        at = end + 1;
-    }
-}
-
-// Examples, one a line: `p`, a layout, a bar and the arguments to pack; `r`, a layout, a bar and the record to read; or
-// `h`, a bar and a heading. A line with no bar is no example.
+// Examples: `p`, a layout, a bar and the arguments to pack; or `r`, a layout, a bar and the record to read.
 pub fn main() {
-    run(
+    lists::run(
+        Show::Reals,
         b"
 h |Reals: examples of 001 to 003
 

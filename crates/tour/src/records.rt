@@ -1,6 +1,6 @@
 // The run-through program: the examples of the manual pages and the edges of document 01, a line for each call.
 mod cuts;
-mod examples;
+pub mod examples;
 mod packing;
 mod reading;
 

@@ -1,7 +1,8 @@
 // Perl templates become layouts (document 02, M-105): a line for each call, with the template, what is lent, the
 // answer's three numbers and the layout.
+use super::lists;
+use super::lists::Show;
 use layout::MAX_LAYOUT;
-use tour_text::lines;
 use tour_text::print;
 use tour_text::print::Style;
 
@@ -26,144 +27,146 @@ fn show(template: &[u8], told: &[u8], layout: &mut [u8]) {
     print::text(b"\n");
 }
 
-// Turns a template into a layout, in a buffer of the longest layout.
-fn one(template: &[u8]) {
+// Turns a template into a layout, in a buffer of the longest layout. In a list it stands between `t` and a bar.
+pub fn one(template: &[u8]) {
     show(template, b"", &mut [0; MAX_LAYOUT]);
-}
-
-// The templates of a list, one a line.
-fn run(list: &[u8]) {
-    let mut at = 0;
-    while at < list.len() {
-        let end = lines::find(list, at, b'\n');
-        one(&list[at..end]);
-        at = end + 1;
-    }
 }
 
 // The request's own template; every letter, alone and with a count.
 fn letters() {
-    run(
-        b"(n2a3)2 C
-a
-b
-B
-h
-H
-x
-C
-n
-N
-v
-V
-abBhHxCnNvV
-a1b2B3h4H5x6C7n8N9v10V11
-a4096
-V4096
+    lists::run(
+        Show::Templates,
+        b"
+t (n2a3)2 C|
+t a|
+t b|
+t B|
+t h|
+t H|
+t x|
+t C|
+t n|
+t N|
+t v|
+t V|
+t abBhHxCnNvV|
+t a1b2B3h4H5x6C7n8N9v10V11|
+t a4096|
+t V4096|
 ",
     );
 }
 
 // A group written once, many times, inside others, and eight deep; spaces around items.
 fn groups() {
-    run(
-        b"(a)
-(a)1
-(a3)2
-(nv)3
-((a2)2b)3
-(C(n(N)2)2)2x
-( a )2 b
-(  ( a b ) C )2
-    a   n2
-((((((((a))))))))
-((((((((a)2)2)2)2)2)2)2)1
-(a)64
-((a)64)4
+    lists::run(
+        Show::Templates,
+        b"
+t (a)|
+t (a)1|
+t (a3)2|
+t (nv)3|
+t ((a2)2b)3|
+t (C(n(N)2)2)2x|
+t ( a )2 b|
+t (  ( a b ) C )2|
+t     a   n2|
+t ((((((((a))))))))|
+t ((((((((a)2)2)2)2)2)2)2)1|
+t (a)64|
+t ((a)64)4|
+t |
+t   |
+t  a |
 ",
     );
-    one(b"");
-    one(b"  ");
-    one(b" a ");
 }
 
 // Number 15 in a count or a repeat, or where none can stand.
 fn bad_numbers() {
-    run(
-        b"a4097
-a5000
-a40960
-a0
-a01
-(a)65
-(a)70
-(a)640
-(a)0
-(a)01
-a 2
-(a) 2
-2a
-(2)
-a*
-(a)*
+    lists::run(
+        Show::Templates,
+        b"
+t a4097|
+t a5000|
+t a40960|
+t a0|
+t a01|
+t (a)65|
+t (a)70|
+t (a)640|
+t (a)0|
+t (a)01|
+t a 2|
+t (a) 2|
+t 2a|
+t (2)|
+t a*|
+t (a)*|
 ",
     );
 }
 
 // Number 15 at a letter or another byte.
 fn bad_letters() {
-    run(
-        b"A
-a2A3
-(aA)2
-X
-aX2
-@4
-c
-s
-S
-w
-q
-n!
-au
-a,b
+    lists::run(
+        Show::Templates,
+        b"
+t A|
+t a2A3|
+t (aA)2|
+t X|
+t aX2|
+t @4|
+t c|
+t s|
+t S|
+t w|
+t q|
+t n!|
+t au|
+t a,b|
+t a\tb|
 ",
     );
-    one(b"a\tb");
     one(b"a\nb");
     one(b"a\x00");
 }
 
 // Number 15 at a parenthesis, or at the end of a template that stops too soon.
 fn bad_groups() {
-    run(
-        b"()
-a()
-((a)())
-)
-a)
-(a))
-(((((((((a)))))))))
-a(((((((((
-(
-(a
-((a)2
-(a)2(
+    lists::run(
+        Show::Templates,
+        b"
+t ()|
+t a()|
+t ((a)())|
+t )|
+t a)|
+t (a))|
+t (((((((((a)))))))))|
+t a(((((((((|
+t (|
+t (a|
+t ((a)2|
+t (a)2(|
+t ( )|
+t (a |
 ",
     );
-    one(b"( )");
-    one(b"(a ");
 }
 
 // Number 11, which comes after 15; lengths far above any number of 32 bits.
 fn long_results() {
-    run(
-        b"((a)64)4b
-((a)64)5
-((a)64)5A
-((a)64)5(
-((((((((a)64)64)64)64)64)64)64)64
-((((((((a4096)64)64)64)64)64)64)64)64
+    lists::run(
+        Show::Templates,
+        b"
+t ((a)64)4b|
+t ((a)64)5|
+t ((a)64)5A|
+t ((a)64)5(|
+t ((((((((a)64)64)64)64)64)64)64)64|
+t ((((((((a4096)64)64)64)64)64)64)64)64|
 ",
     );
 }

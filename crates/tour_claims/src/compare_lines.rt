@@ -1,7 +1,7 @@
 // Two copies of a record compared (document 02, M-102): a line for each call, with the layout, both records, the
 // answer's three numbers, and the report, which is lent full of nines.
 mod comparing;
-mod examples;
+pub mod examples;
 
 fn refusals() {
     comparing::short_tables();

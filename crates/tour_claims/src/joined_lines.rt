@@ -1,9 +1,10 @@
 // Records of two templates (document 02, M-113): a line for the two packed one after the other, and one for packing by
 // their texts joined, each with the three numbers and all that a buffer of sixteen bytes aa then holds.
+use super::lists;
+use super::lists::Show;
 use record::Answer;
 use record::MAX_NUMBERS;
 use record::SLOT_WIDTH;
-use tour_text::lines;
 use tour_text::notation;
 use tour_text::print;
 use tour_text::print::Style;
@@ -75,73 +76,53 @@ fn show(layout: &[u8], k: usize, n: usize, told: &[u8]) {
 }
 
 // The low half of a digit's byte is its number.
-fn example(slots: u8, bytes: u8, layout: &[u8], rest: &[u8]) {
-    if slots == b'h' {
-        print::heading(rest);
+pub fn example(slots: u8, layout: &[u8], rest: &[u8]) {
+    if rest.len() < 2 {
         return;
     }
     show(
         layout,
-        (bytes % 16) as usize,
+        (rest[0] % 16) as usize,
         (slots % 16) as usize * SLOT_WIDTH,
-        rest,
+        &rest[2..],
     );
 }
 
-fn line(text: &[u8]) {
-    if text.len() < 3 {
-        return;
-    }
-    let bar = lines::find(text, 3, b'|');
-    if bar < text.len() {
-        let rest = bar + 1;
-        example(text[0], text[1], &text[3..bar], &text[rest..]);
-    }
-}
-
-fn run(list: &[u8]) {
-    let mut at = 0;
-    while at < list.len() {
-        let end = lines::find(list, at, b'\n');
-        line(&list[at..end]);
-        at = end + 1;
-    }
-}
-
-// Examples, one a line: the number of slots and of bytes that are the first template's, the texts joined, a bar and the
-// arguments; or `hh`, a bar and a heading. A line with no bar is no example.
+// Examples: the number of slots that are the first template's, the texts joined, a bar, the number of bytes that are the
+// first template's, and the arguments.
 pub fn main() {
-    run(
+    lists::run(
+        Show::Joined,
         br#"
-hh |Both, and joined: layouts, arguments -> number, first, second; output of sixteen bytes aa
+h |Both, and joined: layouts, arguments -> number, first, second; output of sixteen bytes aa
 
 A cover and a leg; stars and flags; spaces where the texts meet.
-24 A4IuS2c|"Ada" {20260117} {17 4} {1}
-15 a*xu2B*c*|"ok" "1011" {-1 7}
-13 a2  S|"ok" {3}
-hh |
-hh |The empty layout
-00 S2|{17 4}
-12 S2|{17 4}
-hh |
-hh |Three
+2 A4IuS2c|4 "Ada" {20260117} {17 4} {1}
+1 a*xu2B*c*|5 "ok" "1011" {-1 7}
+1 a2  S|3 "ok" {3}
+h |
+h |The empty layout
+0 S2|0 {17 4}
+1 S2|2 {17 4}
+h |
+h |Three
 
 A cover and two legs, either pair of them joined first.
-23 a2Sc|"ok" {17} {4}
-12 a2Sc|"ok" {17} {4}
-hh |
-hh |X and @, of which nothing is claimed
+2 a2Sc|3 "ok" {17} {4}
+1 a2Sc|2 "ok" {17} {4}
+h |
+h |X and @, of which nothing is claimed
 
 What goes back goes into the first result, once the texts are joined.
-12 a3@1a1|"abc" "d"
-12 a3X2a1|"abc" "d"
-hh |
-hh |Refused, and no byte changed
+1 a3@1a1|2 "abc" "d"
+1 a3X2a1|2 "abc" "d"
+h |
+h |Refused, and no byte changed
 
 The place of a refusal is one of the part.
-01 zc|{1}
-12 a2c|"ok" "no"
-12 a9a9|"one" "two"
+0 zc|1 {1}
+1 a2c|2 "ok" "no"
+1 a9a9|2 "one" "two"
 "#,
     );
 }

@@ -1,7 +1,8 @@
 // Records read and packed again (document 02, M-107): a line for each, with the layout, the record, what is lent
 // besides, the packer's three numbers, the bytes that it stored, and the values in between.
+use super::lists;
+use super::lists::Show;
 use record::SLOT_WIDTH;
-use tour_text::lines;
 use tour_text::print;
 use tour_text::print::Style;
 use tour_text::values;
@@ -34,39 +35,18 @@ fn two(layout: &[u8], bytes: &[u8]) {
     show(layout, bytes, b"two slots", &mut [9; 2 * SLOT_WIDTH]);
 }
 
-fn example(kind: u8, layout: &[u8], rest: &[u8]) {
+pub fn example(kind: u8, layout: &[u8], rest: &[u8]) {
     match kind {
-        b'h' => print::heading(rest),
         b'f' => form(rest),
         b'2' => two(layout, rest),
         _ => one(layout, rest),
     }
 }
 
-fn line(text: &[u8]) {
-    if text.len() < 2 {
-        return;
-    }
-    let bar = lines::find(text, 2, b'|');
-    if bar < text.len() {
-        let rest = bar + 1;
-        example(text[0], &text[2..bar], &text[rest..]);
-    }
-}
-
-fn run(list: &[u8]) {
-    let mut at = 0;
-    while at < list.len() {
-        let end = lines::find(list, at, b'\n');
-        line(&list[at..end]);
-        at = end + 1;
-    }
-}
-
-// Examples, one a line: the number of slots, a layout, a bar and the record; `f`, a bar and a record of the form; or
-// `h`, a bar and a heading. A line with no bar is no example.
+// Examples: the number of slots, a layout, a bar and the record; or `f`, a bar and a record of the form.
 pub fn main() {
-    run(
+    lists::run(
+        Show::Lossless,
         b"
 h |Read and packed again: layout, record -> number, first, second: bytes: values
 

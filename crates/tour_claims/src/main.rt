@@ -6,6 +6,8 @@ mod lossless_lines;
 mod joined_lines;
 // Copies compared.
 mod compare_lines;
+// Lists of examples of them.
+mod lists;
 
 fn main() {
     lossless_lines::main();

@@ -6,6 +6,8 @@ mod sheets;
 mod rescues;
 // Means of marked legs.
 mod means;
+// Lists of examples of them.
+mod lists;
 
 fn main() {
     sheets::main();

@@ -1,12 +1,13 @@
 // Means of marked legs (document 02, M-104): a line for each call, with the table, the answer's three numbers, and the
 // pattern of the mean or that no leg is marked.
 ghost use Rattle.mean.specs.Claims.{Numeric};
+use super::lists;
+use super::lists::Show;
 use mean::marks::LegMean;
 use mean::marks::Marks;
 use record::MAX_AREA;
 use record::MAX_NUMBERS;
 use record::SLOT_WIDTH;
-use tour_text::lines;
 use tour_text::notation;
 use tour_text::print;
 
@@ -57,7 +58,7 @@ fn show(told: &[u8], slots: &[u32], area: &[u8]) {
 }
 
 // The table that a text names.
-fn example(told: &[u8]) {
+pub fn example(told: &[u8]) {
     let mut slots = [0u32; MAX_NUMBERS];
     let mut area = [0u8; 256];
     let used = notation::parse(told, &mut slots, &mut area);
@@ -68,20 +69,11 @@ fn example(told: &[u8]) {
     );
 }
 
-// The tables of a list, one a line.
-fn run(list: &[u8]) {
-    let mut at = 0;
-    while at < list.len() {
-        let end = lines::find(list, at, b'\n');
-        example(&list[at..end]);
-        at = end + 1;
-    }
-}
-
 // A leg that is not set changes the count alone, a leg of 0 the mean; quotients that are exact and that are not; a sum
 // above 24 bits.
 fn means() {
-    run(
+    lists::run(
+        Show::Means,
         b"{40} {60}
 {40} - {60}
 - {40} - - {60} -
@@ -102,7 +94,8 @@ fn means() {
 
 // Tables of legs that nobody marked, and the table of no slots.
 fn unmarked() {
-    run(
+    lists::run(
+        Show::Means,
         b"-
 - - -
 ",
@@ -114,7 +107,8 @@ fn unmarked() {
 
 // Numbers 8, 9 and 14; within a slot in that order, and slot by slot.
 fn bad_legs() {
-    run(
+    lists::run(
+        Show::Means,
         br#""40"
 ""
 {40} "x"

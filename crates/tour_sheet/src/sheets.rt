@@ -1,6 +1,6 @@
 // Tables stored as sheets and read back (document 02, M-100): a line for each call, with what it is lent, the answer's
 // three numbers, and what it wrote.
-mod examples;
+pub mod examples;
 mod reading;
 mod writing;
 

@@ -1,11 +1,10 @@
-// Lists of examples, one a line: a letter, a layout, a bar and what follows. `p` and the arguments to pack; the number
-// of slots and the record to read; `k` or `w` and nothing, to pack or read and show all that is lent; a letter of a
-// call over other slots, outputs or marks, and what is lent; or `h`, no layout and a heading. A line with no bar is no
-// example.
+// Lists of examples: a letter, a layout, a bar and what follows. `p` and the arguments to pack; the number of slots and
+// the record to read; `k` or `w` and nothing, to pack or read and show all that is lent; or a letter of a call over
+// other slots, outputs or marks, and what is lent.
+use super::super::lists;
+use super::super::lists::Show;
 use super::packing;
 use super::reading;
-use tour_text::lines;
-use tour_text::print;
 
 fn packed(kind: u8, layout: &[u8], rest: &[u8]) {
     match kind {
@@ -21,9 +20,8 @@ fn packed(kind: u8, layout: &[u8], rest: &[u8]) {
     }
 }
 
-fn example(kind: u8, layout: &[u8], rest: &[u8]) {
+pub fn example(kind: u8, layout: &[u8], rest: &[u8]) {
     match kind {
-        b'h' => print::heading(rest),
         b'1' => reading::one(layout, rest),
         b'2' => reading::two(layout, rest),
         b'8' => reading::eight(layout, rest),
@@ -32,28 +30,9 @@ fn example(kind: u8, layout: &[u8], rest: &[u8]) {
     }
 }
 
-fn line(text: &[u8]) {
-    if text.len() < 2 {
-        return;
-    }
-    let bar = lines::find(text, 2, b'|');
-    if bar < text.len() {
-        let rest = bar + 1;
-        example(text[0], &text[2..bar], &text[rest..]);
-    }
-}
-
-fn run(list: &[u8]) {
-    let mut at = 0;
-    while at < list.len() {
-        let end = lines::find(list, at, b'\n');
-        line(&list[at..end]);
-        at = end + 1;
-    }
-}
-
 pub fn packings() {
-    run(
+    lists::run(
+        Show::Records,
         b"
 h |Packing: layout, arguments -> number, first, second: bytes of the result
 
@@ -140,7 +119,8 @@ s c|slot 2 0 1, area of 2 bytes
 }
 
 pub fn outputs_and_readings() {
-    run(
+    lists::run(
+        Show::Records,
         b"
 
 Outputs as long as can be, one above, as long as the result, and shorter; an unsigned integer.
@@ -229,7 +209,8 @@ h |Reading: a table that holds an earlier reading
 }
 
 pub fn places_and_refusals() {
-    run(
+    lists::run(
+        Show::Records,
         b"
 h |
 h |Reading: where each field began
@@ -250,7 +231,8 @@ h |Reading: refusals and limits
 }
 
 pub fn marks() {
-    run(
+    lists::run(
+        Show::Records,
         b"
 
 Marks: numbers 11 and 1.

@@ -1,9 +1,10 @@
-// Lists of examples, one a line: a letter, a layout, the two records and what is lent besides, with bars between. The
-// letter is a digit, for a report of as many numbers, or `w`, to show all that is lent, with a report of seven, or `v`,
-// with one of five. Or `h`, a bar and a heading.
+// Lists of examples: a letter, a layout, the two records and what is lent besides, with bars between. The letter is a
+// digit, for a report of as many numbers, or `w`, to show all that is lent, with a report of seven, or `v`, with one of
+// five.
+use super::super::lists;
+use super::super::lists::Show;
 use super::comparing;
 use tour_text::lines;
-use tour_text::print;
 
 fn call(kind: u8, layout: &[u8], first: &[u8], second: &[u8], told: &[u8]) {
     match kind {
@@ -26,11 +27,7 @@ fn last(kind: u8, layout: &[u8], first: &[u8], rest: &[u8]) {
 }
 
 // What follows the first bar.
-fn records(kind: u8, layout: &[u8], rest: &[u8]) {
-    if kind == b'h' {
-        print::heading(rest);
-        return;
-    }
+pub fn records(kind: u8, layout: &[u8], rest: &[u8]) {
     let bar = lines::find(rest, 0, b'|');
     if bar < rest.len() {
         let second = bar + 1;
@@ -38,28 +35,9 @@ fn records(kind: u8, layout: &[u8], rest: &[u8]) {
     }
 }
 
-fn line(text: &[u8]) {
-    if text.len() < 2 {
-        return;
-    }
-    let bar = lines::find(text, 2, b'|');
-    if bar < text.len() {
-        let rest = bar + 1;
-        records(text[0], &text[2..bar], &text[rest..]);
-    }
-}
-
-fn run(list: &[u8]) {
-    let mut at = 0;
-    while at < list.len() {
-        let end = lines::find(list, at, b'\n');
-        line(&list[at..end]);
-        at = end + 1;
-    }
-}
-
 pub fn verdicts() {
-    run(
+    lists::run(
+        Show::Compared,
         b"
 h |Comparing: layout, first and second record -> number, first, second; report
 
@@ -113,7 +91,8 @@ Numbers 2, 3, 4 and 5.
 }
 
 pub fn reports() {
-    run(
+    lists::run(
+        Show::Compared,
         b"
 
 Number 11: a report of fewer numbers than three a value field.

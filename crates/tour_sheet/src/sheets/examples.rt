@@ -1,8 +1,9 @@
 // Lists of examples, one a line: `w` and a table to write, `r` and a sheet to read, `k` and a sheet to read and show
 // all that is lent, or `h` and a heading. A line of no such letter is no example. No sheet among them has the byte 0a.
+use super::super::lists;
+use super::super::lists::Show;
 use super::reading;
 use super::writing;
-use tour_text::lines;
 use tour_text::print;
 
 fn example(kind: u8, rest: &[u8]) {
@@ -15,24 +16,16 @@ fn example(kind: u8, rest: &[u8]) {
     }
 }
 
-fn line(text: &[u8]) {
+pub fn line(text: &[u8]) {
     if text.len() < 2 {
         return;
     }
     example(text[0], &text[2..]);
 }
 
-fn run(list: &[u8]) {
-    let mut at = 0;
-    while at < list.len() {
-        let end = lines::find(list, at, b'\n');
-        line(&list[at..end]);
-        at = end + 1;
-    }
-}
-
 pub fn written() {
-    run(
+    lists::run(
+        Show::Sheets,
         b"
 h Writing: table -> number, first, second: sheet. Keeping: the same, then read from the mark 4 on: values
 
@@ -47,7 +40,8 @@ w {1 258} - \"a\"
 }
 
 pub fn read() {
-    run(
+    lists::run(
+        Show::Sheets,
         b"
 h\x20
 h Reading: sheet -> number, first, second: values
@@ -106,7 +100,8 @@ r \x02\x00\x00\x00\x14\x00\x00\x00\x01\x00\x00\x00\x00\x01\x00\x00\x00\x00\x01\x
 }
 
 pub fn kept() {
-    run(
+    lists::run(
+        Show::Sheets,
         b"
 
 Slots past the last entry and bytes that no value covers stay as lent, and all of a refused call does.
