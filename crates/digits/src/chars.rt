@@ -85,17 +85,20 @@ fn put_four(area: &mut [u8], to: usize, v: usize, high: bool)
     requires { ⌜ to + 4 ≤ length (now area) ⌝ }
     ensures { λ _. ⌜ after area ≡ storeAt (before area) to (ordered high (digits 256 4 v)) ⌝ }
 {
+    let v1 = v / 256;
+    let v2 = v1 / 256;
+    let v3 = v2 / 256;
     if high {
-        area[to] = (v / 16777216 % 256) as u8;
-        area[to + 1] = (v / 65536 % 256) as u8;
-        area[to + 2] = (v / 256 % 256) as u8;
         area[to + 3] = (v % 256) as u8;
+        area[to + 2] = (v1 % 256) as u8;
+        area[to + 1] = (v2 % 256) as u8;
+        area[to] = (v3 % 256) as u8;
         return;
     }
     area[to] = (v % 256) as u8;
-    area[to + 1] = (v / 256 % 256) as u8;
-    area[to + 2] = (v / 65536 % 256) as u8;
-    area[to + 3] = (v / 16777216 % 256) as u8;
+    area[to + 1] = (v1 % 256) as u8;
+    area[to + 2] = (v2 % 256) as u8;
+    area[to + 3] = (v3 % 256) as u8;
 }
 
 // Writes all eight binary digits of a byte.

@@ -1,41 +1,21 @@
 -- Laws of bytes in their order or turned round, and of runs of bytes, one after the other.
-use Prim.Native.Nat.{ℕ, zero, suc, _+_, _-_, _*_, _/_, _%_, _≤_, _<_}
-use native.Mathlib.Nat.{add-zero, suc-mul, zero-mul, add-sub-cancel, div-div-eq-div-mul}
+use Prim.Native.Nat.{ℕ, zero, suc, _+_, _-_, _*_, _≤_, _<_}
+use native.Mathlib.Nat.{add-zero, suc-mul, zero-mul, add-sub-cancel}
 use native.Mathlib.Omega.{arith}
 use mathlib.Core.Path.{_≡_, refl, sym, ap, _∙_}
 use mathlib.Core.Bool.{Bool, true, false}
-use mathlib.Core.List.{List, [], _∷_, _++_, map, map-id, map-map, append-assoc, append-nil, reverse}
-use lib.ListN.{length, take, drop, getD, set, length-reverse}
+use mathlib.Core.List.{List, _++_, map, map-id, map-map, append-assoc, append-nil}
+use lib.ListN.{length, take, drop, getD}
 use lib.Seq.{take-take, drop-drop}
-use Rattle.record.specs.Bytes.{part, storeAt, pieces, join, digits, number, ordered, numberAt}
-use Rattle.record.proofs.Bytes.{All, all-take, all-drop, all-ordered, all-below, length-digits, length-ordered, digits-number, join-pieces, drop-take}
-use Rattle.record.proofs.Stores.{runs, runs-first, length-runs, length-part, getD-reverse, Put, put-none, put-more, put-done, Wrote, wrote-next, store-next, length-storeAt}
-use Rattle.byte_runs.proofs.WordLaws.{put-low}
+use Rattle.record.specs.Bytes.{part, storeAt, pieces, join, ordered}
+use Rattle.record.proofs.Bytes.{length-ordered, join-pieces, drop-take}
+use Rattle.record.proofs.Stores.{runs, runs-first, length-runs, length-part, getD-reverse, Wrote, wrote-next, store-next, length-storeAt}
 use Rattle.integers.specs.inside.Eights.{eights}
 
 -- ---- bytes
 
 pub turned-at : (xs : List ℕ) (n j : ℕ) → j < n → length xs ≡ n → getD (ordered true xs) j 0 ≡ getD xs (n - 1 - j) 0
 turned-at xs n j h e = rw (← e) (getD-reverse xs j (omega arith))
-
-pub part-bytes : (xs : List ℕ) (start n : ℕ) → ((i : ℕ) → getD xs i 0 < 256) → All (λ d. d < 256) (part xs start n)
-part-bytes xs start n small = all-take (λ d. d < 256) n (drop start xs) (all-drop (λ d. d < 256) start xs (all-below xs small))
-
--- four digits, put together from the other end
-pub four-turned : (x : ℕ) → digits 256 4 (x % 256 * 16777216 + x / 256 % 256 * 65536 + x / 256 / 256 % 256 * 256 + x / 256 / 256 / 256 % 256) ≡ ordered true (digits 256 4 x)
-unfolding digits number
-four-turned x =
-    let a = x % 256 in
-    let b = x / 256 % 256 in
-    let c = x / 256 / 256 % 256 in
-    let d = x / 256 / 256 / 256 % 256 in
-    let n : a * 16777216 + b * 65536 + c * 256 + d ≡ number 256 (d ∷ c ∷ b ∷ a ∷ []) = omega arith in
-    ap (digits 256 4) n ∙ digits-number 256 (d ∷ c ∷ b ∷ a ∷ []) (omega arith, (omega arith, (omega arith, (omega arith, tt))))
-
--- four bytes, put one by one
-pub four-low : (d : List ℕ) (at x : ℕ) → at + 4 ≤ length d
-    → set (set (set (set d at (x % 256)) (at + 1) (x / 256 % 256)) (at + 2) (x / 256 / 256 % 256)) (at + 3) (x / 256 / 256 / 256 % 256) ≡ storeAt d at (digits 256 4 x)
-four-low d at x room = rw (div-div-eq-div-mul x 256 256, div-div-eq-div-mul x 65536 256) (put-low d at x room)
 
 -- ---- runs
 
@@ -73,34 +53,6 @@ pieces-take k (suc n) xs =
     rw (suc-mul, take-take k (n * k + k) xs, drop-take k (n * k + k) xs, add-sub-cancel, pieces-take k n (drop k xs))
 
 -- ---- runs of eight bytes
-
--- eight bytes, put one by one
-module _ (d : List ℕ) (at x : ℕ) (room : at + 8 ≤ length d) where
-  next : (d′ : List ℕ) (j v : ℕ) → Put d at (digits 256 8 x) d′ j → j < 8 → v ≡ getD (digits 256 8 x) j 0 → Put d at (digits 256 8 x) (set d′ (at + j) v) (j + 1)
-  next d′ j v p h e = let long : length (digits 256 8 x) ≡ 8 = length-digits 256 8 x in put-more p (omega arith) (omega arith) e
-
-  pub eight-low : set (set (set (set (set (set (set (set d at (x % 256)) (at + 1) (x / 256 % 256)) (at + 2) (x / 256 / 256 % 256)) (at + 3) (x / 256 / 256 / 256 % 256))
-      (at + 4) (x / 256 / 256 / 256 / 256 % 256)) (at + 5) (x / 256 / 256 / 256 / 256 / 256 % 256)) (at + 6) (x / 256 / 256 / 256 / 256 / 256 / 256 % 256))
-      (at + 7) (x / 256 / 256 / 256 / 256 / 256 / 256 / 256 % 256)
-      ≡ storeAt d at (digits 256 8 x)
-  unfolding digits
-  eight-low =
-      let p1 = rw add-zero at (next d 0 (x % 256) put-none (omega arith) refl) in
-      let p2 = next _ 1 (x / 256 % 256) p1 (omega arith) refl in
-      let p3 = next _ 2 (x / 256 / 256 % 256) p2 (omega arith) refl in
-      let p4 = next _ 3 (x / 256 / 256 / 256 % 256) p3 (omega arith) refl in
-      let p5 = next _ 4 (x / 256 / 256 / 256 / 256 % 256) p4 (omega arith) refl in
-      let p6 = next _ 5 (x / 256 / 256 / 256 / 256 / 256 % 256) p5 (omega arith) refl in
-      let p7 = next _ 6 (x / 256 / 256 / 256 / 256 / 256 / 256 % 256) p6 (omega arith) refl in
-      put-done (next _ 7 (x / 256 / 256 / 256 / 256 / 256 / 256 / 256 % 256) p7 (omega arith) refl) (length-digits 256 8 x)
-
--- the number of eight bytes has them as its digits, turned round
-pub number-turned : (bs : List ℕ) (at : ℕ) {x : ℕ} → ((i : ℕ) → getD bs i 0 < 256) → at + 8 ≤ length bs → x ≡ numberAt 8 bs at → digits 256 8 x ≡ ordered true (part bs at 8)
-unfolding numberAt
-number-turned bs at small inside is =
-    let p : List ℕ = part bs at 8 in
-    let long : length (reverse p) ≡ 8 = length-reverse p ∙ length-part 8 at bs inside in
-    ap (digits 256 8) is ∙ ap (λ (k : ℕ). digits 256 k (number 256 (reverse p))) (sym long) ∙ digits-number 256 (reverse p) (all-ordered (λ d. d < 256) true p (part-bytes bs at 8 small))
 
 -- run i
 abbrev pub eightAt : Bool → List ℕ → ℕ → ℕ → List ℕ

@@ -50,12 +50,12 @@ pub fn put_pair(out: &mut [u8], at: usize, v: u16, turn: bool)
     ensures { λ _. ⌜ after out ≡ storeAt (before out) at (ordered turn (digits 256 2 v)) ⌝ }
 {
     if turn {
-        out[at] = (v / 256) as u8;
         out[at + 1] = (v % 256) as u8;
+        out[at] = (v / 256 % 256) as u8;
         return;
     }
     out[at] = (v % 256) as u8;
-    out[at + 1] = (v / 256) as u8;
+    out[at + 1] = (v / 256 % 256) as u8;
 }
 
 // Four bytes turned round or not. Of the turning the compiler makes one instruction.

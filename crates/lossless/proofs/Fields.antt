@@ -1,6 +1,6 @@
 -- A field's bytes, read and stored again: `stored` of `loaded` is those bytes, and what was loaded serves the field.
 use Prim.Native.Nat.{ℕ, zero, suc, _+_, _-_, _*_, _/_, _%_, _^_, _≤_, _<_}
-use native.Mathlib.Nat.{suc-mul, mod-eq-of-lt, lt-of-lt-of-le, mod-lt}
+use native.Mathlib.Nat.{suc-mul, mod-eq-of-lt, lt-of-lt-of-le}
 use native.Mathlib.Omega.{arith}
 use mathlib.Core.Path.{_≡_, refl, sym, ap, ap₂, _∙_}
 use mathlib.Core.Bool.{Bool, true, false, _&&_, not, and-false}
@@ -24,7 +24,7 @@ use Rattle.record.specs.Packing.{stored, lowBytes, digitBytes, digitValue, allD
 use Rattle.record.specs.inside.Slots.{insideArea}
 use Rattle.record.specs.Reading.{loaded, widened, digitChar}
 use Rattle.record.proofs.Fields.{split, item}
-use Rattle.record.proofs.Bytes.{All, all-take, all-drop, all-append, all-ordered, length-digits, length-ordered, ordered-ordered, number-digits, length-join, pieces-join, length-pieces, join-pieces}
+use Rattle.record.proofs.Bytes.{All, all-take, all-drop, all-append, all-ordered, length-digits, digits-below, length-ordered, ordered-ordered, number-digits, length-join, pieces-join, length-pieces, join-pieces}
 use Rattle.record.proofs.Widening.{filler, widened-digits, number-below}
 use Rattle.record.proofs.NumberLaws.{length-bigEndian}
 use Rattle.runs.specs.Ends.{plainCount}
@@ -114,11 +114,6 @@ digitsIn hex high b = ordered high (digits (base hex) (perByte hex) b)
 
 length-in : (hex high : Bool) (b : ℕ) → length (digitsIn hex high b) ≡ perByte hex
 length-in hex high b = length-ordered high (digits (base hex) (perByte hex) b) ∙ length-digits (base hex) (perByte hex) b
-
-digits-below : (b k n : ℕ) → 0 < b → All (λ d. d < b) (digits b k n)
-unfolding digits
-digits-below b zero n h = tt
-digits-below b (suc k) n h = (mod-lt n h, digits-below b k (n / b) h)
 
 base-pos : (hex : Bool) → 0 < base hex
 base-pos true = omega arith

@@ -1,7 +1,6 @@
 // `r R q Q`: reals. The area has a double of eight bytes for each, the highest byte first. Here are a double of the
 // area as a number, whether one of many is a NaN, and the four bytes of a single in the order of a field.
 ghost use mathlib.Core.Path.{_≡_};
-ghost use mathlib.Core.List.{reverse};
 ghost use Prim.Native.Nat.{_+_, _*_, _≤_, _<_};
 ghost use lib.ListN.{length, drop};
 ghost use Rattle.layout.specs.Lent.{before};
@@ -79,19 +78,9 @@ pub fn no_nan(area: &[u8], start: usize, n: usize) -> bool
     true
 }
 
-// Four bytes turned round.
-fn swapped(s: u32) -> u32
-    ensures { λ r. ⌜ digits 256 4 r ≡ reverse (digits 256 4 s) ⌝ }
-{
-    s % 0x100 * 0x100_0000
-        + s / 0x100 % 0x100 * 0x1_0000
-        + s / 0x1_0000 % 0x100 * 0x100
-        + s / 0x100_0000
-}
-
 // The number whose big-endian bytes are a single's in the order of a field.
 pub fn in_order(big: bool, s: u32) -> u32
     ensures { λ r. ⌜ (numberBytes 4 r ≡ ordered big (digits 256 4 s)) × (r < 4294967296) ⌝ }
 {
-    if big { s } else { swapped(s) }
+    integers::turn_four(s, !big)
 }

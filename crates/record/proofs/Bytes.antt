@@ -1,6 +1,6 @@
 -- Laws of `fit`, `pieces`, `join`, `digits` and `number`.
 use Prim.Native.Nat.{ℕ, zero, suc, _+_, _-_, _*_, _/_, _%_, _^_, _<_}
-use native.Mathlib.Nat.{sub-zero, zero-sub, suc-sub-suc, mod-one, zero-add, zero-mul, suc-mul, add-mul-mod-self-left, add-mul-div-left, div-eq-of-lt, mod-eq-of-lt, pow-suc, pow-zero, mul-pos, suc-ne-zero, div-one, div-div-eq-div-mul, pow-succ'}
+use native.Mathlib.Nat.{sub-zero, zero-sub, suc-sub-suc, mod-one, mod-lt, zero-add, zero-mul, suc-mul, add-mul-mod-self-left, add-mul-div-left, div-eq-of-lt, mod-eq-of-lt, pow-suc, pow-zero, mul-pos, suc-ne-zero, div-one, div-div-eq-div-mul, pow-succ'}
 use native.Mathlib.Omega.{arith}
 use mathlib.Core.Path.{_≡_, refl, sym, ap, ap₂, _∙_}
 use mathlib.Core.Bool.{Bool, true, false, _&&_}
@@ -83,6 +83,11 @@ pub number-digits : (b k n : ℕ) → 0 < b → number b (digits b k n) ≡ n % 
 unfolding digits number
 number-digits b zero n h = rw (pow-zero, mod-one)
 number-digits b (suc k) n h = rw (number-digits b k (n / b) h, pow-suc, mod-mul n (power-pos b k h) h) (omega arith)
+
+pub digits-below : (b k n : ℕ) → 0 < b → All (λ d. d < b) (digits b k n)
+unfolding digits
+digits-below b zero n h = tt
+digits-below b (suc k) n h = (mod-lt n h, digits-below b k (n / b) h)
 
 -- digits below the base come back from their number
 pub digits-number : (b : ℕ) (ds : List ℕ) → All (λ d. d < b) ds → digits b (length ds) (number b ds) ≡ ds

@@ -1,16 +1,16 @@
--- Numbers as bytes, the highest first: one number, byte by byte, in both directions; then many, one after the other.
--- All laws are over the width w.
-use Prim.Native.Nat.{ℕ, zero, suc, _+_, _-_, _*_, _/_, _%_, _^_, _≤_, _<_}
-use native.Mathlib.Nat.{add-zero, sub-self, zero-mul, suc-mul, add-comm, pow-zero, pow-suc, div-one, div-div-eq-div-mul, not-suc-le-zero, le-of-suc-le-suc, lt-of-lt-of-le, pow-le-pow-right, mod-eq-of-lt}
+-- Numbers as bytes: one number, byte by byte, in both directions and either order; then many, one after the other, the
+-- highest byte of each first. All laws are over the width w.
+use Prim.Native.Nat.{ℕ, zero, suc, _+_, _*_, _/_, _%_, _^_, _≤_, _<_}
+use native.Mathlib.Nat.{add-zero, zero-mul, suc-mul, add-comm, pow-zero, pow-suc, not-suc-le-zero, le-of-suc-le-suc, lt-of-lt-of-le, pow-le-pow-right, mod-eq-of-lt}
 use native.Mathlib.Omega.{arith}
 use mathlib.Core.Path.{_≡_, refl, sym, ap, ap₂, _∙_}
-use mathlib.Core.Bool.{true}
-use mathlib.Core.List.{List, [], _∷_, _++_, map, reverse, reverse-append, reverse-reverse, append-assoc}
+use mathlib.Core.Bool.{Bool, true, false}
+use mathlib.Core.List.{List, [], _∷_, _++_, map, reverse, reverse-cons, reverse-append, reverse-reverse, append-assoc}
 use lib.ListN.{length, take, drop, getD, set, length-drop, length-map, length-set, take-append-drop}
-use lib.Seq.{take-suc, getD-drop, drop-nil, drop-drop, drop-append-add, length-take-le, take-at, drop-at}
-use Rattle.record.specs.Bytes.{part, storeAt, pieces, join, digits, number, numberBytes, numberAt, bigEndian, bigEndianIn}
-use Rattle.record.proofs.Bytes.{All, all-take, all-drop, all-ordered, length-digits, length-ordered, length-pieces, length-join, join-pieces, number-digits, digits-number, digits-last}
-use Rattle.record.proofs.Stores.{store-none, store-before, runs, runs-first}
+use lib.Seq.{take-suc, drop-cons, getD-drop, drop-nil, drop-drop, drop-append-add, length-take-le, take-at, drop-at}
+use Rattle.record.specs.Bytes.{part, storeAt, pieces, join, digits, number, ordered, numberBytes, numberAt, bigEndian, bigEndianIn}
+use Rattle.record.proofs.Bytes.{All, all-take, all-drop, all-ordered, all-below, length-digits, length-ordered, length-pieces, length-join, join-pieces, number-digits, digits-number, digits-last, digits-below}
+use Rattle.record.proofs.Stores.{store-none, store-first, store-last, length-part, runs, runs-first}
 
 -- ---- a number out of its bytes, the first one first
 
@@ -47,7 +47,7 @@ taken-below {bs} {at} {j} {x} t h =
     let pos : 0 < 256 = omega arith in
     lt-of-lt-of-le (t .small) (pow-le-pow-right pos few)
 
--- ---- a number's bytes, the last one first
+-- ---- a number's bytes
 
 pub length-numberBytes : (w x : ℕ) → length (numberBytes w x) ≡ w
 unfolding numberBytes
@@ -58,61 +58,85 @@ pub bytes-next : (w x : ℕ) → numberBytes (suc w) x ≡ x / 256 ^ w % 256 ∷
 unfolding numberBytes
 bytes-next w x = ap reverse (digits-last 256 w x) ∙ rw reverse-append
 
--- what a loop keeps that has all but `left` bytes of x put; `rest` is what they do not hold
-pub record Putting (d₀ : List ℕ) (at w x : ℕ) (d : List ℕ) (left rest : ℕ) : Type 0 where
-  pub few : left ≤ w
-  pub long : length d ≡ length d₀
-  pub is : d ≡ storeAt d₀ (at + left) (numberBytes (w - left) x)
-  pub over : rest ≡ x / 256 ^ (w - left)
+-- ---- bytes put one by one, the lowest first: each behind those before it, or in front of them where the highest is to
+-- stand first
 
-pub putting-none : (d : List ℕ) (at w x : ℕ) → Putting d at w x d w x
+-- place i from `at` on, as code spells it
+abbrev pub spot : ℕ → ℕ → ℕ
+spot at zero = at
+spot at (suc i) = at + suc i
+
+spot-is : (at i : ℕ) → spot at i ≡ at + i
+spot-is at zero = sym (add-zero at)
+spot-is at (suc i) = refl
+
+-- the lowest byte, and then the others
+low-put : (d : List ℕ) (at w v : ℕ) → at + suc w ≤ length d → storeAt (set d at (v % 256)) (suc at) (digits 256 w (v / 256)) ≡ storeAt d at (digits 256 (suc w) v)
+unfolding digits
+low-put d at w v room = store-first d at (v % 256) (digits 256 w (v / 256)) (rw length-digits room)
+
+pub high-put : (d : List ℕ) (at w v : ℕ) → at + suc w ≤ length d → storeAt (set d (at + w) (v % 256)) at (numberBytes w (v / 256)) ≡ storeAt d at (numberBytes (suc w) v)
 unfolding numberBytes digits
-putting-none d at w x = record {
-  few = omega arith;
-  long = refl;
-  is = rw sub-self (sym (store-none d (at + w)));
-  over = rw (sub-self, pow-zero, div-one);
-}
+high-put d at w v room = store-last d at (v % 256) (numberBytes w (v / 256)) (length-numberBytes w (v / 256)) (omega arith) ∙ ap (storeAt d at) (sym (reverse-cons (v % 256) (digits 256 w (v / 256))))
 
-pub putting-next : {d₀ : List ℕ} {at w x : ℕ} {d : List ℕ} {left rest : ℕ} → Putting d₀ at w x d left rest → 0 < left → at + w ≤ length d₀
-    → Putting d₀ at w x (set d (at + (left - 1)) (rest % 256)) (left - 1) (rest / 256)
-putting-next {d₀} {at} {w} {x} {d} {left} {rest} p h room =
-    let j : ℕ = w - left in
-    let on : w - (left - 1) ≡ suc (w - left) = omega (arith, p .few) in
-    let here : at + left ≡ at + (left - 1) + 1 = omega arith in
-    let long : length (numberBytes (w - left) x) ≡ w - left = length-numberBytes (w - left) x in
-    let fits : at + (left - 1) + 1 + length (numberBytes (w - left) x) ≤ length d₀ = omega (arith, p .few) in
-    record {
-      few = omega (arith, p .few);
-      long = length-set d (at + (left - 1)) (rest % 256) ∙ p .long;
-      is = rw (on, bytes-next, p .is, p .over, here) (store-before d₀ (at + (left - 1)) _ (numberBytes (w - left) x) fits);
-      over = rw (on, p .over, pow-suc 256 (w - left)) (div-div-eq-div-mul x (256 ^ (w - left)) 256);
-    }
+-- w stores more, one in the other, after i of them
+abbrev pub puts : Bool → List ℕ → ℕ → ℕ → ℕ → ℕ → List ℕ
+puts high d at i zero v = d
+puts true d at i (suc w) v = puts true (set d (spot at w) (v % 256)) at (suc i) w (v / 256)
+puts false d at i (suc w) v = puts false (set d (spot at i) (v % 256)) at (suc i) w (v / 256)
 
-pub putting-done : {d₀ : List ℕ} {at w x : ℕ} {d : List ℕ} {left rest : ℕ} → Putting d₀ at w x d left rest → left ≤ 0 → d ≡ storeAt d₀ at (numberBytes w x)
-putting-done {d₀} {at} {w} {x} {d} {left} {rest} p h =
-    let here : at + left ≡ at = omega arith in
-    let all : w - left ≡ w = omega arith in
-    rw (here, all) at (p .is)
+-- where the bytes begin that are still to put
+abbrev start : Bool → ℕ → ℕ → ℕ
+start true at i = at
+start false at i = spot at i
 
--- eight bytes, put one by one
-module _ (d : List ℕ) (at x : ℕ) (room : at + 8 ≤ length d) where
-  next : (d′ : List ℕ) (left rest : ℕ) → Putting d at 8 x d′ left rest → 0 < left → Putting d at 8 x (set d′ (at + (left - 1)) (rest % 256)) (left - 1) (rest / 256)
-  next d′ left rest p h = putting-next p h room
+putting : (high : Bool) (d : List ℕ) (at i w v : ℕ) → at + i + w ≤ length d → puts high d at i w v ≡ storeAt d (start high at i) (ordered high (digits 256 w v))
+unfolding digits numberBytes
+putting true d at i zero v room = sym (store-none d at)
+putting false d at i zero v room = sym (store-none d (spot at i))
+putting true d at i (suc w) v room = putting true (set d (spot at w) (v % 256)) at (suc i) w (v / 256) (simp length-set (omega arith)) ∙ rw (spot-is at w) (high-put d at w v (omega arith))
+putting false d at i (suc w) v room =
+    let on : at + suc i ≡ suc (spot at i) = rw (spot-is at i) (omega arith) in
+    putting false (set d (spot at i) (v % 256)) at (suc i) w (v / 256) (simp length-set (omega arith)) ∙ rw on (low-put d (spot at i) w v (rw (spot-is at i) (omega arith)))
 
-  pub eight-put : set (set (set (set (set (set (set (set d (at + 7) (x % 256)) (at + 6) (x / 256 % 256)) (at + 5) (x / 256 / 256 % 256)) (at + 4) (x / 256 / 256 / 256 % 256))
-      (at + 3) (x / 256 / 256 / 256 / 256 % 256)) (at + 2) (x / 256 / 256 / 256 / 256 / 256 % 256)) (at + 1) (x / 256 / 256 / 256 / 256 / 256 / 256 % 256))
-      at (x / 256 / 256 / 256 / 256 / 256 / 256 / 256 % 256)
-      ≡ storeAt d at (numberBytes 8 x)
-  eight-put =
-      let p7 = next _ 8 _ (putting-none d at 8 x) (omega arith) in
-      let p6 = next _ 7 _ p7 (omega arith) in
-      let p5 = next _ 6 _ p6 (omega arith) in
-      let p4 = next _ 5 _ p5 (omega arith) in
-      let p3 = next _ 4 _ p4 (omega arith) in
-      let p2 = next _ 3 _ p3 (omega arith) in
-      let p1 = next _ 2 _ p2 (omega arith) in
-      rw add-zero at (putting-done (next _ 1 _ p1 (omega arith)) (omega arith))
+-- the w lowest bytes of a number, in either order
+pub bytes-put : (high : Bool) (d : List ℕ) (at w v : ℕ) → at + w ≤ length d → puts high d at 0 w v ≡ storeAt d at (ordered high (digits 256 w v))
+bytes-put true d at w v room = putting true d at 0 w v (rw add-zero room)
+bytes-put false d at w v room = putting false d at 0 w v (rw add-zero room)
+
+-- ---- bytes read one by one
+
+-- n elements, from place i on
+abbrev pub items : List ℕ → ℕ → ℕ → ℕ → List ℕ
+items xs at i zero = []
+items xs at i (suc n) = getD xs (spot at i) 0 ∷ items xs at (suc i) n
+
+taking : (xs : List ℕ) (at i n : ℕ) → at + i + n ≤ length xs → part xs (spot at i) n ≡ items xs at i n
+taking xs at i zero inside = refl
+taking xs at i (suc n) inside =
+    let on : suc (spot at i) ≡ at + suc i = rw (spot-is at i) (omega arith) in
+    rw (drop-cons xs (spot at i) 0 (rw (spot-is at i) (omega arith)), on) (ap (λ (ys : List ℕ). getD xs (spot at i) 0 ∷ ys) (taking xs at (suc i) n (omega arith)))
+
+pub part-items : (xs : List ℕ) (at n : ℕ) → at + n ≤ length xs → part xs at n ≡ items xs at 0 n
+part-items xs at n inside = taking xs at 0 n (rw add-zero inside)
+
+-- a number has those digits that make it: the bytes read, or another number's, in either order
+digits-are : (ds : List ℕ) (w x : ℕ) → length ds ≡ w → All (λ d. d < 256) ds → x ≡ number 256 ds → digits 256 w x ≡ ds
+digits-are ds w x e h is = rw (is, ← e) (digits-number 256 ds h)
+
+pub part-bytes : (xs : List ℕ) (start n : ℕ) → ((i : ℕ) → getD xs i 0 < 256) → All (λ d. d < 256) (part xs start n)
+part-bytes xs start n small = all-take (λ d. d < 256) n (drop start xs) (all-drop (λ d. d < 256) start xs (all-below xs small))
+
+pub bytes-of : (high : Bool) (bs : List ℕ) (at w x : ℕ) → ((i : ℕ) → getD bs i 0 < 256) → at + w ≤ length bs → x ≡ number 256 (ordered high (part bs at w)) → digits 256 w x ≡ ordered high (part bs at w)
+bytes-of high bs at w x small inside =
+    digits-are (ordered high (part bs at w)) w x (length-ordered high (part bs at w) ∙ length-part w at bs inside) (all-ordered (λ d. d < 256) high (part bs at w) (part-bytes bs at w small))
+
+pub bytes-read : (high : Bool) (bs : List ℕ) (at w x : ℕ) → ((i : ℕ) → getD bs i 0 < 256) → at + w ≤ length bs → x ≡ number 256 (ordered high (items bs at 0 w)) → digits 256 w x ≡ ordered high (part bs at w)
+bytes-read high bs at w x small inside is = bytes-of high bs at w x small inside (rw (part-items bs at w inside) is)
+
+pub bytes-turned : (high : Bool) (w v x : ℕ) → x ≡ number 256 (ordered high (digits 256 w v)) → digits 256 w x ≡ ordered high (digits 256 w v)
+bytes-turned high w v x =
+    digits-are (ordered high (digits 256 w v)) w x (length-ordered high (digits 256 w v) ∙ length-digits 256 w v) (all-ordered (λ d. d < 256) high (digits 256 w v) (digits-below 256 w v (omega arith)))
 
 -- ---- many numbers
 
@@ -171,10 +195,7 @@ big-endian-part w xs from n h = big-endian-take w n (drop from xs) (rw length-dr
 
 number-back : (w : ℕ) (p : List ℕ) → length p ≡ w → All (λ b. b < 256) p → numberBytes w (number 256 (reverse p)) ≡ p
 unfolding numberBytes
-number-back w p e h =
-    let turned : length (reverse p) ≡ w = length-ordered true p ∙ e in
-    let back : digits 256 (length (reverse p)) (number 256 (reverse p)) ≡ reverse p = digits-number 256 (reverse p) (all-ordered (λ b. b < 256) true p h) in
-    ap reverse (rw turned at back) ∙ reverse-reverse p
+number-back w p e h = ap reverse (digits-are (reverse p) w _ (length-ordered true p ∙ e) (all-ordered (λ b. b < 256) true p h) refl) ∙ reverse-reverse p
 
 pub big-endian-back : (w n : ℕ) (bs : List ℕ) → length bs ≡ n * w → All (λ b. b < 256) bs → bigEndian w (bigEndianIn w n bs) ≡ bs
 unfolding bigEndian bigEndianIn join pieces

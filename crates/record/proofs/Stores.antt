@@ -8,7 +8,7 @@ use native.Mathlib.Nat.{add-assoc, add-zero, zero-mul, suc-mul, le-of-suc-le-suc
 use native.Mathlib.Numerals.{add-one}
 use native.Mathlib.Omega.{arith}
 use lib.ListN.{length, take, drop, getD, set, length-take, length-drop, length-append, length-set, length-reverse, take-append-drop, drop-of-length-le, List·getD-append}
-use lib.Seq.{take-suc, set-at, take-at, take-add, drop-drop, length-take-le, drop-append-add, getD-at, paste, paste-zero, paste-suc, take-all}
+use lib.Seq.{take-suc-set, take-set-le, drop-set-lt, set-split, take-at, drop-at, take-add, drop-drop, length-take-le, drop-append-add, getD-at, paste, paste-zero, paste-suc, take-all}
 use Rattle.record.specs.Bytes.{part, storeAt}
 
 pub length-storeAt : (d : List ℕ) (at : ℕ) (s : List ℕ) → at + length s ≤ length d → length (storeAt d at s) ≡ length d
@@ -29,14 +29,18 @@ store-store d at s t h =
     ∙ ap (λ (n : ℕ). drop n d) sum in
     rw (take-at head rest (at + length s) long, past, append-assoc (take at d) s t)
 
--- one more element stored just before a run
-pub store-before : (d : List ℕ) (at v : ℕ) (s : List ℕ) → at + 1 + length s ≤ length d → set (storeAt d (at + 1) s) at v ≡ storeAt d at (v ∷ s)
-store-before d at v s h =
-    let on : at + 1 ≡ suc at = omega arith in
-    let past : at + 1 + length s ≡ at + suc (length s) = omega arith in
-    let head : take (at + 1) d ≡ take at d ++ (getD d at 0 ∷ []) = rw on (take-suc d at 0 (omega arith)) in
-    let rest : List ℕ = s ++ drop (at + suc (length s)) d in
-    rw (head, past) (simp append-assoc (set-at (take at d) (getD d at 0) rest v at (length-take-le at d (omega arith))))
+-- an element, and then the run after it or before it
+pub store-first : (d : List ℕ) (at v : ℕ) (s : List ℕ) → at + suc (length s) ≤ length d → storeAt (set d at v) (suc at) s ≡ storeAt d at (v ∷ s)
+store-first d at v s h =
+    let on : suc at + length s ≡ at + suc (length s) = omega arith in
+    rw (take-suc-set d at v (omega arith), on, drop-set-lt (at + suc (length s)) d at v (omega arith), append-assoc (take at d) (v ∷ []) s)
+
+pub store-last : (d : List ℕ) (at v : ℕ) (s : List ℕ) {k : ℕ} → length s ≡ k → at + k < length d → storeAt (set d (at + k) v) at s ≡ storeAt d at (s ++ (v ∷ []))
+store-last d at v s {k} e h =
+    let rest : List ℕ = drop (suc (at + k)) d in
+    let past : drop (at + length s) (set d (at + k) v) ≡ v ∷ rest = rw (e, set-split d (at + k) v h) (drop-at (take (at + k) d) (v ∷ rest) (at + k) (length-take-le (at + k) d (omega arith))) in
+    let on : at + length (s ++ (v ∷ [])) ≡ suc (at + k) = rw (length-append, e) (omega arith) in
+    rw (take-set-le at d (at + k) v (omega arith), past, on, ← append-assoc (take at d) s (v ∷ [])) (sym (append-assoc (take at d ++ s) (v ∷ []) rest))
 
 -- one more run stored at the end of those before it
 pub store-next : {d d′ u : List ℕ} {to : ℕ} (d₀ : List ℕ) (at : ℕ) (s t : List ℕ) → d ≡ storeAt d₀ at s → to ≡ at + length s → d′ ≡ storeAt d to t → u ≡ s ++ t → at + length u ≤ length d₀

@@ -1,28 +1,25 @@
 -- The four bytes are the number's digits in base 256.
-use mathlib.Core.Path.{refl}
 use native.Mathlib.Omega.{arith}
-use Rattle.byte_runs.proofs.WordLaws.{four-low, four-high}
+use mathlib.Core.Bool.{true, false}
+use Rattle.record.specs.Bytes.{number}
+use Rattle.record.proofs.NumberLaws.{bytes-read}
 use borrow.Author.Needs.{needs}
 use Rattle.byte_runs.proofs.four_at.Statement.{statement}
 use Rattle.byte_runs.proofs.four_at.Tie as tie
 
 returns : tie.Need-returns
+unfolding number
 returns c =
-    let start = c .before .before .before .before .before .before .before .before .before .before in
-    let w = c .before .before .before .before .before .before .before .wide .ensures in
-    let x = c .before .before .before .before .before .wide2 .ensures in
-    let y = c .before .before .before .wide3 .ensures in
-    let z = c .before .wide4 .ensures in
-    (omega arith, rw (c .if1 .taken) (four-high (start .args .from .now) (start .args .at) (start .pre) (w .0) (x .0) (y .0) (z .0) (w .1) (x .1) (y .1) (z .1) refl))
+    let known = c .before .before .before .before .before .before .before .before .before in
+    let start = known .before in
+    (omega arith, rw (c .if1 .taken) (bytes-read true (start .args .from .now) (start .args .at) 4 _ (λ i. known .shared-slice-known .given i .fits) (start .pre) (omega arith)))
 
 returns-2 : tie.Need-returns-2
+unfolding number
 returns-2 c =
-    let start = c .before .before .before .before .before .before .before .before .before .before in
-    let w = c .before .before .before .before .before .before .before .wide .ensures in
-    let x = c .before .before .before .before .before .wide2 .ensures in
-    let y = c .before .before .before .wide3 .ensures in
-    let z = c .before .wide4 .ensures in
-    (omega arith, rw (c .if1 .left) (four-low (start .args .from .now) (start .args .at) (start .pre) (w .0) (x .0) (y .0) (z .0) (w .1) (x .1) (y .1) (z .1) refl))
+    let known = c .before .before .before .before .before .before .before .before .before in
+    let start = known .before in
+    (omega arith, rw (c .if1 .left) (bytes-read false (start .args .from .now) (start .args .at) 4 _ (λ i. known .shared-slice-known .given i .fits) (start .pre) (omega arith)))
 
 pub four-at-spec : {M : Type 1} → statement M
 four-at-spec =

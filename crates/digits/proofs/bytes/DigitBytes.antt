@@ -11,12 +11,12 @@ use Rattle.record.specs.Bytes.{part, fit, number, ordered}
 use Rattle.record.specs.Geometry.{base, perByte}
 use Rattle.record.specs.Packing.{digitValue}
 use Rattle.record.proofs.Bytes.{length-fit}
+use Rattle.record.proofs.NumberLaws.{part-items}
 use Rattle.record.proofs.Stores.{length-part}
 use Rattle.record.proofs.Widening.{number-append}
 use Rattle.record.proofs.Fields.{split}
 use Rattle.digits.specs.inside.Numerals.{valuesAt}
 use Rattle.digits.specs.inside.bytes.{byteOf}
-use Rattle.byte_runs.proofs.WordLaws.{the-four, two-elements}
 use Rattle.digits.proofs.DigitLaws.{map-at}
 
 -- ---- digits, as many as fill a byte, and 0 for each that is missing
@@ -72,8 +72,8 @@ module _ (ds : List ℕ) where
   module _ (first : ℕ) (h : first ≤ 4) {a b c d : ℕ} (ea : a ≡ getD ds first 0) (eb : b ≡ getD ds (first + 1) 0) (ec : c ≡ getD ds (first + 2) 0) (ed : d ≡ getD ds (first + 3) 0) where
     half : part eight first 4 ≡ a ∷ b ∷ c ∷ d ∷ []
     half =
-        the-four eight first (omega (arith, eight-long)) (ea ∙ sym (fit-zero 8 ds first (omega arith))) (eb ∙ sym (fit-zero 8 ds (first + 1) (omega arith)))
-        (ec ∙ sym (fit-zero 8 ds (first + 2) (omega arith))) (ed ∙ sym (fit-zero 8 ds (first + 3) (omega arith)))
+        part-items eight first 4 (omega (arith, eight-long))
+        ∙ rw (fit-zero 8 ds first (omega arith), fit-zero 8 ds (first + 1) (omega arith), fit-zero 8 ds (first + 2) (omega arith), fit-zero 8 ds (first + 3) (omega arith), ea, eb, ec, ed)
 
     pub half-low : a + 2 * b + 4 * c + 8 * d ≡ number 2 (part eight first 4)
     unfolding number
@@ -85,7 +85,9 @@ module _ (ds : List ℕ) where
 
   module _ {a b : ℕ} (ea : a ≡ getD ds 0 0) (eb : b ≡ getD ds 1 0) where
     pair : fit 2 0 ds ≡ a ∷ b ∷ []
-    pair = two-elements (fit 2 0 ds) (length-fit 2 0 ds) ∙ rw (fit-zero 2 ds 0 (omega arith), fit-zero 2 ds 1 (omega arith), ea, eb)
+    pair =
+        let long : length (fit 2 0 ds) ≡ 2 = length-fit 2 0 ds in
+        sym (take-all 2 (fit 2 0 ds) (omega arith)) ∙ part-items (fit 2 0 ds) 0 2 (omega arith) ∙ rw (fit-zero 2 ds 0 (omega arith), fit-zero 2 ds 1 (omega arith), ea, eb)
 
     pub hex-low : a + b * 16 ≡ byteOf true false ds
     unfolding byteOf number

@@ -1,6 +1,6 @@
 -- Laws of the characters of a byte's digits.
 use Prim.Native.Nat.{ℕ, zero, suc, _+_, _*_, _/_, _%_, _^_, _≤_, _<_}
-use native.Mathlib.Nat.{zero-add, suc-add, mul-zero, mod-lt, not-suc-le-zero, le-of-suc-le-suc, pow-zero, pow-suc, pow-succ', mul-suc, div-one, div-div-eq-div-mul}
+use native.Mathlib.Nat.{zero-add, suc-add, mul-zero, not-suc-le-zero, le-of-suc-le-suc, pow-zero, pow-suc, pow-succ', mul-suc, div-one, div-div-eq-div-mul}
 use native.Mathlib.Omega.{arith}
 use lib.Pow.{pow-add}
 use mathlib.Core.Path.{_≡_, sym, ap, _∙_}
@@ -11,7 +11,7 @@ use lib.Seq.{length-take-le}
 use Rattle.record.specs.Bytes.{storeAt, digits, number, ordered}
 use Rattle.record.specs.Geometry.{base, perByte}
 use Rattle.record.specs.Reading.{digitChar}
-use Rattle.record.proofs.Bytes.{All, digits-number, number-digits, length-digits, length-ordered}
+use Rattle.record.proofs.Bytes.{digits-number, digits-below, number-digits, length-digits, length-ordered}
 use Rattle.digits.specs.inside.Numerals.{placeOf}
 use Rattle.digits.specs.inside.chars.{charsOf, fourChars}
 use Rattle.byte_runs.proofs.ByteLaws.{store-both}
@@ -39,11 +39,6 @@ digits-add : (b j k n : ℕ) → digits b (j + k) n ≡ digits b j n ++ digits b
 unfolding digits
 digits-add b zero k n = rw (zero-add, pow-zero b, div-one n)
 digits-add b (suc j) k n = rw (suc-add, digits-add b j k (n / b), div-div-eq-div-mul n b (b ^ j), pow-succ' b j)
-
-digits-below : (b k n : ℕ) → 0 < b → All (λ d. d < b) (digits b k n)
-unfolding digits
-digits-below b zero n h = tt
-digits-below b (suc k) n h = (mod-lt n h, digits-below b k (n / b) h)
 
 digits-low : (b k n : ℕ) → 0 < b → digits b k (n % b ^ k) ≡ digits b k n
 digits-low b k n h =

@@ -10,12 +10,13 @@ use Rattle.layout.specs.declared.Shape.the-variants.{Integers}
 use Rattle.record.specs.Bytes.{part, digits, number, ordered, numberBytes, bigEndian}
 use Rattle.record.specs.Table.{integerBytes}
 use Rattle.record.specs.Reading.{loaded, widened}
-use Rattle.record.proofs.Bytes.{All, all-ordered, length-digits, length-ordered, part-at}
+use Rattle.record.proofs.Bytes.{All, all-ordered, length-digits, length-ordered}
+use Rattle.record.proofs.NumberLaws.{part-items, part-bytes}
 use Rattle.record.proofs.Stores.{runs, length-part}
 use Rattle.record.proofs.Widening.{filler, widened-digits, sign-test}
 use Rattle.integers.specs.inside.Eights.{eights}
 use Rattle.integers.specs.inside.load.{Narrow, itemBytes, fillerOf}
-use Rattle.integers.proofs.IntegerLaws.{part-bytes, runs-same, joined, pieces-take, eightAt, eights-runs}
+use Rattle.integers.proofs.IntegerLaws.{runs-same, joined, pieces-take, eightAt, eights-runs}
 
 -- ---- order and parts
 
@@ -122,22 +123,7 @@ eights-loaded input at big unsigned n small inside =
     λ i h. loaded-item 8 big unsigned (part input (at + i * 8) 8) (length-part 8 (at + i * 8) input (omega arith)) (omega arith) (omega arith) (part-bytes input (at + i * 8) 8 small) in
     eights-runs (not big) input at n ∙ runs-same n _ _ one ∙ loaded-runs input at 8 big unsigned n
 
--- ---- integers of two bytes, as numbers
-
-pub pair-low-number : (v : ℕ) → v < 65536 → v ≡ number 256 (ordered false (digits 256 2 v))
-unfolding digits number
-pair-low-number v h = omega arith
-
-pub pair-high-number : (v : ℕ) → v < 65536 → v % 256 * 256 + v / 256 ≡ number 256 (ordered true (digits 256 2 v))
-unfolding digits number
-pair-high-number v h = omega arith
-
 -- ---- integers of one byte, as numbers
-
-one-element : (p : List ℕ) → length p ≡ 1 → p ≡ getD p 0 0 ∷ []
-one-element [] e = absurd (omega arith)
-one-element (a ∷ []) e = refl
-one-element (a ∷ b ∷ xs) e = absurd (omega arith)
 
 alone : (big : Bool) (x : ℕ) → x ≡ number 256 (ordered big (x ∷ []))
 unfolding number
@@ -145,12 +131,7 @@ alone true x = omega arith
 alone false x = omega arith
 
 pub one-number : (input : List ℕ) (at : ℕ) (big : Bool) → at + 1 ≤ length input → getD input at 0 ≡ number 256 (ordered big (part input at 1))
-one-number input at big inside =
-    let p : List ℕ = part input at 1 in
-    let here : at + 0 ≡ at = omega arith in
-    let first : getD p 0 0 ≡ getD input at 0 = part-at input at 1 0 (omega arith) ∙ rw here in
-    let is : p ≡ getD input at 0 ∷ [] = one-element p (length-part 1 at input inside) ∙ ap (λ (x : ℕ). x ∷ []) first in
-    alone big (getD input at 0) ∙ sym (ap (λ (l : List ℕ). number 256 (ordered big l)) is)
+one-number input at big inside = rw (part-items input at 1 inside) (alone big (getD input at 0))
 
 -- ---- an item that was read as a number
 

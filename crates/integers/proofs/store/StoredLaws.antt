@@ -13,10 +13,11 @@ use Rattle.record.specs.Table.{integersIn}
 use Rattle.record.specs.Packing.{stored, lowBytes}
 use Rattle.record.proofs.Bytes.{all-ordered, length-pieces, drop-take}
 use Rattle.record.proofs.Fields.{item}
+use Rattle.record.proofs.NumberLaws.{part-bytes}
 use Rattle.record.proofs.Stores.{runs, length-part}
 use Rattle.record.proofs.Widening.{low-digits}
 use Rattle.integers.specs.inside.Eights.{eights}
-use Rattle.integers.proofs.IntegerLaws.{part-bytes, runs-same, joined, eightAt, eights-runs}
+use Rattle.integers.proofs.IntegerLaws.{runs-same, joined, eightAt, eights-runs}
 
 -- ---- one integer
 

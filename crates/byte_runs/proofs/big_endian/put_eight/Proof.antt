@@ -1,37 +1,16 @@
--- Eight turns of `Putting`: each store puts the lowest byte that is left in front of those after it.
+-- Eight stores of one byte each, as in the law of any width.
 use native.Mathlib.Omega.{arith}
 use lib.ListN.{length-set}
-use Rattle.record.proofs.NumberLaws.{eight-put}
+use mathlib.Core.Bool.{true}
+use Rattle.record.specs.Bytes.{numberBytes}
+use Rattle.record.proofs.NumberLaws.{bytes-put}
 use borrow.Author.Needs.{needs}
 use Rattle.byte_runs.proofs.big_endian.put_eight.Statement.{statement}
 use Rattle.byte_runs.proofs.big_endian.put_eight.Tie as tie
 
-slice-write-out-2 : tie.Need-slice-write-out-2
-slice-write-out-2 c = simp length-set (omega arith)
-
-slice-write-out-3 : tie.Need-slice-write-out-3
-slice-write-out-3 c = simp length-set (omega arith)
-
-slice-write-out-4 : tie.Need-slice-write-out-4
-slice-write-out-4 c = simp length-set (omega arith)
-
-slice-write-out-5 : tie.Need-slice-write-out-5
-slice-write-out-5 c = simp length-set (omega arith)
-
-slice-write-out-6 : tie.Need-slice-write-out-6
-slice-write-out-6 c = simp length-set (omega arith)
-
-slice-write-out-7 : tie.Need-slice-write-out-7
-slice-write-out-7 c = simp length-set (omega arith)
-
-slice-write-out-8 : tie.Need-slice-write-out-8
-slice-write-out-8 c = simp length-set (omega arith)
-
-same-length : tie.Need-same-length
-same-length c = simp length-set
-
 returns : tie.Need-returns
-returns c = eight-put (c .args .out .now) (c .args .at) (c .args .x) (c .pre)
+unfolding numberBytes
+returns c = bytes-put true _ _ 8 _ (c .pre)
 
 pub put-eight-spec : {M : Type 1} → statement M
 put-eight-spec =
@@ -42,23 +21,23 @@ put-eight-spec =
     (λ c. search needs)
     (λ c. search needs)
     (λ c. search needs)
-    slice-write-out-2
+    (λ c. simp length-set (omega arith))
     (λ c. search needs)
     (λ c. search needs)
-    slice-write-out-3
+    (λ c. simp length-set (omega arith))
     (λ c. search needs)
     (λ c. search needs)
-    slice-write-out-4
+    (λ c. simp length-set (omega arith))
     (λ c. search needs)
     (λ c. search needs)
-    slice-write-out-5
+    (λ c. simp length-set (omega arith))
     (λ c. search needs)
     (λ c. search needs)
-    slice-write-out-6
+    (λ c. simp length-set (omega arith))
     (λ c. search needs)
     (λ c. search needs)
-    slice-write-out-7
+    (λ c. simp length-set (omega arith))
     (λ c. search needs)
-    slice-write-out-8
-    same-length
+    (λ c. simp length-set (omega arith))
+    (λ c. simp length-set)
     returns)

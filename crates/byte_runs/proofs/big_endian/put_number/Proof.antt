@@ -1,13 +1,18 @@
--- A turn puts the lowest byte that is left in front of those after it: the loop keeps `Putting`. All eight are put at
--- once.
+-- A turn puts the lowest byte that is left, so the loop keeps what comes of putting those that are left. All eight are
+-- put at once.
+use Prim.Native.Nat.{suc, _-_, _≤_}
 use native.Mathlib.Omega.{arith}
+use mathlib.Core.Path.{_≡_, refl, sym, _∙_}
+use lib.ListN.{length, length-set}
 use borrow.Author.Needs.{needs}
-use Rattle.record.proofs.NumberLaws.{Putting, putting-none, putting-next, putting-done}
+use Rattle.record.specs.Bytes.{storeAt, digits, numberBytes}
+use Rattle.record.proofs.NumberLaws.{high-put}
+use Rattle.record.proofs.Stores.{store-none}
 use Rattle.byte_runs.proofs.big_endian.put_number.Statement.{statement}
 use Rattle.byte_runs.proofs.big_endian.put_number.Tie as tie
 
 abbrev Inv-loop : tie.InvT-loop
-Inv-loop out₀ at w x rest₀ left₀ out rest left = Putting out₀ at w x out left rest
+Inv-loop out₀ at w x rest₀ left₀ out rest left = (left ≤ w) × (length out ≡ length out₀) × (storeAt out at (numberBytes left rest) ≡ storeAt out₀ at (numberBytes w x))
 
 abbrev μ-loop : tie.MeasureT-loop
 μ-loop out₀ at w x rest₀ left₀ out rest left = left
@@ -16,16 +21,24 @@ returns : tie.Need-returns Inv-loop μ-loop
 returns c = rw (c .before .before .before .before .if1 .taken) (c .before .before .put-eight .ensures)
 
 loop-holds : tie.Need-loop-holds Inv-loop μ-loop
-loop-holds c = putting-none _ _ _ _
+loop-holds c = (omega arith, refl, refl)
 
 loop-again : tie.Need-loop-again Inv-loop μ-loop
-loop-again c = putting-next (c .before .loop .inv) (omega arith) (omega arith)
+loop-again c =
+    let loop = c .before .loop in
+    let at = c .before .before .before .before .args .at in
+    let on : loop .left ≡ suc (loop .left - 1) = omega arith in
+    (omega arith, simp length-set (loop .inv .1), high-put (loop .out) at (loop .left - 1) (loop .rest) (omega arith) ∙ (rw on at (loop .inv .2)))
 
 same-length-2 : tie.Need-same-length-2 Inv-loop μ-loop
-same-length-2 c = c .before .loop .inv .long
+same-length-2 c = c .before .loop .inv .1
 
 returns-2 : tie.Need-returns-2 Inv-loop μ-loop
-returns-2 c = putting-done (c .before .loop .inv) (omega arith)
+unfolding numberBytes digits
+returns-2 c =
+    let loop = c .before .loop in
+    let none : loop .left ≡ 0 = omega arith in
+    sym (store-none (loop .out) (c .before .before .before .before .args .at)) ∙ (rw none at (loop .inv .2))
 
 pub put-number-spec : {M : Type 1} → statement M
 put-number-spec =

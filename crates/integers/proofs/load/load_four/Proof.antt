@@ -3,7 +3,7 @@ use native.Mathlib.Omega.{arith}
 use mathlib.Core.Path.{ap, _∙_}
 use Rattle.record.specs.Bytes.{part, storeAt}
 use Rattle.record.proofs.Stores.{length-part}
-use Rattle.integers.proofs.IntegerLaws.{part-bytes}
+use Rattle.record.proofs.NumberLaws.{part-bytes}
 use Rattle.integers.proofs.load.LoadedLaws.{item-digits}
 use borrow.Author.Needs.{needs}
 use Rattle.integers.proofs.load.load_four.Statement.{statement}
