@@ -73,7 +73,14 @@ pub fn read_short(
             steps: 0,
         },
         Parsed::Fields(n, taken) => {
-            if checking::surely_fits(n, taken, bytes.len(), slots.len(), area.len() - mark) {
+            if passes::surely_read(
+                &codes,
+                n,
+                taken,
+                bytes.len(),
+                slots.len(),
+                area.len() - mark,
+            ) {
                 return reading::fill(&codes, n, bytes, slots, area, mark);
             }
             passes::read(&codes, n, taken, bytes, slots, area, mark)

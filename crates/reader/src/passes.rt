@@ -12,7 +12,7 @@ use super::checking;
 use record::ReadAnswer;
 
 // There are room and slots enough whatever the record holds.
-fn surely_read(
+pub fn surely_read(
     codes: &[u32],
     n: usize,
     taken: usize,
@@ -33,6 +33,7 @@ fn surely_read(
 }
 
 // Reads by the fields of the codes. Their values are measured only where it is not sure without it that they fit.
+// (Handed on as `&codes[..]` a slice goes to the next call by value, and by its name alone by its address.)
 pub fn read(
     codes: &[u32],
     n: usize,
@@ -45,15 +46,29 @@ pub fn read(
     requires { ⌜ ReadReady n taken (now codes) (now bytes) (now slots) (now area) mark ⌝ }
     ensures { λ r. ⌜ ReadsCodes n taken codes bytes slots area mark r ⌝ }
 {
-    if surely_read(codes, n, taken, bytes.len(), slots.len(), area.len() - mark) {
-        return reading::fill(codes, n, bytes, slots, area, mark);
+    if surely_read(
+        &codes[..],
+        n,
+        taken,
+        bytes.len(),
+        slots.len(),
+        area.len() - mark,
+    ) {
+        return reading::fill(&codes[..], n, &bytes[..], slots, area, mark);
     }
-    let a = checking::fits(codes, n, taken, bytes, slots.len(), area.len() - mark);
+    let a = checking::fits(
+        &codes[..],
+        n,
+        taken,
+        &bytes[..],
+        slots.len(),
+        area.len() - mark,
+    );
     if a.number != 0 {
         return ReadAnswer {
             answer: a,
             steps: 0,
         };
     }
-    reading::fill(codes, n, bytes, slots, area, mark)
+    reading::fill(&codes[..], n, &bytes[..], slots, area, mark)
 }

@@ -8,7 +8,7 @@ use borrow.Author.Tests.{not-true, not-false}
 use Rattle.layout.proofs.Decoded.{parsed-fields, parsed-refused}
 use Rattle.layout.proofs.Places.{refused-inside}
 use Rattle.reader.proofs.checking.Calls.{Fit, fit, sizes-refuse, parse-refuses}
-use Rattle.reader.proofs.passes.Calls.{sure-room, sure-put}
+use Rattle.reader.proofs.passes.Calls.{surely-room, surely-put}
 use Rattle.reader.proofs.Calls.{read-refused, ready, codes-read}
 use borrow.Author.Needs.{needs}
 use Rattle.reader.proofs.read_short.Statement.{statement}
@@ -29,34 +29,34 @@ parse-requires c κs = (omega (arith, c .before .before .before .if1 .left), sea
 cast-refused : tie.Need-cast-refused
 cast-refused c = omega (arith, sized (c .before .before .before .before .before .before) .text, refused-inside false _ _ _ (parsed-refused _ _ _ _ _ (c .before .before .before .before .parse .ensures) (c .before .p .given .1)))
 
-sub-surely-fits : tie.Need-sub-surely-fits
-sub-surely-fits c = omega (arith, sized (c .before .before .before .before .before .before) .start)
+sub-surely-read : tie.Need-sub-surely-read
+sub-surely-read c = omega (arith, sized (c .before .before .before .before .before .before .before) .start)
 
-surely-fits-requires : tie.Need-surely-fits-requires
-surely-fits-requires c κs =
-    let l = parsed-fields _ _ _ _ _ (c .before .before .before .before .parse .ensures) (c .before .p2 .given .1) in
-    (omega (arith, l .few, l .room), sized (c .before .before .before .before .before .before) .whole)
+surely-read-requires : tie.Need-surely-read-requires
+surely-read-requires c κs =
+    let l = parsed-fields _ _ _ _ _ (c .before .before .before .before .before .parse .ensures) (c .before .before .p2 .given .1) in
+    (l .few, l .room, sized (c .before .before .before .before .before .before .before) .whole)
 
 fill-requires : tie.Need-fill-requires
 fill-requires c κs =
-    let k = sized (c .before .before .before .before .before .before .before .before .before .before .before) in
-    let l = parsed-fields _ _ _ _ _ (c .before .before .before .before .before .before .before .before .before .parse .ensures) (c .before .before .before .before .before .before .p2 .given .1) in
-    ((l .few, l .room, k .whole), sure-room (ready _ _ _ _ _ k l) (sym (c .before .before .before .before .surely-fits .ensures) ∙ c .before .before .before .if3 .taken))
+    let k = sized (c .before .before .before .before .before .before .before .before .before .before .before .before) in
+    let l = parsed-fields _ _ _ _ _ (c .before .before .before .before .before .before .before .before .before .before .parse .ensures) (c .before .before .before .before .before .before .before .p2 .given .1) in
+    ((l .few, l .room, k .whole), surely-room (ready _ _ _ _ _ k l) (sym (c .before .before .before .before .surely-read .ensures) ∙ c .before .before .before .if3 .taken))
 
 returns-3 : tie.Need-returns-3
 returns-3 c =
-    let k = sized (c .before .before .before .before .before .before .before .before .before .before .before .before .before .before .before .before) in
-    let l = parsed-fields _ _ _ _ _ (c .before .before .before .before .before .before .before .before .before .before .before .before .before .before .parse .ensures) (c .before .before .before .before .before .before .before .before .before .before .before .p2 .given .1) in
-    codes-read _ _ _ _ _ k l (sure-put (ready _ _ _ _ _ k l) (sym (c .before .before .before .before .before .before .before .before .before .surely-fits .ensures) ∙ c .before .before .before .before .before .before .before .before .if3 .taken) (c .before .before .before .before .fill .ensures))
+    let k = sized (c .before .before .before .before .before .before .before .before .before .before .before .before .before .before .before .before .before) in
+    let l = parsed-fields _ _ _ _ _ (c .before .before .before .before .before .before .before .before .before .before .before .before .before .before .before .parse .ensures) (c .before .before .before .before .before .before .before .before .before .before .before .before .p2 .given .1) in
+    codes-read _ _ _ _ _ k l (surely-put (ready _ _ _ _ _ k l) (sym (c .before .before .before .before .before .before .before .before .before .surely-read .ensures) ∙ c .before .before .before .before .before .before .before .before .if3 .taken) (c .before .before .before .before .fill .ensures))
 
 read-requires-2 : tie.Need-read-requires-2
-read-requires-2 c κs = ready _ _ _ _ _ (sized (c .before .before .before .before .before .before .before .before .before .before .before)) (parsed-fields _ _ _ _ _ (c .before .before .before .before .before .before .before .before .before .parse .ensures) (c .before .before .before .before .before .before .p2 .given .1))
+read-requires-2 c κs = ready _ _ _ _ _ (sized (c .before .before .before .before .before .before .before .before .before .before .before .before)) (parsed-fields _ _ _ _ _ (c .before .before .before .before .before .before .before .before .before .before .parse .ensures) (c .before .before .before .before .before .before .before .p2 .given .1))
 
 returns-4 : tie.Need-returns-4
 returns-4 c = read-refused _ _ _ _ _ (parse-refuses _ _ _ _ _ (sized (c .before .before .before .before .before .before .before)) (parsed-refused _ _ _ _ _ (c .before .before .before .before .before .parse .ensures) (c .before .before .p .given .1))) (c .refused2 .ensures)
 
 returns-5 : tie.Need-returns-5
-returns-5 c = codes-read _ _ _ _ _ (sized (c .before .before .before .before .before .before .before .before .before .before .before .before .before .before .before .before)) (parsed-fields _ _ _ _ _ (c .before .before .before .before .before .before .before .before .before .before .before .before .before .before .parse .ensures) (c .before .before .before .before .before .before .before .before .before .before .before .p2 .given .1)) (c .before .before .before .before .read2 .ensures)
+returns-5 c = codes-read _ _ _ _ _ (sized (c .before .before .before .before .before .before .before .before .before .before .before .before .before .before .before .before .before)) (parsed-fields _ _ _ _ _ (c .before .before .before .before .before .before .before .before .before .before .before .before .before .before .before .parse .ensures) (c .before .before .before .before .before .before .before .before .before .before .before .before .p2 .given .1)) (c .before .before .before .before .read2 .ensures)
 
 pub read-short-spec : {M : Type 1} → statement M
 read-short-spec =
@@ -75,8 +75,9 @@ read-short-spec =
     cast-refused
     (λ c κs. search needs)
     (λ c. search needs)
-    sub-surely-fits
-    surely-fits-requires
+    (λ c. search needs)
+    sub-surely-read
+    surely-read-requires
     (λ c. search needs)
     fill-requires
     (λ c. search needs)
