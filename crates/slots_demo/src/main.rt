@@ -91,7 +91,7 @@ const NUMBERS: usize = record::SLOT_WIDTH * slots::ROWS;
 
 fn string_at(start: u32) -> SlotRecord {
     SlotRecord {
-        kind: 1,
+        kind: record::slots::STRING,
         start: start,
         length: 1,
         position: 1,
@@ -240,7 +240,7 @@ fn all(fields: usize, count: usize) {
 
 fn string() -> SlotRecord {
     SlotRecord {
-        kind: 1,
+        kind: record::slots::STRING,
         start: 0,
         length: 3,
         position: 0,
@@ -249,7 +249,7 @@ fn string() -> SlotRecord {
 
 fn integers() -> SlotRecord {
     SlotRecord {
-        kind: 2,
+        kind: record::slots::SIGNED,
         start: 3,
         length: 2,
         position: 0,
@@ -258,7 +258,7 @@ fn integers() -> SlotRecord {
 
 fn unset() -> SlotRecord {
     SlotRecord {
-        kind: 0,
+        kind: record::slots::UNSET,
         start: 0,
         length: 0,
         position: 0,

@@ -7,7 +7,7 @@ pub struct Used {
     pub area: usize,
 }
 
-// What has been read of the text: the kind of the value that stands open (0: none), where it starts in the area and its
+// What has been read of the text: the kind of the value that stands open (UNSET: none), where it starts in the area and its
 // items so far; the digits of an item so far.
 struct State {
     open: u32,
@@ -77,7 +77,7 @@ fn one_more(n: u32) -> u32 {
 // The open value ends: its slot follows. With none open the slot is one that is not set.
 fn close(mut s: State, slots: &mut [u32]) -> State {
     s.slots = push_slot(slots, s.slots, s.open, narrow(s.start), s.items);
-    s.open = 0;
+    s.open = record::slots::UNSET;
     s.items = 0;
     s
 }
@@ -86,15 +86,15 @@ fn between(mut s: State, b: u8, slots: &mut [u32]) -> State {
     s.start = s.area;
     match b {
         b'"' => {
-            s.open = 1;
+            s.open = record::slots::STRING;
             s
         }
         b'{' => {
-            s.open = 2;
+            s.open = record::slots::SIGNED;
             s
         }
         b'<' => {
-            s.open = 4;
+            s.open = record::slots::REAL;
             s
         }
         b'-' => close(s, slots),
@@ -169,9 +169,9 @@ fn in_reals(s: State, b: u8, slots: &mut [u32], area: &mut [u8]) -> State {
 fn next(s: State, b: u8, slots: &mut [u32], area: &mut [u8]) -> State {
     let open = s.open;
     match open {
-        0 => between(s, b, slots),
-        1 => in_string(s, b, slots, area),
-        4 => in_reals(s, b, slots, area),
+        record::slots::UNSET => between(s, b, slots),
+        record::slots::STRING => in_string(s, b, slots, area),
+        record::slots::REAL => in_reals(s, b, slots, area),
         _ => in_list(s, b, slots, area),
     }
 }
@@ -179,7 +179,7 @@ fn next(s: State, b: u8, slots: &mut [u32], area: &mut [u8]) -> State {
 // Fills the slots and the area from the text.
 pub fn parse(text: &[u8], slots: &mut [u32], area: &mut [u8]) -> Used {
     let mut s = State {
-        open: 0,
+        open: record::slots::UNSET,
         start: 0,
         items: 0,
         number: 0,

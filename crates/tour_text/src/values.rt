@@ -23,11 +23,11 @@ fn part(run: &[u8], start: usize, n: usize) -> &[u8] {
 }
 
 fn integer(n: u64, kind: u32) {
-    if kind == 4 {
+    if kind == record::slots::REAL {
         print::pattern(n);
         return;
     }
-    if kind == 2 {
+    if kind == record::slots::SIGNED {
         if 9223372036854775807 < n {
             print::text(b"-");
             print::number(18446744073709551615 - n + 1);
@@ -74,7 +74,7 @@ fn few_integers(run: &[u8], kind: u32) {
 }
 
 fn list(run: &[u8], kind: u32) {
-    if kind == 4 {
+    if kind == record::slots::REAL {
         print::text(b"<");
         few_integers(run, kind);
         print::text(b">");
@@ -93,8 +93,8 @@ fn string(run: &[u8]) {
 
 fn value(kind: u32, start: u32, length: u32, area: &[u8]) {
     match kind {
-        0 => print::text(b"not set"),
-        1 => string(part(area, start as usize, length as usize)),
+        record::slots::UNSET => print::text(b"not set"),
+        record::slots::STRING => string(part(area, start as usize, length as usize)),
         _ => list(
             part(area, start as usize, length as usize * INTEGER_SIZE),
             kind,
