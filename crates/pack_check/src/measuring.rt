@@ -78,7 +78,7 @@ fn step(code: u32, slots: &[u32], area: &[u8], k: usize, c: Cursor) -> Stepped
     if d <= layout::LAST_DATA {
         let a = slot_table::slot_at(slots, k);
         let n = layout::count_from(code / layout::COUNT_UNIT);
-        let q = quick_check::try_argument(d, n, record::amount(n, a.len), a, area);
+        let q = quick_check::try_argument(d, record::amount(n, a.len), a, area);
         match q {
             Quick::Bytes(bytes) => {
                 return Stepped::Next(c.store(bytes));

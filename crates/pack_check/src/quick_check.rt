@@ -8,10 +8,8 @@ ghost use Rattle.layout.specs.Lent.{before};
 ghost use Rattle.record.specs.Table.{numberLimit};
 ghost use Rattle.record.specs.Geometry.{amount};
 ghost use Rattle.record.specs.inside.Bounds.{itemsLimit};
-ghost use Rattle.record.specs.Packing.{enough};
 ghost use Rattle.pack_check.specs.inside.quick_check.{Sound};
 use super::arguments;
-use layout::Count;
 use record::slots::Slot;
 use slot_table::sizes;
 
@@ -21,23 +19,12 @@ pub enum Quick {
     Unsure,
 }
 
-// An argument of `have` integers or reals has the items that its field takes.
-fn is_plenty(n: Count, items: usize, have: usize) -> bool
-    requires { ⌜ items ≡ amount n have ⌝ }
-    ensures { λ r. ⌜ r ≡ enough n have ⌝ }
-{
-    match n {
-        Count::Absent => have == 1,
-        Count::Star => true,
-        Count::Times(_) => items <= have,
-    }
-}
-
-// The quick test of an argument for a field of integers.
-fn try_integers(d: u32, n: Count, items: usize, a: Slot, area: &[u8]) -> Quick
-    requires { ⌜ (lastDigits < d) × (d ≤ lastIntegers) × (items ≡ amount n (a .len)) × (items < itemsLimit)
+// The quick test of an argument for a field of integers. It has just the items that the field takes; whether one with
+// more of them serves depends on the count, which is not looked at here.
+fn try_integers(d: u32, items: usize, a: Slot, area: &[u8]) -> Quick
+    requires { ⌜ (lastDigits < d) × (d ≤ lastIntegers) × (items < itemsLimit)
         × (a .start < numberLimit) × (a .len < numberLimit) ⌝ }
-    ensures { λ r. ⌜ Sound r (before area) (shapeNumbered d) n a ⌝ }
+    ensures { λ r. ⌜ ((n : Count) → items ≡ amount n (a .len) → Sound r (before area) (shapeNumbered d) n a) ⌝ }
 {
     let kind = a.kind;
     if kind < record::slots::SIGNED {
@@ -49,17 +36,17 @@ fn try_integers(d: u32, n: Count, items: usize, a: Slot, area: &[u8]) -> Quick
     if area.len() < a.start + a.len * 8 {
         return Quick::Unsure;
     }
-    if !is_plenty(n, items, a.len) {
+    if items != a.len {
         return Quick::Unsure;
     }
     Quick::Bytes(sizes::bytes_numbered(d, items))
 }
 
-// The quick test of an argument for a field of reals.
-fn try_reals(d: u32, n: Count, items: usize, a: Slot, area: &[u8]) -> Quick
-    requires { ⌜ (lastIntegers < d) × (d ≤ lastData) × (items ≡ amount n (a .len)) × (items < itemsLimit)
+// The quick test of an argument for a field of reals, which has just the items that the field takes.
+fn try_reals(d: u32, items: usize, a: Slot, area: &[u8]) -> Quick
+    requires { ⌜ (lastIntegers < d) × (d ≤ lastData) × (items < itemsLimit)
         × (a .start < numberLimit) × (a .len < numberLimit) ⌝ }
-    ensures { λ r. ⌜ Sound r (before area) (shapeNumbered d) n a ⌝ }
+    ensures { λ r. ⌜ ((n : Count) → items ≡ amount n (a .len) → Sound r (before area) (shapeNumbered d) n a) ⌝ }
 {
     if a.kind != record::slots::REAL {
         return Quick::Unsure;
@@ -67,7 +54,7 @@ fn try_reals(d: u32, n: Count, items: usize, a: Slot, area: &[u8]) -> Quick
     if area.len() < a.start + a.len * record::INTEGER_SIZE {
         return Quick::Unsure;
     }
-    if !is_plenty(n, items, a.len) {
+    if items != a.len {
         return Quick::Unsure;
     }
     if !arguments::singles_fit(d <= layout::LAST_SINGLE, items, a, area) {
@@ -104,16 +91,16 @@ fn try_string(d: u32, items: usize, a: Slot, area: &[u8]) -> Quick
 
 // The quick test of an argument for a field that takes `items` items, by the number of the field's type. Where this is
 // unsure, `arguments::check` finds what is wrong.
-pub fn try_argument(d: u32, n: Count, items: usize, a: Slot, area: &[u8]) -> Quick
-    requires { ⌜ (d ≤ lastData) × (items ≡ amount n (a .len)) × (items < itemsLimit) × (a .start < numberLimit)
+pub fn try_argument(d: u32, items: usize, a: Slot, area: &[u8]) -> Quick
+    requires { ⌜ (d ≤ lastData) × (items < itemsLimit) × (a .start < numberLimit)
         × (a .len < numberLimit) ⌝ }
-    ensures { λ r. ⌜ Sound r (before area) (shapeNumbered d) n a ⌝ }
+    ensures { λ r. ⌜ ((n : Count) → items ≡ amount n (a .len) → Sound r (before area) (shapeNumbered d) n a) ⌝ }
 {
     if d <= layout::LAST_DIGITS {
         return try_string(d, items, a, area);
     }
     if d <= layout::LAST_INTEGERS {
-        return try_integers(d, n, items, a, area);
+        return try_integers(d, items, a, area);
     }
-    try_reals(d, n, items, a, area)
+    try_reals(d, items, a, area)
 }

@@ -10,6 +10,7 @@ use lib.ListN.{length}
 use Rattle.layout.specs.declared.Shape.{Shape}
 use Rattle.layout.specs.declared.Shape.the-variants.{Text, Digits, Integers, Reals}
 use Rattle.layout.specs.declared.Count.{Count}
+use Rattle.layout.specs.declared.Count.the-variants.{Absent, Star, Times}
 use Rattle.layout.specs.Refusals.{ok}
 use Rattle.layout.specs.Codes.{lastText, lastBinary, lastDigits, lastIntegers, lastSingle, lastData, widthNumbered}
 use Rattle.layout.specs.inside.Parsing.{shapeNumbered}
@@ -24,6 +25,12 @@ use Rattle.record.specs.inside.Slots.{insideArea}
 use Rattle.pack_check.proofs.arguments.ArgumentLaws.{digits-part}
 use Rattle.pack_check.specs.declared.quick_check.Quick.the-variants.{Bytes, Unsure}
 use Rattle.pack_check.specs.inside.quick_check.{Sound}
+
+-- items that a field takes all of are enough by any count
+pub all-taken : (n : Count) (items have : ℕ) → items ≡ amount n have → items ≡ have → enough n have ≡ true
+all-taken Absent items have same all = eq-eqb have 1 (omega arith)
+all-taken Star items have same all = refl
+all-taken (Times m) items have same all = le-leb m have (omega arith)
 
 module _ (area : List ℕ) (n : Count) (a : Slot) where
   -- a test that does not pass says nothing

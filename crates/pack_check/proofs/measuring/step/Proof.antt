@@ -29,7 +29,7 @@ slot-at-requires c κs = omega (arith, ready c .slot)
 try-argument-requires : tie.Need-try-argument-requires
 try-argument-requires c κs =
     let a = c .before .before .slot-at in
-    (c .before .before .before .if1 .taken, c .amount .ensures, items c, a .ensures .start, a .ensures .len)
+    (c .before .before .before .if1 .taken, items c, a .ensures .start, a .ensures .len)
 
 store-requires : tie.Need-store-requires
 store-requires c κs =
@@ -37,7 +37,7 @@ store-requires c κs =
     let t = c .before .before .before in
     let m = t .before in
     let r = ready (m .before .before .before) in
-    let few = quick-few _ _ _ _ _ (t .try-argument .ensures) (q .given .0 .0) (q .given .1) (r .roleFits) _ (m .amount .ensures) (items m) in
+    let few = quick-few _ _ _ _ _ (t .try-argument .ensures (m .before .count-from .result) (m .amount .ensures)) (q .given .0 .0) (q .given .1) (r .roleFits) _ (m .amount .ensures) (items m) in
     omega (arith, few, r .near)
 
 returns : tie.Need-returns
@@ -46,7 +46,7 @@ returns c =
     let t = q .before .before in
     let n = t .before .before in
     let a = n .before in
-    quick-next _ _ _ _ _ (a .before .if1 .taken) _ (a .slot-at .ensures .same) _ (n .count-from .ensures) _ (t .try-argument .ensures) (q .q .given .0 .0) (q .q .given .1) _ (c .store .ensures)
+    quick-next _ _ _ _ _ (a .before .if1 .taken) _ (a .slot-at .ensures .same) _ (n .count-from .ensures) _ (t .try-argument .ensures (n .count-from .result) (t .before .amount .ensures)) (q .q .given .0 .0) (q .q .given .1) _ (c .store .ensures)
 
 step-exactly-requires : tie.Need-step-exactly-requires
 step-exactly-requires c κs = rw (c .field-of .ensures .same) (c .before .before .before .before .pre)

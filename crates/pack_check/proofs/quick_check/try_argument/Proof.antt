@@ -3,15 +3,12 @@ use borrow.Author.Needs.{needs}
 use Rattle.pack_check.proofs.quick_check.try_argument.Statement.{statement}
 use Rattle.pack_check.proofs.quick_check.try_argument.Tie as tie
 
-returns : tie.Need-returns
-returns c = c .try-string .ensures _ (c .before .before .before .pre .1)
-
 pub try-argument-spec : {M : Type 1} → statement M
 try-argument-spec =
     tie.close
     (tie.spec
     (λ c κs. search needs)
-    returns
+    (λ c. search needs)
     (λ c κs. search needs)
     (λ c. search needs)
     (λ c κs. search needs)
