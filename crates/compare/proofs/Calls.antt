@@ -210,7 +210,14 @@ module _ (layout first second fslots farea sslots sarea report : List ℕ) where
 
       pub done : {x y : Read} {report′ : List ℕ} → x ≡ read layout first fslots farea 0 → y ≡ read layout second sslots sarea 0 → b .first ≤ length report / reportWidth
           → report′ ≡ storeAt report 0 (findings (b .first) (shownBytes (x .slots) (x .area) (x .answer .first)) (shownBytes (y .slots) (y .area) (y .answer .first)))
-          → record { answer = b; firstSlots = x .slots; firstArea = x .area; secondSlots = y .slots; secondArea = y .area; report = report′ } ≡ compare layout first second fslots farea sslots sarea report
+          → record {
+            answer = b;
+            firstSlots = x .slots;
+            firstArea = x .area;
+            secondSlots = y .slots;
+            secondArea = y .area;
+            report = report′;
+          } ≡ compare layout first second fslots farea sslots sarea report
       unfolding compare compares compareEffect
       done {x} {y} {report′} e f h g =
           let n : ℕ = slotCount (q .run .fs) in

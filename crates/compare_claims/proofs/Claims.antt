@@ -93,7 +93,10 @@ swapped-both : (n : ℕ) (xs ys rest : List ℕ) → swapped (suc n) (bothFindin
 unfolding swapped bothFinding
 swapped-both n xs ys rest = step (sameBytes xs ys)
   where
-    step : (t : Bool) → swapped (suc n) ((if t then plainFinding bothSame else (bothDiffer ∷ firstDifference xs ys ∷ differingBits xs ys ∷ [])) ++ rest) ≡ (if t then plainFinding bothSame else (bothDiffer ∷ firstDifference xs ys ∷ differingBits xs ys ∷ [])) ++ swapped n rest
+    step : (t : Bool)
+        → swapped (suc n) ((if t then plainFinding bothSame else (bothDiffer ∷ firstDifference xs ys ∷ differingBits xs
+        ys ∷ [])) ++ rest) ≡ (if t then plainFinding bothSame else (bothDiffer ∷ firstDifference xs ys ∷ differingBits
+        xs ys ∷ [])) ++ swapped n rest
     step true = refl
     step false = refl
 
@@ -126,7 +129,8 @@ with-itself layout bs slots area slots′ area′ report e =
     let a = accepted-call layout bs bs slots area slots′ area′ report e in
     let n : ℕ = slotCount (a .fs) in
     let rest : List ℕ = drop (reportWidth * n) report in
-    let t : T (sameOrNeither n (findings n (map areaBytes (a .vs)) (map areaBytes (a .ws)) ++ rest)) = rw (← one-reading layout bs slots area slots′ area′ (a .one) (a .two)) (itself-findings n (map areaBytes (a .vs)) rest) in
+    let t : T (sameOrNeither n (findings n (map areaBytes (a .vs)) (map areaBytes (a .ws)) ++ rest)) = rw (← one-reading
+    layout bs slots area slots′ area′ (a .one) (a .two)) (itself-findings n (map areaBytes (a .vs)) rest) in
     rw (left layout bs bs slots area slots′ area′ report a) t
 
 pub other-way-round : OtherWayRound
@@ -135,4 +139,9 @@ other-way-round layout first second slots area slots′ area′ report e =
     let a = accepted-call layout first second slots area slots′ area′ report e in
     let b : Accepted layout second first slots′ area′ slots area report = record { vs = a .ws; ws = a .vs; fs = a .fs; one = a .two; two = a .one; fields = a .fields; fits = a .fits } in
     let n : ℕ = slotCount (a .fs) in
-    rw (left layout first second slots area slots′ area′ report a, left layout second first slots′ area′ slots area report b, swapped-findings n (map areaBytes (a .vs)) (map areaBytes (a .ws)) (drop (reportWidth * n) report))
+    rw (
+      left layout first second slots area slots′ area′ report a,
+      left layout second first slots′ area′ slots area
+          report b,
+      swapped-findings n (map areaBytes (a .vs)) (map areaBytes (a .ws)) (drop (reportWidth * n) report),
+    )

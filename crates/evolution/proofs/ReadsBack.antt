@@ -189,7 +189,8 @@ module _ (l : Layouts) where
         ∙ ap (putInto slots area mark at) v
         ∙ put-same slots area mark (due l q cut) at (starts l) (λ i le. started q (cutRecord l p cut) i (rw (← v) at le))
 
-    showing : map (shown (read (textOf l q) (cutRecord l p cut) slots area mark .area)) (take (length (due l q cut)) (slotsOf (read (textOf l q) (cutRecord l p cut) slots area mark .slots))) ≡ due l q cut
+    showing : map (shown (read (textOf l q) (cutRecord l p cut) slots area mark .area)) (take (length (due l q cut))
+        (slotsOf (read (textOf l q) (cutRecord l p cut) slots area mark .slots))) ≡ due l q cut
     showing =
         ap (λ (r : Read). map (shown (r .area)) (take (length (due l q cut)) (slotsOf (r .slots)))) reading
         ∙ shows-put slots area mark (starts l) (due l q cut) (set-proper cut 0 (args q) (good q)) (omega (arith, h .room))
@@ -200,7 +201,12 @@ module _ (l : Layouts) where
     working : readSteps (textOf l q) (cutRecord l p cut) slots area mark ≡ carriedOut cut 0 (fieldsBy l q)
     working =
         steps-by (textOf l q) (cutRecord l p cut) slots area mark (fieldsBy l q) (text-reads q .0) (T→true _ (h .sizes)) (h .enough-slots) (rw v (h .room))
-        ∙ rw (cut-is p cut (h .within), length-take-le cut whole (inside p cut (h .within)), ← fields-filled (l .area) (slotsOf (l .slots)) (fieldsBy l q)) (carried cut (args q) (good q) 0 (omega arith))
+        ∙ rw (
+          cut-is p cut (h .within),
+          length-take-le cut whole (inside p cut (h .within)),
+          ← fields-filled (l .area)
+              (slotsOf (l .slots)) (fieldsBy l q),
+        ) (carried cut (args q) (good q) 0 (omega arith))
 
     answering : read (textOf l q) (cutRecord l p cut) slots area mark .answer ≡ accepted (length (due l q cut)) (mark + length (valueBytes (due l q cut)))
     unfolding putInto
@@ -238,7 +244,8 @@ module _ (l : Layouts) where
       ∙ due-both k 0 (args false) more
       ∙ rw (all-due k 0 (args false) (omega arith), none-due k (0 + endOf (fieldsIn (args false))) more good-more (omega arith)) (append-nil own)
 
-  own-read : (p q : Bool) → due l q (length (recordBy l p)) ≡ own → (slots area : List ℕ) (mark : ℕ) → Whole l p q slots area mark → OwnFields l slots area mark (read (textOf l q) (recordBy l p) slots area mark)
+  own-read : (p q : Bool) → due l q (length (recordBy l p)) ≡ own → (slots area : List ℕ) (mark : ℕ)
+      → Whole l p q slots area mark → OwnFields l slots area mark (read (textOf l q) (recordBy l p) slots area mark)
   own-read p q e slots area mark h =
       let count : length own ≡ slotCount (l .fields) = count-back (l .area) (slotsOf (l .slots)) (l .fields) in
       let values : read (textOf l q) (recordBy l p) slots area mark ≡ putInto slots area mark (starts l) own =

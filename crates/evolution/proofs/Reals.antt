@@ -87,7 +87,9 @@ module _ (big u : Bool) (n : ℕ) (xs : List ℕ) (enough : n ≤ length xs) (fi
         values = came-singles;
         served = rw came-singles (ap noNaN all ∙ no-nans first);
         same = rw came-singles
-            (first-stored 4 big n (map singleOf (once first)) (map singleOf xs) (ap (take n) (twice first) ∙ take-all n (map singleOf first) (omega (arith, length-map first singleOf, length-first)) ∙ sym (take-map singleOf n xs)));
+            (first-stored 4 big n (map singleOf (once first)) (map singleOf xs) (ap (take n) (twice first)
+            ∙ take-all n (map singleOf first) (omega (arith, length-map first singleOf, length-first))
+            ∙ sym (take-map singleOf n xs)));
       }
 
   doubles-again : PacksAgain false big u n xs

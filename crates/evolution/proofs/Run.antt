@@ -125,7 +125,8 @@ module _ (whole : List ℕ) (cut : ℕ) (inside : cut ≤ length whole) where
       (λ (k : at + need ≤ cut).
       rw (le-leb need (length (take cut whole) - at) (omega arith), le-leb (at + need) cut k)
       (ap₂ (λ (v : Value) (r : List Value). v ∷ r)
-      (ap (loaded s u (amount n 0)) (within at need cut whole k ∙ ap (take need) (e′ ∙ append-assoc bs (joined rest) after) ∙ take-at bs (joined rest ++ after) need len) ∙ back s u (amount n 0) xs (h .1))
+      (ap (loaded s u (amount n 0)) (within at need cut whole k ∙ ap (take need) (e′ ∙ append-assoc bs (joined rest)
+      after) ∙ take-at bs (joined rest ++ after) need len) ∙ back s u (amount n 0) xs (h .1))
       (ih (at + need) after k (next at bs (joined rest) after need len e′))))
       (λ (k : cut < at + need).
       rw (lt-leb need (length (take cut whole) - at) (omega arith), lt-leb (at + need) cut k) (sym (past-due cut (at + need) rest k))))
@@ -176,7 +177,8 @@ module _ (bs : List ℕ) (gs : List Field) where
       let need : ℕ = bytesFor s (amount n 0) in
       let fs : List Field = fieldsIn rest in
       let starts : List ℕ = startsFrom (at + need) (fs ++ gs) in
-      let places : at ∷ positionsFrom (length bs) (at + bytesFor s (amount n (itemsIn s (length bs - at)))) fs ≡ at ∷ positionsFrom (length bs) (at + need) fs = rw (h .3 (itemsIn s (length bs - at))) in
+      let places : at ∷ positionsFrom (length bs) (at + bytesFor s (amount n (itemsIn s (length bs - at)))) fs ≡ at
+      ∷ positionsFrom (length bs) (at + need) fs = rw (h .3 (itemsIn s (length bs - at))) in
       split need (length bs - at)
       (λ (k : need ≤ length bs - at).
       let values : valuesFrom bs at (record { role = Data s; unsigned = u; count = n } ∷ fs) ≡ loaded s u (amount n 0) (take need (drop at bs)) ∷ valuesFrom bs (at + need) fs =

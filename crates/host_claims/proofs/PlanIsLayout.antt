@@ -67,7 +67,12 @@ unfolding curlewPrepare replyOf
 prepared layout run reply z = go (eqb (length reply) replySize) z
   where
     go : (t : Bool) → (if t then prepareCall (prepare layout run) else record { returned = numberOf BadSize; plan = run; reply = reply }) .returned ≡ 0
-        → (prepare layout run .answer .number ≡ 0) × (planIn (if t then prepareCall (prepare layout run) else record { returned = numberOf BadSize; plan = run; reply = reply }) ≡ madeBy (prepare layout run))
+        → (prepare layout run .answer .number ≡ 0)
+        × (planIn (if t then prepareCall (prepare layout run) else record {
+          returned = numberOf BadSize;
+          plan = run;
+          reply = reply;
+        }) ≡ madeBy (prepare layout run))
     go true z =
         let a : Answer = prepare layout run .answer in
         let few : a .first < 4294967296 = made-few layout run z in

@@ -83,19 +83,46 @@ cut-second {a} e z = rw (← e, eq-eqb (a .number) 0 z)
 
 module _ (layout first second fslots farea sslots sarea report reply : List ℕ) where
   pub unwritten : eqb (length reply) replySize ≡ false
-      → record { returned = numberOf BadSize; firstSlots = fslots; firstArea = farea; secondSlots = sslots; secondArea = sarea; report = report; reply = reply } ≡ curlewCompare layout first second fslots farea sslots sarea report reply
+      → record {
+        returned = numberOf BadSize;
+        firstSlots = fslots;
+        firstArea = farea;
+        secondSlots = sslots;
+        secondArea = sarea;
+        report = report;
+        reply = reply;
+      } ≡ curlewCompare layout first second fslots farea sslots
+      sarea report reply
   unfolding curlewCompare
   unwritten h = rw h
 
   module _ (sized : length reply ≡ replySize) where
     -- a refusal writes the reply alone
-    refused-by : {why : Refusal} {place r : ℕ} {a : Answer} {reply′ : List ℕ} → comparesLent layout first second fslots farea sslots sarea report ≡ refused why place → a ≡ refusal why place → (r ≡ a .number) × (reply′ ≡ replyOf a)
-        → record { returned = r; firstSlots = fslots; firstArea = farea; secondSlots = sslots; secondArea = sarea; report = report; reply = reply′ } ≡ curlewCompare layout first second fslots farea sslots sarea report reply
+    refused-by : {why : Refusal} {place r : ℕ} {a : Answer} {reply′ : List ℕ}
+        → comparesLent layout first second fslots farea sslots sarea report ≡ refused why place → a ≡ refusal why place
+        → (r ≡ a .number) × (reply′ ≡ replyOf a)
+        → record {
+          returned = r;
+          firstSlots = fslots;
+          firstArea = farea;
+          secondSlots = sslots;
+          secondArea = sarea;
+          report = report;
+          reply = reply′;
+        } ≡ curlewCompare layout first second fslots farea sslots sarea report reply
     unfolding curlewCompare compareCall compareEffect
     refused-by {why} e p q = rw (eq-eqb (length reply) replySize sized, e, q .0, q .1, p, ne-eqb (numberOf why) 0 (λ z. no-number-zero why z))
 
     pub first-cut : {r : ℕ} {a : Answer} {reply′ : List ℕ} → slotBytesFit (length fslots) ≡ false → a ≡ refusal BadSize 0 → (r ≡ a .number) × (reply′ ≡ replyOf a)
-        → record { returned = r; firstSlots = fslots; firstArea = farea; secondSlots = sslots; secondArea = sarea; report = report; reply = reply′ } ≡ curlewCompare layout first second fslots farea sslots sarea report reply
+        → record {
+          returned = r;
+          firstSlots = fslots;
+          firstArea = farea;
+          secondSlots = sslots;
+          secondArea = sarea;
+          report = report;
+          reply = reply′;
+        } ≡ curlewCompare layout first second fslots farea sslots sarea report reply
     unfolding comparesLent
     first-cut bad p q = refused-by lent p q
       where
@@ -105,7 +132,8 @@ module _ (layout first second fslots farea sslots sarea report reply : List ℕ)
     module _ (f : Fit (length fslots)) where
       -- the refusals of the first reading come before those of the second
       lent-first : comparesLent layout first second fslots farea sslots sarea report
-          ≡ reads layout first (numbersIn fslots) farea 0 >>= (λ _. demand (wholeSlots sslots) BadSize 0 >>= (λ _. compares layout first second (numbersIn fslots) farea (numbersIn sslots) sarea (numbersIn report)))
+          ≡ reads layout first (numbersIn fslots) farea 0 >>= (λ _. demand (wholeSlots sslots) BadSize 0 >>=
+          (λ _. compares layout first second (numbersIn fslots) farea (numbersIn sslots) sarea (numbersIn report)))
       unfolding comparesLent
       lent-first = rw (whole fslots f)
 
@@ -116,14 +144,32 @@ module _ (layout first second fslots farea sslots sarea report reply : List ℕ)
 
       pub second-cut : (ns : List ℕ) {r : ℕ} {reply′ : List ℕ} → length ns ≡ length fslots / numberSize → slotBytesFit (length sslots) ≡ false
           → (r ≡ secondCut (readChecked layout first ns farea 0) .number) × (reply′ ≡ replyOf (secondCut (readChecked layout first ns farea 0)))
-          → record { returned = r; firstSlots = fslots; firstArea = farea; secondSlots = sslots; secondArea = sarea; report = report; reply = reply′ } ≡ curlewCompare layout first second fslots farea sslots sarea report reply
+          → record {
+            returned = r;
+            firstSlots = fslots;
+            firstArea = farea;
+            secondSlots = sslots;
+            secondArea = sarea;
+            report = report;
+            reply = reply′;
+          } ≡ curlewCompare layout first second fslots farea sslots sarea report
+          reply
       second-cut ns {r} {reply′} lent bad q = by (reads layout first (numbersIn fslots) farea 0) refl
         where
           same : reads layout first ns farea 0 ≡ reads layout first (numbersIn fslots) farea 0
           same = reads-same layout first farea ns (numbersIn fslots) (lent ∙ sym (length-numbersIn fslots))
 
           by : (o : Result (List Value)) → reads layout first (numbersIn fslots) farea 0 ≡ o
-              → record { returned = r; firstSlots = fslots; firstArea = farea; secondSlots = sslots; secondArea = sarea; report = report; reply = reply′ } ≡ curlewCompare layout first second fslots farea sslots sarea report reply
+              → record {
+                returned = r;
+                firstSlots = fslots;
+                firstArea = farea;
+                secondSlots = sslots;
+                secondArea = sarea;
+                report = report;
+                reply = reply′;
+              } ≡ curlewCompare layout first second fslots farea sslots sarea report
+              reply
           by (refused why place) e = refused-by {why = why} {place = place} (lent-first ∙ rw e) (cut-refused layout first ns farea (same ∙ e)) q
           by (ok vs) e = refused-by {why = BadSize} {place = 0} (lent-first ∙ rw e (cut sslots _ bad (second-many e))) (cut-accepted layout first ns farea (same ∙ e)) q
 
@@ -136,8 +182,26 @@ module _ (layout first second fslots farea sslots sarea report reply : List ℕ)
         again (ok vs) e = rw e
 
         pub served : {r : ℕ} {fslots′ farea′ sslots′ sarea′ report′ reply′ : List ℕ}
-            → record { returned = r; firstSlots = fslots′; firstArea = farea′; secondSlots = sslots′; secondArea = sarea′; report = report′; reply = reply′ } ≡ compareCall fslots sslots report (compare layout first second (numbersIn fslots) farea (numbersIn sslots) sarea (numbersIn report))
-            → record { returned = r; firstSlots = fslots′; firstArea = farea′; secondSlots = sslots′; secondArea = sarea′; report = report′; reply = reply′ } ≡ curlewCompare layout first second fslots farea sslots sarea report reply
+            → record {
+              returned = r;
+              firstSlots = fslots′;
+              firstArea = farea′;
+              secondSlots = sslots′;
+              secondArea = sarea′;
+              report = report′;
+              reply = reply′;
+            } ≡ compareCall fslots sslots report
+            (compare layout first second (numbersIn fslots) farea (numbersIn sslots) sarea (numbersIn report))
+            → record {
+              returned = r;
+              firstSlots = fslots′;
+              firstArea = farea′;
+              secondSlots = sslots′;
+              secondArea = sarea′;
+              report = report′;
+              reply = reply′;
+            } ≡ curlewCompare layout first second fslots farea
+            sslots sarea report reply
         unfolding curlewCompare compare
         served p = p ∙ rw (eq-eqb (length reply) replySize sized, lent-first, whole sslots s, again (reads layout first (numbersIn fslots) farea 0) refl)
 
@@ -154,7 +218,9 @@ kept-store n before after k =
     let rest : drop (n * slotWidth) before ≡ drop (n * slotWidth) after = rw (← m) (sym (k .rest)) in
     rw (zero-add, long, rest) (take-append-drop (n * slotWidth) after)
 
-kept-bytes : (n : ℕ) (slots after : List ℕ) {slots′ : List ℕ} → Kept n (numbersIn slots) after → length slots % numberSize ≡ 0 → All (λ b. b < 256) slots → slots′ ≡ storeAt slots 0 (numbersBytes (take (n * slotWidth) after))
+kept-bytes : (n : ℕ) (slots after : List ℕ) {slots′ : List ℕ} → Kept n (numbersIn slots) after
+    → length slots % numberSize ≡ 0 → All (λ b. b < 256) slots
+    → slots′ ≡ storeAt slots 0 (numbersBytes (take (n * slotWidth) after))
     → slots′ ≡ numbersBytes after
 kept-bytes n slots after k whole below e = e ∙ sym (bytes-stored slots (take (n * slotWidth) after) whole below) ∙ ap numbersBytes (kept-store n (numbersIn slots) after k)
 
@@ -169,7 +235,14 @@ findings-bytes n findings numbers report h e =
 module _ (layout first second fslots farea sslots sarea report findings : List ℕ) (short : length findings ≡ min (length report / numberSize) (reportWidth * maxSlots))
     {ns ms : List ℕ} (d : ns ≡ numbersIn fslots) (e : ms ≡ numbersIn sslots) {ns′ farea′ ms′ sarea′ findings′ : List ℕ} {a : Answer}
     (c : record { answer = a; firstSlots = ns′; firstArea = farea′; secondSlots = ms′; secondArea = sarea′; report = findings′ } ≡ compare layout first second ns farea ms sarea findings) where
-  p : record { answer = a; firstSlots = ns′; firstArea = farea′; secondSlots = ms′; secondArea = sarea′; report = findings′ } ≡ compare layout first second (numbersIn fslots) farea (numbersIn sslots) sarea findings
+  p : record {
+    answer = a;
+    firstSlots = ns′;
+    firstArea = farea′;
+    secondSlots = ms′;
+    secondArea = sarea′;
+    report = findings′;
+  } ≡ compare layout first second (numbersIn fslots) farea (numbersIn sslots) sarea findings
   p = c ∙ rw (d, e)
 
   over : compare layout first second (numbersIn fslots) farea (numbersIn sslots) sarea (numbersIn report)
@@ -193,8 +266,12 @@ module _ (layout first second fslots farea sslots sarea report findings : List �
     findings-lent : (length findings′ * numberSize ≤ length report) × (0 + reportWidth * a .first ≤ length findings′)
     findings-lent = (omega (arith, settles .long, short), omega (arith, settles .findings, settles .long))
 
-    written : {fslots′ sslots′ report′ reply′ : List ℕ} {r : ℕ} → (r ≡ a .number) × (reply′ ≡ replyOf a) → length fslots % numberSize ≡ 0 → All (λ b. b < 256) fslots → length sslots % numberSize ≡ 0 → All (λ b. b < 256) sslots
-        → fslots′ ≡ storeAt fslots 0 (numbersBytes (take (a .first * slotWidth) ns′)) → sslots′ ≡ storeAt sslots 0 (numbersBytes (take (a .first * slotWidth) ms′)) → report′ ≡ storeAt report 0 (numbersBytes (part findings′ 0 (reportWidth * a .first)))
+    written : {fslots′ sslots′ report′ reply′ : List ℕ} {r : ℕ} → (r ≡ a .number) × (reply′ ≡ replyOf a)
+        → length fslots % numberSize ≡ 0 → All (λ b. b < 256) fslots → length sslots % numberSize ≡ 0
+        → All (λ b. b < 256) sslots
+        → fslots′ ≡ storeAt fslots 0 (numbersBytes (take (a .first * slotWidth) ns′))
+        → sslots′ ≡ storeAt sslots 0 (numbersBytes (take (a .first * slotWidth) ms′))
+        → report′ ≡ storeAt report 0 (numbersBytes (part findings′ 0 (reportWidth * a .first)))
         → record { returned = r; firstSlots = fslots′; firstArea = farea′; secondSlots = sslots′; secondArea = sarea′; report = report′; reply = reply′ }
         ≡ compareCall fslots sslots report (compare layout first second (numbersIn fslots) farea (numbersIn sslots) sarea (numbersIn report))
     unfolding compareCall
@@ -202,7 +279,16 @@ module _ (layout first second fslots farea sslots sarea report findings : List �
         let s = settles in
         let n : ℕ = a .first in
         let rest : reportWidth * n ≤ length findings′ = omega (arith, s .findings, s .long) in
-        rw (over, eq-eqb (a .number) 0 z, q .0, q .1, kept-bytes n fslots ns′ (s .first) w b f, kept-bytes n sslots ms′ (s .second) w′ b′ g, findings-bytes n findings′ (numbersIn report) report rest h)
+        rw (
+          over,
+          eq-eqb (a .number) 0 z,
+          q .0,
+          q .1,
+          kept-bytes n fslots ns′ (s .first) w b f,
+          kept-bytes n sslots ms′
+              (s .second) w′ b′ g,
+          findings-bytes n findings′ (numbersIn report) report rest h,
+        )
 
   pub fits : a .number ≡ 0 → Fits (a .first) fslots sslots report ns′ ms′ findings′
   fits z =
@@ -212,7 +298,9 @@ module _ (layout first second fslots farea sslots sarea report findings : List �
   module _ {fslots′ sslots′ report′ reply′ : List ℕ} {r : ℕ} (q : (r ≡ a .number) × (reply′ ≡ replyOf a)) (w : length fslots % numberSize ≡ 0) (b : All (λ b. b < 256) fslots) (w′ : length sslots % numberSize ≡ 0)
       (b′ : All (λ b. b < 256) sslots) where
     by-answer : (t : Bool) → eqb (a .number) 0 ≡ t → fslots′ ≡ (if t then storeAt fslots 0 (numbersBytes (take (a .first * slotWidth) ns′)) else fslots)
-        → sslots′ ≡ (if t then storeAt sslots 0 (numbersBytes (take (a .first * slotWidth) ms′)) else sslots) → report′ ≡ (if t then storeAt report 0 (numbersBytes (part findings′ 0 (reportWidth * a .first))) else report)
+        → sslots′ ≡ (if t then storeAt sslots 0 (numbersBytes (take (a .first * slotWidth) ms′)) else sslots)
+        → report′ ≡ (if t then storeAt report 0 (numbersBytes (part findings′ 0 (reportWidth * a .first))) else
+        report)
         → record { returned = r; firstSlots = fslots′; firstArea = farea′; secondSlots = sslots′; secondArea = sarea′; report = report′; reply = reply′ }
         ≡ compareCall fslots sslots report (compare layout first second (numbersIn fslots) farea (numbersIn sslots) sarea (numbersIn report))
     by-answer true e f g h = written (eqb-true (a .number) 0 e) q w b w′ b′ f g h

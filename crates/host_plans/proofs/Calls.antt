@@ -51,7 +51,8 @@ module _ (layout run reply : List ℕ) where
   unfolding curlewPrepare
   prepare-unwritten h = rw h
 
-  pub prepare-replied : {run′ reply′ : List ℕ} {a : Answer} {r : ℕ} → eqb (length reply) replySize ≡ true → record { answer = a; plan = run′ } ≡ prepare layout run → (r ≡ a .number) × (reply′ ≡ replyOf a)
+  pub prepare-replied : {run′ reply′ : List ℕ} {a : Answer} {r : ℕ} → eqb (length reply) replySize ≡ true
+      → record { answer = a; plan = run′ } ≡ prepare layout run → (r ≡ a .number) × (reply′ ≡ replyOf a)
       → record { returned = r; plan = run′; reply = reply′ } ≡ curlewPrepare layout run reply
   unfolding curlewPrepare
   prepare-replied h p q = rw (h, ← p, q .0, q .1)
@@ -167,7 +168,9 @@ left-refused slots area why place {a} e q =
 
 module _ (plan bytes slots area : List ℕ) (mark : ℕ) where
   pub read-replied : (ns : List ℕ) {ns′ area′ slots′ reply′ : List ℕ} {a : ReadAnswer} {r : ℕ} → length slots ≡ length ns * numberSize
-      → record { answer = a; slots = ns′; area = area′ } ≡ readPlan plan bytes ns area mark → (r ≡ a .answer .number) × (reply′ ≡ longReply (a .answer) (a .steps)) × (slots′ ≡ writtenBack slots ns′ (a .answer))
+      → record { answer = a; slots = ns′; area = area′ } ≡ readPlan plan bytes ns area mark
+      → (r ≡ a .answer .number) × (reply′ ≡ longReply (a .answer) (a .steps))
+      × (slots′ ≡ writtenBack slots ns′ (a .answer))
       → All (λ b. b < 256) slots → record { returned = r; slots = slots′; area = area′; reply = reply′ } ≡ stepsCall slots (readPlan plan bytes (numbersIn slots) area mark)
   unfolding readPlan
   read-replied ns long p q below = fields-replied (length plan) (planFields false plan) bytes slots area mark ns long p q below
@@ -187,7 +190,12 @@ module _ (plan bytes slots area : List ℕ) (mark : ℕ) where
           → record { returned = r; slots = slots; area = area; reply = reply′ } ≡ curlewReadPlan plan bytes slots area mark reply
       unfolding curlewReadPlan stepsCall readCall
       read-refused {a} {r} {reply′} bad e q =
-          let here : record { returned = r; slots = slots; area = area; reply = reply′ } ≡ stepsCall slots (record { answer = record { answer = refusal BadSize 0; steps = 0 }; slots = numbersIn slots; area = area }) = rw (q .0, q .1, e) in
+          let here : record { returned = r; slots = slots; area = area; reply = reply′ } ≡ stepsCall slots
+          (record {
+            answer = record { answer = refusal BadSize 0; steps = 0 };
+            slots = numbersIn slots;
+            area = area;
+          }) = rw (q .0, q .1, e) in
           here ∙ guarded-refused longReplySize reply slots _ _ _ sized bad (λ h. ap (stepsCall slots) (many h))
 
       pub read-served : {r : ℕ} {slots′ area′ reply′ : List ℕ} → Fit (length slots)
@@ -197,7 +205,9 @@ module _ (plan bytes slots area : List ℕ) (mark : ℕ) where
       read-served f e = e ∙ guarded-served longReplySize reply slots _ _ _ sized f
 
       -- sizes that do not fit
-      pub read-unfit : {a : Answer} {r : ℕ} {reply′ : List ℕ} → Fit (length slots) → readLentFits (length plan) (length slots / numberSize) (length bytes) (length area) mark ≡ false → a ≡ refusal BadSize 0
+      pub read-unfit : {a : Answer} {r : ℕ} {reply′ : List ℕ} → Fit (length slots)
+          → readLentFits (length plan) (length slots / numberSize) (length bytes) (length area) mark ≡ false
+          → a ≡ refusal BadSize 0
           → (r ≡ a .number) × (reply′ ≡ longReply a 0) → record { returned = r; slots = slots; area = area; reply = reply′ } ≡ curlewReadPlan plan bytes slots area mark reply
       read-unfit {a} {r} {reply′} f bad e q =
           let unfit : readLentFits (length plan) (length (numbersIn slots)) (length bytes) (length area) mark ≡ false = rw length-numbersIn bad in

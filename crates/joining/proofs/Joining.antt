@@ -70,7 +70,14 @@ module _ (area : List ℕ) where
       let count : length (slotsOf (s ++ t)) ≡ slotCount (fs ++ gs) =
       rw (split, length-append, count-append fs gs, part a .count, part b .count) in
       let bytes : packed (filled area (slotsOf (s ++ t)) (fs ++ gs)) ≡ resultOf a ++ resultOf b =
-      rw (split, both, packed-append _ _ (forward-filled area fs (forward-fields fs (a .goes-forward)) (slotsOf s)) (forward-filled area gs (forward-fields gs (b .goes-forward)) (slotsOf t)), part a .result, part b .result) in
+      rw (
+        split,
+        both,
+        packed-append _ _ (forward-filled area fs (forward-fields fs (a .goes-forward)) (slotsOf s))
+            (forward-filled area gs (forward-fields gs (b .goes-forward)) (slotsOf t)),
+        part a .result,
+        part b .result,
+      ) in
       ap (packEffect output)
       (packs-by (a .template .text ++ b .template .text) (s ++ t) area output (fs ++ gs) (fields a b) (T→true _ sizes) count (rw split served) (rw bytes room) ∙ ap ok bytes)
 

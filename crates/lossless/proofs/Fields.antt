@@ -88,7 +88,13 @@ value-char : (d : ℕ) → d < 16 → digitValue (digitChar d) ≡ d
 unfolding digitValue digitChar
 value-char d h =
     split 10 d
-    (λ (k : 10 ≤ d). rw (le-ltb d 10 k) (simp (lt-leb (d + 87) 57 (omega arith), lt-leb (d + 87) 70 (omega arith), le-leb 97 (d + 87) (omega arith), le-leb (d + 87) 102 (omega arith), and-false) (omega arith)))
+    (λ (k : 10 ≤ d). rw (le-ltb d 10 k) (simp (
+      lt-leb (d + 87) 57 (omega arith),
+      lt-leb (d + 87) 70 (omega arith),
+      le-leb 97 (d + 87) (omega arith),
+      le-leb (d + 87) 102 (omega arith),
+      and-false,
+    ) (omega arith)))
     (λ (k : d < 10). rw (lt-ltb d 10 k) (simp (le-leb 48 (d + 48) (omega arith), le-leb (d + 48) 57 (omega arith)) (omega arith)))
 
 abbrev Below : Bool → ℕ → Type 0

@@ -98,7 +98,8 @@ module _ (l : Layout) where
         let stands : drop (r .mark) (storeAt (r .area) (r .mark) bs) ≡ bs ++ rest =
         ap (drop (r .mark)) (append-assoc (take (r .mark) (r .area)) bs rest)
         ∙ drop-at (take (r .mark) (r .area)) (bs ++ rest) (r .mark) (length-take-le (r .mark) (r .area) (omega (arith, r .area-room))) in
-        again .fits at (storeAt (r .area) (r .mark) bs) rest (drop (slotWidth * length values) (r .slots)) (r .mark) 0 stands (omega (arith, r .area-room, length-storeAt (r .area) (r .mark) bs (r .area-room)))
+        again .fits at (storeAt (r .area) (r .mark) bs) rest (drop (slotWidth * length values) (r .slots)) (r .mark) 0
+        stands (omega (arith, r .area-room, length-storeAt (r .area) (r .mark) bs (r .area-room)))
 
     same : packed (filled (after .area) (slotsOf (after .slots)) (l .fields)) ≡ r .bytes
     same =

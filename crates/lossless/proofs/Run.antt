@@ -130,7 +130,13 @@ module _ (bs : List ℕ) (are-bytes : All Byte bs) where
           let next : ℕ = start + length (areaBytes value) in
           let later : drop next area ≡ tail =
           sym (drop-drop (length (areaBytes value)) start area) ∙ ap (drop (length (areaBytes value))) here ∙ drop-at (areaBytes value) tail (length (areaBytes value)) refl in
-          let shows : shown area (record { kind = value .kind; start = start; len = length (value .items); position = getD places 0 noPosition }) ≡ value = shows-one area tail start (getD places 0 noPosition) value is-proper here in
+          let shows : shown area (record {
+            kind = value .kind;
+            start = start;
+            len = length (value .items);
+            position = getD places 0 noPosition;
+          }) ≡ value = shows-one area tail start (getD places 0 noPosition)
+          value is-proper here in
           let served = serves area start (getD places 0 noPosition) i n (h .2) (h .3) s u (part bs at need) (h .0) long (omega arith) shows in
           let (fit, same) = ih .fits (drop 1 places) area rest more next (suc i) later (omega arith) in
           (rw served fit, ap₂ (λ (v : Value) (r : List ℕ). bytesOf (Data s) n (v .items) ++ r) shows same)

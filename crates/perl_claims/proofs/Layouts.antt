@@ -83,8 +83,11 @@ unfolding digitsIn numberIn decimal continues
 count-digits limit v [] = (tt, refl)
 count-digits limit v (c ∷ cs) = step (isDecimal c) refl (ltb 0 (withDigit v c)) (leb (withDigit v c) limit) (count-digits limit (withDigit v c) cs)
   where
-    step : (d : Bool) → isDecimal c ≡ d → (z t : Bool) → Numerals (take (digitsIn limit (withDigit v c) cs) cs) × (decimal (withDigit v c) (take (digitsIn limit (withDigit v c) cs) cs) ≡ numberIn limit (withDigit v c) cs)
-        → Numerals (take (if d && z && t then suc (digitsIn limit (withDigit v c) cs) else 0) (c ∷ cs)) × (decimal v (take (if d && z && t then suc (digitsIn limit (withDigit v c) cs) else 0) (c ∷ cs)) ≡ (if d && z && t then numberIn limit (withDigit v c) cs else v))
+    step : (d : Bool) → isDecimal c ≡ d → (z t : Bool) → Numerals (take (digitsIn limit (withDigit v c) cs) cs)
+        × (decimal (withDigit v c) (take (digitsIn limit (withDigit v c) cs) cs) ≡ numberIn limit (withDigit v c) cs)
+        → Numerals (take (if d && z && t then suc (digitsIn limit (withDigit v c) cs) else 0) (c ∷ cs))
+        × (decimal v (take (if d && z && t then suc (digitsIn limit (withDigit v c) cs) else 0) (c ∷ cs)) ≡ (if d
+        && z && t then numberIn limit (withDigit v c) cs else v))
     step false e z t h = (tt, refl)
     step true e false t h = (tt, refl)
     step true e true false h = (tt, refl)

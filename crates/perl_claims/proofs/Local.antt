@@ -107,7 +107,9 @@ group-local at cs ds (read t e) r₂ h ih j q a =
     let d : ℕ = digitsIn maxRepeat 0 (drop (e - at) cs) in
     let same : r₂ ≡ read t e = ih (e - at) (omega arith) (agree-less (e - at) j cs ds (omega arith) a) in
     let split : j ≡ (e - at) + suc d = omega arith in
-    let s : SameNumber maxRepeat 0 (drop (e - at) cs) (drop (e - at) ds) = number-local (drop (e - at) cs) (drop (e - at) ds) maxRepeat 0 (suc d) (omega arith) (agree-drop (e - at) (suc d) cs ds (subst (λ (m : ℕ). Agree m cs ds) split a)) in
+    let s : SameNumber maxRepeat 0 (drop (e - at) cs) (drop (e - at) ds) = number-local (drop (e - at) cs)
+    (drop (e - at) ds) maxRepeat 0 (suc d) (omega arith) (agree-drop (e - at) (suc d) cs ds
+    (subst (λ (m : ℕ). Agree m cs ds) split a)) in
     ap (groupAt at ds) same ∙ (rw (s .0, s .1))
 group-local at cs ds (stray p) r₂ h ih j q a = ap (groupAt at ds) (ih j q a)
 
@@ -141,7 +143,9 @@ unfolding pieceAt
 step-local depth filled at c cs ds in₁ in₂ h ih j q a = go (eqb c 32) (eqb c 41) q
   where
     go : (s t : Bool) → suc at + j ≡ suc (reached at (if s then space else if t then (if ltb 0 depth && filled then close else bad at) else pieceFrom (itemAt depth at c cs in₁)))
-        → (if s then space else if t then (if ltb 0 depth && filled then close else bad at) else pieceFrom (itemAt depth at c ds in₂)) ≡ (if s then space else if t then (if ltb 0 depth && filled then close else bad at) else pieceFrom (itemAt depth at c cs in₁))
+        → (if s then space else if t then (if ltb 0 depth && filled then close else bad at) else pieceFrom
+        (itemAt depth at c ds in₂)) ≡ (if s then space else if t then (if ltb 0 depth && filled then close else bad
+        at) else pieceFrom (itemAt depth at c cs in₁))
     go true t q = refl
     go false true q = refl
     go false false q = ap pieceFrom (item-local depth at c cs ds in₁ in₂ h ih j (q ∙ ap suc (reached-item at (itemAt depth at c cs in₁))) a)
@@ -195,8 +199,12 @@ module _ (c : ℕ) (cs : List ℕ) (ih : Local cs) (depth : ℕ) (filled : Bool)
       let begin : suc at + 0 ≤ readEnd (in₁ tt) = starts cs (suc depth) false (suc at) 0 (omega arith) in
       let far : reached at s ≤ readEnd (pieceThen at s r) = reached-before at (suc at + length cs) s r w (starts cs depth (filled || isItem s) (suc at) (pieceExtra at s) m) in
       let low : at ≤ reached at s = lowest at (suc at + length cs) s w in
-      let step : pieceAt depth filled at c ds in₂ ≡ s = step-local depth filled at c cs ds in₁ in₂ (omega arith) (λ i p g. ih (suc depth) false (suc at) 0 ds i (omega arith) p g) (reached at s - at) (omega arith) (agree-less (reached at s - at) k cs ds (omega arith) (a .1)) in
-      ap (λ (x : ℕ). pieceThen at (pieceAt depth filled at x ds in₂) (sequence depth (filled || isItem (pieceAt depth filled at x ds in₂)) (suc at) (pieceExtra at (pieceAt depth filled at x ds in₂)) ds)) (sym (a .0))
+      let step : pieceAt depth filled at c ds in₂ ≡ s = step-local depth filled at c cs ds in₁ in₂ (omega arith)
+      (λ i p g. ih (suc depth) false (suc at) 0 ds i (omega arith) p g) (reached at s - at) (omega arith)
+      (agree-less (reached at s - at) k cs ds (omega arith) (a .1)) in
+      ap (λ (x : ℕ). pieceThen at (pieceAt depth filled at x ds in₂)
+      (sequence depth (filled || isItem (pieceAt depth filled at x ds in₂)) (suc at)
+      (pieceExtra at (pieceAt depth filled at x ds in₂)) ds)) (sym (a .0))
       ∙ ap (λ (x : Piece). pieceThen at x (sequence depth (filled || isItem x) (suc at) (pieceExtra at x) ds)) step
       ∙ rest-same at s r (sequence depth (filled || isItem s) (suc at) (pieceExtra at s) ds) k q (λ p. ih depth (filled || isItem s) (suc at) (pieceExtra at s) ds k m p (a .1))
 

@@ -127,7 +127,8 @@ number-cut [] ys limit v (suc k) h l = absurd (omega arith)
 number-cut (c ∷ cs) ys limit v (suc k) h l =
     same-cons c cs (take k cs ++ (32 ∷ ys)) limit v (suc k) (λ m. number-cut cs ys limit (withDigit v c) k (omega arith) (omega arith)) (omega arith)
 
-letter-cut : (at : ℕ) (l : Letter) (cs ds : List ℕ) (i : Item) (e : ℕ) → letterAt at l cs ≡ read i e → (suc at + digitsIn maxTemplateCount 0 cs ≡ e → SameNumber maxTemplateCount 0 cs ds) → letterAt at l ds ≡ read i e
+letter-cut : (at : ℕ) (l : Letter) (cs ds : List ℕ) (i : Item) (e : ℕ) → letterAt at l cs ≡ read i e
+    → (suc at + digitsIn maxTemplateCount 0 cs ≡ e → SameNumber maxTemplateCount 0 cs ds) → letterAt at l ds ≡ read i e
 unfolding letterAt
 letter-cut at (Taken b u) cs ds i e q s = let place : suc at + digitsIn maxTemplateCount 0 cs ≡ e = cc in let k = s place in rw (k .0, k .2) q
 letter-cut at Unknown cs ds i e q s = not-both (stray at) i e at q refl
@@ -178,7 +179,9 @@ module _ (text : List ℕ) (p : ℕ) (small : p ≤ length text) where
   cut-inner ys depth at t close l h e =
       let cs : List ℕ = drop (suc at) text in
       let place : readEnd (sequence (suc depth) false (suc at) 0 cs) ≡ close = ap readEnd e in
-      let agree : Agree (close - at) cs (drop (suc at) (cut ys)) = rw (cut-drop ys (suc at) (omega arith)) (agree-less (close - at) (p - suc at) cs (take (p - suc at) cs ++ (32 ∷ ys)) (omega arith) (agree-take (p - suc at) cs (32 ∷ ys) (rw length-drop (omega arith)))) in
+      let agree : Agree (close - at) cs (drop (suc at) (cut ys)) = rw (cut-drop ys (suc at) (omega arith))
+      (agree-less (close - at) (p - suc at) cs (take (p - suc at) cs ++ (32 ∷ ys)) (omega arith)
+      (agree-take (p - suc at) cs (32 ∷ ys) (rw length-drop (omega arith)))) in
       local cs (suc depth) false (suc at) 0 (drop (suc at) (cut ys)) (close - at) (omega arith) (omega arith) agree ∙ e
 
   module _ (ys : List ℕ) (depth at : ℕ) (h : at < p) (i : Item) (e : ℕ) (q : itemFrom depth text at ≡ read i e) (l : e ≤ p) where
@@ -186,7 +189,8 @@ module _ (text : List ℕ) (p : ℕ) (small : p ≤ length text) where
     cut-letter n =
         let b : getD (cut ys) at 0 ≡ getD text at 0 = cut-byte ys at h in
         item-letter depth (cut ys) at (λ z. n (sym b ∙ z))
-        ∙ (rw b (letter-cut at (letterOf (getD text at 0)) (drop (suc at) text) (drop (suc at) (cut ys)) i e (sym (item-letter depth text at n) ∙ q) (λ s. cut-number ys (suc at) maxTemplateCount (omega arith))))
+        ∙ (rw b (letter-cut at (letterOf (getD text at 0)) (drop (suc at) text) (drop (suc at) (cut ys)) i e
+        (sym (item-letter depth text at n) ∙ q) (λ s. cut-number ys (suc at) maxTemplateCount (omega arith))))
 
     cut-group : getD text at 0 ≡ 40 → depth < maxDepth → (r : ReadTo Template) → itemsFrom (suc depth) false text (suc at) ≡ r → itemFrom depth (cut ys) at ≡ read i e
     unfolding groupAt
@@ -195,7 +199,9 @@ module _ (text : List ℕ) (p : ℕ) (small : p ≤ length text) where
         let b : getD (cut ys) at 0 ≡ 40 = cut-byte ys at h ∙ y in
         let within : at < length text = omega arith in
         let bounds = close-inside depth text at y shallow within t close k in
-        let g : itemFrom depth text at ≡ read (group t (repeatOf (numberIn maxRepeat 0 (drop (suc close) text)))) (suc close + digitsIn maxRepeat 0 (drop (suc close) text)) = group-is depth text at y shallow within t close k in
+        let g : itemFrom depth text at ≡ read (group t (repeatOf (numberIn maxRepeat 0 (drop (suc close) text))))
+        (suc close + digitsIn maxRepeat 0 (drop (suc close) text)) = group-is depth text at y shallow within t close
+        k in
         let place : e ≡ suc close + digitsIn maxRepeat 0 (drop (suc close) text) = cc in
         let same : SameNumber maxRepeat 0 (drop (suc close) text) (drop (suc close) (cut ys)) = cut-number ys (suc close) maxRepeat (omega arith) in
         let inner : itemsFrom (suc depth) false (cut ys) (suc at) ≡ read t close = cut-inner ys depth at t close (omega arith) (omega arith) k in
@@ -344,7 +350,8 @@ first-bad text p e =
       good = (32 ∷ (m ++ []), t, read-spelled (take p text ++ (32 ∷ (m ++ []))) t (ap orRefused f));
       bad = λ h (more, u, o).
           let place : readEnd (sequence 0 false 0 0 text) ≡ p = ap readEnd e in
-          let same : sequence 0 false 0 0 (take (suc p) text ++ more) ≡ stray p = local text 0 false 0 0 (take (suc p) text ++ more) (suc p) (omega arith) (omega arith) (agree-take (suc p) text more h) ∙ e in
+          let same : sequence 0 false 0 0 (take (suc p) text ++ more) ≡ stray p = local text 0 false 0 0
+          (take (suc p) text ++ more) (suc p) (omega arith) (omega arith) (agree-take (suc p) text more h) ∙ e in
           no-refusal (sym (ap orRefused same) ∙ spelled-read (take (suc p) text ++ more) u o);
       ended = λ h u o. no-refusal (sym (ap orRefused e) ∙ spelled-read text u o);
     }
@@ -380,11 +387,13 @@ pub places : Places
 unfolding Places
 places text place = (λ e. found e (judged text), λ b. met b (judged text))
   where
-    found : templateOf text ≡ refused BadTemplate place → ((t : Template) × (templateOf text ≡ ok t) × Spells 0 t text) ⊎ ((p : ℕ) × (templateOf text ≡ refused BadTemplate p) × FirstBad text p) → FirstBad text place
+    found : templateOf text ≡ refused BadTemplate place → ((t : Template) × (templateOf text ≡ ok t) × Spells 0 t text)
+        ⊎ ((p : ℕ) × (templateOf text ≡ refused BadTemplate p) × FirstBad text p) → FirstBad text place
     found e (inl (t, o, s)) = no-refusal (sym e ∙ o)
     found e (inr (p, o, f)) = let same : p ≡ place = cc in subst (FirstBad text) same f
 
-    met : FirstBad text place → ((t : Template) × (templateOf text ≡ ok t) × Spells 0 t text) ⊎ ((p : ℕ) × (templateOf text ≡ refused BadTemplate p) × FirstBad text p) → templateOf text ≡ refused BadTemplate place
+    met : FirstBad text place → ((t : Template) × (templateOf text ≡ ok t) × Spells 0 t text) ⊎ ((p : ℕ)
+        × (templateOf text ≡ refused BadTemplate p) × FirstBad text p) → templateOf text ≡ refused BadTemplate place
     met b (inl (t, o, s)) = absurd (no-bad text t place s b)
     met b (inr (p, o, f)) = o ∙ ap (refused BadTemplate) (one-place text p place f b)
 
@@ -394,7 +403,8 @@ call-long : (template buffer : List ℕ) → maxLayout < length template → fro
 unfolding fromPerl layoutFrom
 call-long template buffer h = rw (lt-leb (length template) maxLayout h)
 
-call-read : (template buffer : List ℕ) (t : Template) (b : Bool) → length template ≤ maxLayout → templateOf template ≡ ok t → (leb (length (dueFor t)) maxLayout && leb (length (dueFor t)) (length buffer)) ≡ b
+call-read : (template buffer : List ℕ) (t : Template) (b : Bool) → length template ≤ maxLayout
+    → templateOf template ≡ ok t → (leb (length (dueFor t)) maxLayout && leb (length (dueFor t)) (length buffer)) ≡ b
     → fromPerl template buffer ≡ convertEffect buffer (if b then ok (dueFor t) else refused NoRoom 0)
 unfolding fromPerl layoutFrom
 call-read template buffer t true l e h = rw (le-leb (length template) maxLayout l, e, h)
@@ -417,7 +427,11 @@ unfolding Places
 by-spellings = record {
   long = call-long;
   served = λ template buffer t l s few room.
-      let fits : (leb (length (dueFor t)) maxLayout && leb (length (dueFor t)) (length buffer)) ≡ true = rw (le-leb (length (dueFor t)) maxLayout few, le-leb (length (dueFor t)) (length buffer) room) in
+      let fits : (leb (length (dueFor t)) maxLayout && leb (length (dueFor t)) (length buffer)) ≡ true = rw (
+        le-leb
+            (length (dueFor t)) maxLayout few,
+        le-leb (length (dueFor t)) (length buffer) room,
+      ) in
       call-read template buffer t true l (spelled-read template t s) fits;
   crowded = λ template buffer t l s h. call-read template buffer t false l (spelled-read template t s) (no-room (length (dueFor t)) maxLayout (length buffer) h);
   stray = λ template buffer p l b. call-stray template buffer p l (places template p .1 b);

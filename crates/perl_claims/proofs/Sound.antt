@@ -127,7 +127,9 @@ sequence-sound (c ∷ cs) depth filled at (suc n) = sequence-sound cs depth fill
 sequence-sound (c ∷ cs) depth filled at zero =
     let inside : Unit {0} → ReadTo Template = λ _. sequence (suc depth) false (suc at) 0 cs in
     let s : Piece = pieceAt depth filled at c cs inside in
-    before-sound at s (sequence depth (filled || isItem s) (suc at) (pieceExtra at s) cs) (step-sound depth filled at c cs inside (sequence-sound cs (suc depth) false (suc at) 0)) (sequence-sound cs depth (filled || isItem s) (suc at) (pieceExtra at s))
+    before-sound at s (sequence depth (filled || isItem s) (suc at) (pieceExtra at s) cs) (step-sound depth filled at c
+    cs inside (sequence-sound cs (suc depth) false (suc at) 0)) (sequence-sound cs depth (filled || isItem s)
+    (suc at) (pieceExtra at s))
 
 parsed-sound : (template : List ℕ) (t : Template) → templateOf template ≡ ok t → Sound t
 unfolding templateOf

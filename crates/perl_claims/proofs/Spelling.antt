@@ -47,7 +47,8 @@ none-read limit v [] h = (refl, refl)
 none-read limit v (c ∷ cs) h = rw h (refl, refl)
 
 -- one digit, and then the rest
-digit-read : (limit v d : ℕ) (ds rest : List ℕ) → isDecimal d ≡ true → 0 < withDigit v d → decimal v (d ∷ ds) ≤ limit → (decimal (withDigit v d) ds ≤ limit → Reads limit (withDigit v d) ds rest) → Reads limit v (d ∷ ds) rest
+digit-read : (limit v d : ℕ) (ds rest : List ℕ) → isDecimal d ≡ true → 0 < withDigit v d → decimal v (d ∷ ds) ≤ limit
+    → (decimal (withDigit v d) ds ≤ limit → Reads limit (withDigit v d) ds rest) → Reads limit v (d ∷ ds) rest
 unfolding digitsIn numberIn continues decimal
 digit-read limit v d ds rest h pos most more =
     let last : decimal (withDigit v d) ds ≤ limit = rw h at most in
@@ -193,7 +194,9 @@ module _ (depth : ℕ) (filled : Bool) (at : ℕ) where
       let r = number-read maxRepeat times rest n stop in
       let place : suc at + length items - at ≡ suc (length items) = omega arith in
       let upto : length (items ++ (41 ∷ [])) ≡ suc (length items) = length-append items (41 ∷ []) ∙ omega arith in
-      let behind : drop (suc (length items)) (items ++ (41 ∷ (times ++ rest))) ≡ times ++ rest = ap (drop (suc (length items))) (sym (append-assoc items (41 ∷ []) (times ++ rest))) ∙ drop-at (items ++ (41 ∷ [])) (times ++ rest) (suc (length items)) upto in
+      let behind : drop (suc (length items)) (items ++ (41 ∷ (times ++ rest))) ≡ times
+      ++ rest = ap (drop (suc (length items))) (sym (append-assoc items (41 ∷ []) (times ++ rest)))
+      ∙ drop-at (items ++ (41 ∷ [])) (times ++ rest) (suc (length items)) upto in
       let whole : length (items ++ (41 ∷ times)) ≡ length items + suc (length times) = length-append items (41 ∷ times) in
       let last : suc (suc at + length items) + length times ≡ suc at + length (items ++ (41 ∷ times)) = omega arith in
       rw (lt-ltb depth maxDepth shallow, e, place, behind, r .0, r .1, itemAt) (ap (item (group t (repeatOf (decimal 0 times)))) last)
@@ -217,7 +220,9 @@ reads-letter {depth} c b u count {t} {rest} e n p ih filled at tail h k =
     ∙ item-first depth filled at c count (rest ++ tail) i t (suc at + length count + length rest) step (ih true (suc at + length count) tail h (closable depth t))
     ∙ ap (read (next i t)) last
 
-reads-group : {depth : ℕ} {t : Template} {inside times : List ℕ} {u : Template} {rest : List ℕ} → depth < maxDepth → Spells (suc depth) t inside → Closable (suc depth) false t → Taken-to (suc depth) t inside → Number maxRepeat times → Spells depth u rest → Taken-to depth u rest
+reads-group : {depth : ℕ} {t : Template} {inside times : List ℕ} {u : Template} {rest : List ℕ} → depth < maxDepth
+    → Spells (suc depth) t inside → Closable (suc depth) false t → Taken-to (suc depth) t inside
+    → Number maxRepeat times → Spells depth u rest → Taken-to depth u rest
     → Taken-to depth (next (group t (repeatOf (decimal 0 times))) u) (40 ∷ (inside ++ (41 ∷ (times ++ rest))))
 reads-group {depth} {t} {inside} {times} {u} {rest} l p full inner n q ih filled at tail h k =
     let i : Item = group t (repeatOf (decimal 0 times)) in
@@ -226,10 +231,13 @@ reads-group {depth} {t} {inside} {times} {u} {rest} l p full inner n q ih filled
     let long₁ : length (inside ++ (41 ∷ (times ++ rest))) ≡ length inside + suc (length (times ++ rest)) = length-append inside (41 ∷ (times ++ rest)) in
     let long₂ : length (times ++ rest) ≡ length times + length rest = length-append times rest in
     let last : suc at + length m + length rest ≡ at + suc (length (inside ++ (41 ∷ (times ++ rest)))) = omega arith in
-    let text : (inside ++ (41 ∷ (times ++ rest))) ++ tail ≡ inside ++ (41 ∷ (times ++ (rest ++ tail))) = append-assoc inside (41 ∷ (times ++ rest)) tail ∙ ap (λ (x : List ℕ). inside ++ (41 ∷ x)) (append-assoc times rest tail) in
+    let text : (inside ++ (41 ∷ (times ++ rest))) ++ tail ≡ inside ++ (41 ∷ (times ++ (rest ++ tail))) = append-assoc
+    inside (41 ∷ (times ++ rest)) tail ∙ ap (λ (x : List ℕ). inside ++ (41 ∷ x)) (append-assoc times rest tail) in
     let joined : inside ++ (41 ∷ (times ++ (rest ++ tail))) ≡ m ++ (rest ++ tail) = sym (append-assoc inside (41 ∷ times) (rest ++ tail)) in
     let step = step-group depth filled at inside times (rest ++ tail) t l n (spelling-stops q tail h) (inner false (suc at) (41 ∷ (times ++ (rest ++ tail))) refl full) in
-    let step₁ : pieceAt depth filled at 40 (m ++ (rest ++ tail)) (λ _. sequence (suc depth) false (suc at) 0 (m ++ (rest ++ tail))) ≡ item i (suc at + length m) = subst (λ (x : List ℕ). pieceAt depth filled at 40 x (λ _. sequence (suc depth) false (suc at) 0 x) ≡ item i (suc at + length m)) joined step in
+    let step₁ : pieceAt depth filled at 40 (m ++ (rest ++ tail)) (λ _. sequence (suc depth) false (suc at) 0
+    (m ++ (rest ++ tail))) ≡ item i (suc at + length m) = subst (λ (x : List ℕ). pieceAt depth filled at 40 x
+    (λ _. sequence (suc depth) false (suc at) 0 x) ≡ item i (suc at + length m)) joined step in
     ap (λ (x : List ℕ). sequence depth filled at 0 (40 ∷ x)) (text ∙ joined)
     ∙ item-first depth filled at 40 m (rest ++ tail) i u (suc at + length m + length rest) step₁ (ih true (suc at + length m) tail h (closable depth u))
     ∙ ap (read (next i u)) last
@@ -276,7 +284,9 @@ number-spelt limit [] = (omitted, refl)
 number-spelt limit (c ∷ cs) = go (continues limit 0 c) refl
   where
     go : (t : Bool) → continues limit 0 c ≡ t
-        → Number limit (take (if t then suc (digitsIn limit (withDigit 0 c) cs) else 0) (c ∷ cs)) × (decimal 0 (take (if t then suc (digitsIn limit (withDigit 0 c) cs) else 0) (c ∷ cs)) ≡ (if t then numberIn limit (withDigit 0 c) cs else 0))
+        → Number limit (take (if t then suc (digitsIn limit (withDigit 0 c) cs) else 0) (c ∷ cs))
+        × (decimal 0 (take (if t then suc (digitsIn limit (withDigit 0 c) cs) else 0) (c ∷ cs)) ≡ (if t then
+        numberIn limit (withDigit 0 c) cs else 0))
     go true e =
         let k = count-digits limit (withDigit 0 c) cs in
         let small : withDigit 0 c ≤ limit = leb-true (withDigit 0 c) limit (unfold continues in both (isDecimal c && ltb 0 (withDigit 0 c)) (leb (withDigit 0 c) limit) e .1) in
@@ -358,7 +368,9 @@ unfolding itemAt
 item-spelt depth at c cs inside h = go (eqb c 40 && ltb depth maxDepth) (λ e. both (eqb c 40) (ltb depth maxDepth) e)
   where
     go : (t : Bool) → (t ≡ true → (eqb c 40 ≡ true) × (ltb depth maxDepth ≡ true)) → IsItem depth at c cs (elim t [ true ↦ groupAt at cs (inside tt) | false ↦ letterAt at (letterOf c) cs ])
-    go true e = let k = e refl in subst (λ (x : ℕ). IsItem depth at x cs (groupAt at cs (inside tt))) (sym (eqb-true c 40 (k .0))) (group-spelt depth at cs (inside tt) (ltb-true depth maxDepth (k .1)) h)
+    go true e =
+        let k = e refl in subst (λ (x : ℕ). IsItem depth at x cs (groupAt at cs (inside tt)))
+        (sym (eqb-true c 40 (k .0))) (group-spelt depth at cs (inside tt) (ltb-true depth maxDepth (k .1)) h)
     go false e = letter-spelt depth at c (letterOf c) cs refl
 
 abbrev StepSpelt : ℕ → Bool → ℕ → ℕ → List ℕ → Piece → Type 0
@@ -371,7 +383,9 @@ from-spelt : (depth : ℕ) (filled : Bool) (at c : ℕ) (cs : List ℕ) (r : Rea
 from-spelt depth filled at c cs (read i e) h = h
 from-spelt depth filled at c cs (stray p) h = tt
 
-step-spelt : (depth : ℕ) (filled : Bool) (at c : ℕ) (cs : List ℕ) (inside : Unit {0} → ReadTo Template) → IsSpelt (suc depth) false (suc at) cs (inside tt) → StepSpelt depth filled at c cs (pieceAt depth filled at c cs inside)
+step-spelt : (depth : ℕ) (filled : Bool) (at c : ℕ) (cs : List ℕ) (inside : Unit {0} → ReadTo Template)
+    → IsSpelt (suc depth) false (suc at) cs (inside tt)
+    → StepSpelt depth filled at c cs (pieceAt depth filled at c cs inside)
 unfolding pieceAt
 step-spelt depth filled at c cs inside h =
     go (eqb c 32) (eqb c 41) (ltb 0 depth && filled) (λ e. eqb-true c 32 e) (λ e. eqb-true c 41 e) (λ e. let k = both (ltb 0 depth) filled e in (ltb-true 0 depth (k .0), k .1))
@@ -393,7 +407,9 @@ closable-next (suc d) true i t = tt
 closable-next (suc d) false i t = tt
 
 -- a step in front of the items that follow, which begin after its further bytes
-before-spelt : (depth : ℕ) (filled : Bool) (at c : ℕ) (cs : List ℕ) (s : Piece) (r : ReadTo Template) → StepSpelt depth filled at c cs s → IsSpelt depth (filled || isItem s) (suc at + pieceExtra at s) (drop (pieceExtra at s) cs) r
+before-spelt : (depth : ℕ) (filled : Bool) (at c : ℕ) (cs : List ℕ) (s : Piece) (r : ReadTo Template)
+    → StepSpelt depth filled at c cs s → IsSpelt depth (filled || isItem s) (suc at + pieceExtra at s)
+    (drop (pieceExtra at s) cs) r
     → IsSpelt depth filled at (c ∷ cs) (pieceThen at s r)
 before-spelt depth filled at c cs space (stray p) h k = tt
 before-spelt depth filled at c cs space (read t e) h k =
@@ -446,7 +462,9 @@ spelt (c ∷ cs) depth filled at zero h =
     let s : Piece = pieceAt depth filled at c cs inside in
     let m : pieceExtra at s ≤ length cs = extra-within at (length cs) s (step-from c cs depth filled at) in
     let inner : IsSpelt (suc depth) false (suc at) cs (inside tt) = rw add-zero at (spelt cs (suc depth) false (suc at) 0 (omega arith)) in
-    rw add-zero (before-spelt depth filled at c cs s (sequence depth (filled || isItem s) (suc at) (pieceExtra at s) cs) (step-spelt depth filled at c cs inside inner) (spelt cs depth (filled || isItem s) (suc at) (pieceExtra at s) m))
+    rw add-zero (before-spelt depth filled at c cs s (sequence depth (filled || isItem s) (suc at) (pieceExtra at s) cs)
+    (step-spelt depth filled at c cs inside inner) (spelt cs depth (filled || isItem s) (suc at) (pieceExtra at s)
+    m))
 
 pub read-spelled : (text : List ℕ) (t : Template) → templateOf text ≡ ok t → Spells 0 t text
 unfolding templateOf

@@ -42,7 +42,8 @@ module _ (packing : Bool) (plan : List ℕ) where
         let o : planFields packing plan ≡ refused why i = j .so-far ∙ ap (after (decoded i plan)) here in
         rw o (record { answer = refl; codes = tt; plan = tt; room = room })
 
-    pub judging-more : (k : ℕ) → i < length plan → plannedField packing i (getD plan i 0) ≡ ok (fieldOf (getD plan i 0)) → k ≡ slotsTaken (fieldOf (getD plan i 0)) → codeFor (fieldOf (getD plan i 0)) ≡ getD plan i 0
+    pub judging-more : (k : ℕ) → i < length plan → plannedField packing i (getD plan i 0) ≡ ok (fieldOf (getD plan i 0))
+        → k ≡ slotsTaken (fieldOf (getD plan i 0)) → codeFor (fieldOf (getD plan i 0)) ≡ getD plan i 0
         → Judging packing plan (i + 1) (taken + k)
     unfolding plannedFrom decoded
     judging-more k h good slot code =

@@ -102,7 +102,13 @@ module _ (m : ℕ) (vs : List ℕ) (few : m ≤ length vs) (n : ℕ) (ws : List 
     pub alike-more : i < min m n → sameField (fieldOf (getD vs i 0)) (fieldOf (getD ws i 0)) ≡ true → Alike m vs n ws (i + 1)
     unfolding sameFront
     alike-more h e =
-        let here : sameFront (drop i (decoded m vs)) (drop i (decoded n ws)) ≡ suc (sameFront (drop (i + 1) (decoded m vs)) (drop (i + 1) (decoded n ws))) = rw (next-field m vs few i (omega arith), next-field n ws few′ i (omega arith), e) in
+        let here : sameFront (drop i (decoded m vs)) (drop i (decoded n ws)) ≡ suc
+        (sameFront (drop (i + 1) (decoded m vs)) (drop (i + 1) (decoded n ws))) = rw (
+          next-field m vs few i
+              (omega arith),
+          next-field n ws few′ i (omega arith),
+          e,
+        ) in
         record { within = omega arith; so-far = omega (arith, k .so-far) }
 
     alike-end : m ≤ i → i ≡ sameFront (decoded m vs) (decoded n ws)

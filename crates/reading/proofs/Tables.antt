@@ -26,12 +26,15 @@ pub slot-numbers-append : (start : ℕ) (at : List ℕ) (vs ws : List Value)
 unfolding slotNumbers valueBytes join
 slot-numbers-append start at [] ws = ap (λ (n : ℕ). slotNumbers n at ws) (sym (add-zero start))
 slot-numbers-append start at (v ∷ vs) ws =
-    let e : start + length (areaBytes v) + length (valueBytes vs) ≡ start + length (areaBytes v ++ valueBytes vs) = rw length-append (add-assoc start (length (areaBytes v)) (length (valueBytes vs))) in
+    let e : start + length (areaBytes v) + length (valueBytes vs) ≡ start + length (areaBytes v ++ valueBytes
+    vs) = rw length-append (add-assoc start (length (areaBytes v)) (length (valueBytes vs))) in
     let s : 1 + length vs ≡ suc (length vs) = omega arith in
     ap (λ (r : List ℕ). v .kind ∷ start ∷ length (v .items) ∷ getD at 0 noPosition ∷ r)
     (slot-numbers-append (start + length (areaBytes v)) (drop 1 at) vs ws
     ∙ ap (λ (n : ℕ). slotNumbers (start + length (areaBytes v)) (drop 1 at) vs ++ slotNumbers n (drop (length vs) (drop 1 at)) ws) e
-    ∙ ap (λ (ps : List ℕ). slotNumbers (start + length (areaBytes v)) (drop 1 at) vs ++ slotNumbers (start + length (areaBytes v ++ valueBytes vs)) ps ws) (drop-drop (length vs) 1 at ∙ ap (λ (n : ℕ). drop n at) s))
+    ∙ ap (λ (ps : List ℕ). slotNumbers (start + length (areaBytes v)) (drop 1 at) vs ++ slotNumbers
+    (start + length (areaBytes v ++ valueBytes vs)) ps ws) (drop-drop (length vs) 1 at ∙ ap (λ (n : ℕ). drop n at)
+    s))
 
 -- of one value
 slot-numbers-one : (start : ℕ) (at : List ℕ) (v : Value) {p : ℕ} → getD at 0 noPosition ≡ p → slotNumbers start at (v ∷ []) ≡ slotNumbers start (p ∷ []) (v ∷ [])
@@ -130,8 +133,12 @@ module _ {bs : List ℕ} {fs : List Field} {slots₀ area₀ : List ℕ} {mark :
           let bytes : valueBytes (w .vs ++ (v ∷ [])) ≡ valueBytes (w .vs) ++ areaBytes v = value-bytes-append (w .vs) (v ∷ []) ∙ rw value-bytes-one in
           let len : length (slotNumbers mark ps (w .vs ++ (v ∷ []))) ≡ slotWidth * length (w .vs ++ (v ∷ [])) = length-slot-numbers mark ps (w .vs ++ (v ∷ [])) in
           let table : slots′ ≡ storeAt slots₀ 0 (slotNumbers mark ps (w .vs ++ (v ∷ []))) =
-          store-next {to = slotWidth * n} slots₀ 0 (slotNumbers mark ps (w .vs)) (slotNumbers place (c .at ∷ []) (v ∷ [])) (w .table) (omega (arith, length-slot-numbers mark ps (w .vs), w .count)) (p .table) numbers (omega (arith, fits .0, all .rows)) in
-          let values : area′ ≡ storeAt area₀ mark (valueBytes (w .vs ++ (v ∷ []))) = store-next area₀ mark (valueBytes (w .vs)) (areaBytes v) (w .values) (w .next) (p .values) bytes (omega (arith, fits .1, all .room)) in
+          store-next {to = slotWidth * n} slots₀ 0 (slotNumbers mark ps (w .vs)) (slotNumbers place (c .at ∷ [])
+          (v ∷ [])) (w .table) (omega (arith, length-slot-numbers mark ps (w .vs), w .count)) (p .table) numbers
+          (omega (arith, fits .0, all .rows)) in
+          let values : area′ ≡ storeAt area₀ mark (valueBytes (w .vs ++ (v ∷ []))) = store-next area₀ mark
+          (valueBytes (w .vs)) (areaBytes v) (w .values) (w .next) (p .values) bytes
+          (omega (arith, fits .1, all .room)) in
           record {
             vs = w .vs ++ (v ∷ []);
             ran = found .ran;

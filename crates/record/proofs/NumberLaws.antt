@@ -127,16 +127,19 @@ digits-are ds w x e h is = rw (is, ← e) (digits-number 256 ds h)
 pub part-bytes : (xs : List ℕ) (start n : ℕ) → ((i : ℕ) → getD xs i 0 < 256) → All (λ d. d < 256) (part xs start n)
 part-bytes xs start n small = all-take (λ d. d < 256) n (drop start xs) (all-drop (λ d. d < 256) start xs (all-below xs small))
 
-pub bytes-of : (high : Bool) (bs : List ℕ) (at w x : ℕ) → ((i : ℕ) → getD bs i 0 < 256) → at + w ≤ length bs → x ≡ number 256 (ordered high (part bs at w)) → digits 256 w x ≡ ordered high (part bs at w)
+pub bytes-of : (high : Bool) (bs : List ℕ) (at w x : ℕ) → ((i : ℕ) → getD bs i 0 < 256) → at + w ≤ length bs
+    → x ≡ number 256 (ordered high (part bs at w)) → digits 256 w x ≡ ordered high (part bs at w)
 bytes-of high bs at w x small inside =
     digits-are (ordered high (part bs at w)) w x (length-ordered high (part bs at w) ∙ length-part w at bs inside) (all-ordered (λ d. d < 256) high (part bs at w) (part-bytes bs at w small))
 
-pub bytes-read : (high : Bool) (bs : List ℕ) (at w x : ℕ) → ((i : ℕ) → getD bs i 0 < 256) → at + w ≤ length bs → x ≡ number 256 (ordered high (items bs at 0 w)) → digits 256 w x ≡ ordered high (part bs at w)
+pub bytes-read : (high : Bool) (bs : List ℕ) (at w x : ℕ) → ((i : ℕ) → getD bs i 0 < 256) → at + w ≤ length bs
+    → x ≡ number 256 (ordered high (items bs at 0 w)) → digits 256 w x ≡ ordered high (part bs at w)
 bytes-read high bs at w x small inside is = bytes-of high bs at w x small inside (rw (part-items bs at w inside) is)
 
 pub bytes-turned : (high : Bool) (w v x : ℕ) → x ≡ number 256 (ordered high (digits 256 w v)) → digits 256 w x ≡ ordered high (digits 256 w v)
 bytes-turned high w v x =
-    digits-are (ordered high (digits 256 w v)) w x (length-ordered high (digits 256 w v) ∙ length-digits 256 w v) (all-ordered (λ d. d < 256) high (digits 256 w v) (digits-below 256 w v (omega arith)))
+    digits-are (ordered high (digits 256 w v)) w x (length-ordered high (digits 256 w v) ∙ length-digits 256 w v)
+    (all-ordered (λ d. d < 256) high (digits 256 w v) (digits-below 256 w v (omega arith)))
 
 -- ---- many numbers
 

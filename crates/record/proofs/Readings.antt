@@ -66,7 +66,8 @@ reads-few size o bs slots area mark vs e =
     let shown : List Value = valuesFrom bs 0 fs in
     let (_, e₄) = demanded (leb (mark + length (valueBytes shown)) (length area)) NoRoom 0 (λ _. ok shown) vs e₃ in
     let all : Sized size (length slots) (length bs) (length area) = sized (and-true (lengthsFit size (length slots) (length bs) (length area)) (leb mark (length area)) fit .0) in
-    few-by slots (slotCount fs) (length vs) (all .lent .table) (leb-true (slotCount fs) (length (slotsOf slots)) enough) (subst (λ (ws : List Value). length ws ≤ slotCount fs) {x = shown} (ok-inj e₄) (values-few bs 0 fs))
+    few-by slots (slotCount fs) (length vs) (all .lent .table) (leb-true (slotCount fs) (length (slotsOf slots)) enough)
+    (subst (λ (ws : List Value). length ws ≤ slotCount fs) {x = shown} (ok-inj e₄) (values-few bs 0 fs))
 
 -- ---- what stood in the slots does not count
 
@@ -106,7 +107,8 @@ module _ (xs area : List ℕ) (mark : ℕ) (at : List ℕ) where
   effect-unset (ok vs) z = unset-same vs
   effect-unset (refused why place) z = no-number-zero why z
 
-  effect-few : (r : Result (List Value)) → ((vs : List Value) → r ≡ ok vs → Few xs (length vs)) → readEffect xs area mark at r .answer .number ≡ 0 → Few xs (readEffect xs area mark at r .answer .first)
+  effect-few : (r : Result (List Value)) → ((vs : List Value) → r ≡ ok vs → Few xs (length vs))
+      → readEffect xs area mark at r .answer .number ≡ 0 → Few xs (readEffect xs area mark at r .answer .first)
   unfolding putInto
   effect-few (ok vs) h z = h vs refl
   effect-few (refused why place) h z = no-number-zero why z
@@ -141,7 +143,9 @@ module _ (size : ℕ) (o : Result (List Field)) (bs area : List ℕ) (mark : ℕ
     fields-few = effect-few xs area mark (positionsOf (length bs) o) (readsFields size o bs xs area mark) (reads-few size o bs xs area mark) z
 
   -- what a call left has room for the slots that it set
-  pub fields-set : {a : Answer} {xs′ area′ : List ℕ} → record { answer = a; slots = xs′; area = area′ } ≡ leftOf (readFields size o bs xs area mark) → a .number ≡ 0 → length xs′ ≡ length xs → a .first * slotWidth ≤ length xs′
+  pub fields-set : {a : Answer} {xs′ area′ : List ℕ}
+      → record { answer = a; slots = xs′; area = area′ } ≡ leftOf (readFields size o bs xs area mark) → a .number ≡ 0
+      → length xs′ ≡ length xs → a .first * slotWidth ≤ length xs′
   fields-set {a} p z e =
       let same : readFields size o bs xs area mark .answer .answer ≡ a = ap (λ (r : Read). r .answer) (sym p) in
       let few : Few xs (readFields size o bs xs area mark .answer .answer .first) = fields-few (rw same z) in
@@ -168,6 +172,7 @@ module _ (layout bs area : List ℕ) (mark : ℕ) (xs : List ℕ) where
     unfolding read readFields
     read-few = fields-few (length layout) (fieldsOf false layout) bs area mark xs z
 
-  pub set-few : {a : Answer} {xs′ area′ : List ℕ} → record { answer = a; slots = xs′; area = area′ } ≡ read layout bs xs area mark → a .number ≡ 0 → length xs′ ≡ length xs → a .first * slotWidth ≤ length xs′
+  pub set-few : {a : Answer} {xs′ area′ : List ℕ} → record { answer = a; slots = xs′; area = area′ } ≡ read layout bs xs
+      area mark → a .number ≡ 0 → length xs′ ≡ length xs → a .first * slotWidth ≤ length xs′
   unfolding read readFields
   set-few p z e = fields-set (length layout) (fieldsOf false layout) bs area mark xs p z e

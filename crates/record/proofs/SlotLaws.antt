@@ -20,7 +20,8 @@ four : (ns : List ℕ) (i : ℕ) → i + 4 ≤ length ns → drop i ns ≡ getD 
 four ns i h =
     let e : i ≡ i + 0 = omega arith in
     ap (λ (k : ℕ). drop k ns) e ∙ here ns i 0 (omega arith) ∙ ap (λ (k : ℕ). getD ns k 0 ∷ drop (i + 1) ns) (sym e)
-    ∙ ap (λ (l : List ℕ). getD ns i 0 ∷ l) (here ns i 1 (omega arith) ∙ ap (λ (l : List ℕ). getD ns (i + 1) 0 ∷ l) (here ns i 2 (omega arith) ∙ ap (λ (l : List ℕ). getD ns (i + 2) 0 ∷ l) (here ns i 3 (omega arith))))
+    ∙ ap (λ (l : List ℕ). getD ns i 0 ∷ l) (here ns i 1 (omega arith) ∙ ap (λ (l : List ℕ). getD ns (i + 1) 0 ∷ l)
+    (here ns i 2 (omega arith) ∙ ap (λ (l : List ℕ). getD ns (i + 2) 0 ∷ l) (here ns i 3 (omega arith))))
 
 -- the stores that set slot number k
 pub set-numbers : (ns : List ℕ) (k x y z p : ℕ) → slotWidth * k + slotWidth ≤ length ns

@@ -36,7 +36,9 @@ few-from packing at zero (c ∷ cs) fs e =
 
 -- ---- steps
 
-steps-step : (size at : ℕ) (k : Role) (u : Bool) (n : Count) (fs : List Field) → ((to : ℕ) → stepsFrom size to fs ≤ length fs) → stepsFrom size at (record { role = k; unsigned = u; count = n } ∷ fs) ≤ suc (length fs)
+steps-step : (size at : ℕ) (k : Role) (u : Bool) (n : Count) (fs : List Field)
+    → ((to : ℕ) → stepsFrom size to fs ≤ length fs)
+    → stepsFrom size at (record { role = k; unsigned = u; count = n } ∷ fs) ≤ suc (length fs)
 unfolding stepsFrom
 steps-step size at (Data s) u n fs h = go (leb (bytesFor s (itemsOf s n (size - at))) (size - at)) (h (at + bytesFor s (itemsOf s n (size - at))))
   where

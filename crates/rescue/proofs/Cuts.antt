@@ -92,9 +92,15 @@ module _ (w : ℕ) where
   end-by k (suc i) (e ∷ es) h = rw body-first (go (leb (length (entryBytes w e)) k) refl (end-by (k - length (entryBytes w e)) i es (le-of-suc-le-suc h)))
     where
       -- an entry further on ends so much later
-      shift : length (entryBytes w e) ≤ k → (t : Bool) → leb (length (bodyBytes w (take (suc i) es))) (k - length (entryBytes w e)) ≡ t → t ≡ leb (length (entryBytes w e) + length (bodyBytes w (take (suc i) es))) k
-      shift l true q = sym (le-leb (length (entryBytes w e) + length (bodyBytes w (take (suc i) es))) k (omega (arith, l, leb-true (length (bodyBytes w (take (suc i) es))) (k - length (entryBytes w e)) q)))
-      shift l false q = sym (lt-leb (length (entryBytes w e) + length (bodyBytes w (take (suc i) es))) k (omega (arith, l, leb-false (length (bodyBytes w (take (suc i) es))) (k - length (entryBytes w e)) q)))
+      shift : length (entryBytes w e) ≤ k → (t : Bool)
+          → leb (length (bodyBytes w (take (suc i) es))) (k - length (entryBytes w e)) ≡ t
+          → t ≡ leb (length (entryBytes w e) + length (bodyBytes w (take (suc i) es))) k
+      shift l true q =
+          sym (le-leb (length (entryBytes w e) + length (bodyBytes w (take (suc i) es))) k
+          (omega (arith, l, leb-true (length (bodyBytes w (take (suc i) es))) (k - length (entryBytes w e)) q)))
+      shift l false q =
+          sym (lt-leb (length (entryBytes w e) + length (bodyBytes w (take (suc i) es))) k
+          (omega (arith, l, leb-false (length (bodyBytes w (take (suc i) es))) (k - length (entryBytes w e)) q)))
 
       step : (n : ℕ) (t : Bool) → ltb i n ≡ t → ltb (suc i) (suc n) ≡ t
       step n true q = lt-ltb (suc i) (suc n) (omega (arith, ltb-true i n q))

@@ -61,7 +61,8 @@ module _ (sheet : List ℕ) (legs : ℕ) (area : List ℕ) (mark : ℕ) (xs : Li
         rw as-many (effect-over (rescues sheet legs xs area mark) kept-few)
 
   -- what a call left has room for the slots that it set
-  pub legs-there : {a : Rescued} {xs′ area′ : List ℕ} → record { answer = a; slots = xs′; area = area′ } ≡ rescue sheet legs xs area mark → a .number ≡ 0 → length xs′ ≡ length xs → legs * slotWidth ≤ length xs′
+  pub legs-there : {a : Rescued} {xs′ area′ : List ℕ} → record { answer = a; slots = xs′; area = area′ } ≡ rescue sheet
+      legs xs area mark → a .number ≡ 0 → length xs′ ≡ length xs → legs * slotWidth ≤ length xs′
   legs-there {a} p z e =
       let same : rescue sheet legs xs area mark .answer ≡ a = ap (λ (o : Outcome). o .answer) (sym p) in
       let got = rescued-it sheet legs xs area mark (rw same z) in

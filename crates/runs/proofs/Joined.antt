@@ -79,7 +79,9 @@ packed-joined fs h = ap (λ (r : Run). r .out) (pack-all [] fs h)
 pub joined-append : (fs gs : List Filled) → joined (fs ++ gs) ≡ joined fs ++ joined gs
 unfolding joined
 joined-append [] gs = refl
-joined-append (a ∷ fs) gs = ap (λ (r : List ℕ). bytesOf (a .field .role) (a .field .count) (a .items) ++ r) (joined-append fs gs) ∙ sym (append-assoc (bytesOf (a .field .role) (a .field .count) (a .items)) (joined fs) (joined gs))
+joined-append (a ∷ fs) gs = ap (λ (r : List ℕ). bytesOf (a .field .role) (a .field .count) (a .items) ++ r)
+    (joined-append fs gs) ∙ sym (append-assoc (bytesOf (a .field .role) (a .field .count) (a .items)) (joined fs)
+    (joined gs))
 
 forward-both : (fs gs : List Filled) → Forward fs → Forward gs → Forward (fs ++ gs)
 forward-both [] gs h k = k

@@ -45,7 +45,8 @@ shows-from (v ∷ vs) h at area rest more start e =
     let here : drop start area ≡ areaBytes v ++ tail = e ∙ append-assoc (areaBytes v) (valueBytes vs) rest in
     let later : drop (start + length (areaBytes v)) area ≡ tail =
     sym (drop-drop (length (areaBytes v)) start area) ∙ ap (drop (length (areaBytes v))) here ∙ drop-at (areaBytes v) tail (length (areaBytes v)) refl in
-    ap₂ (λ (x : Value) (xs : List Value). x ∷ xs) (shows-one area tail start (getD at 0 noPosition) v (h .0) here) (shows-from vs (h .1) (drop 1 at) area rest more (start + length (areaBytes v)) later)
+    ap₂ (λ (x : Value) (xs : List Value). x ∷ xs) (shows-one area tail start (getD at 0 noPosition) v (h .0) here)
+    (shows-from vs (h .1) (drop 1 at) area rest more (start + length (areaBytes v)) later)
 
 -- the table that a reading leaves shows the values that were put into it
 pub shows-put : (slots area : List ℕ) (mark : ℕ) (at : List ℕ) (vs : List Value) → AllProper vs → mark ≤ length area

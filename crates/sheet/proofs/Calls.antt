@@ -73,7 +73,9 @@ module _ (slots area buffer : List ℕ) where
       write-done h = rw (sizes, fits, le-leb _ _ h)
 
       -- the same, as the code leaves it
-      pub write-stored : (n : ℕ) (out : List ℕ) → n ≡ length (tableSheet slots area) → n ≤ length buffer → out ≡ storeAt buffer 0 (tableSheet slots area) → record { answer = accepted n 0; output = out } ≡ writeSheet slots area buffer
+      pub write-stored : (n : ℕ) (out : List ℕ) → n ≡ length (tableSheet slots area) → n ≤ length buffer
+          → out ≡ storeAt buffer 0 (tableSheet slots area) → record { answer = accepted n 0; output = out } ≡ writeSheet
+          slots area buffer
       write-stored n out e h q = rw (e, q, zero-add) (write-done (rw e at h))
 
 written-ok : (buffer : List ℕ) (o : Result (List ℕ)) → packEffect buffer o .answer .number ≡ 0 → (bs : List ℕ) × (o ≡ ok bs)
@@ -139,7 +141,9 @@ module _ (sheet slots area : List ℕ) (mark : ℕ) where
     read-header versions h = rw (sizes, versions, h)
 
   module _ (o : SheetOpened sheet slots area mark) where
-    pub read-wrong : eqb (entriesEnd (widthIn sheet) (entriesAt (widthIn sheet) sheet)) (length sheet) ≡ false → refuses BadSheet (entriesEnd (widthIn sheet) (entriesAt (widthIn sheet) sheet)) ≡ readSheet sheet slots area mark
+    pub read-wrong : eqb (entriesEnd (widthIn sheet) (entriesAt (widthIn sheet) sheet)) (length sheet) ≡ false
+        → refuses BadSheet (entriesEnd (widthIn sheet) (entriesAt (widthIn sheet) sheet)) ≡ readSheet sheet slots area
+        mark
     unfolding readSheet readsSheet
     read-wrong h = rw (o .sizes, o .versions, o .header, h)
 

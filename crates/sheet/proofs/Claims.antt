@@ -166,7 +166,8 @@ module _ {sheet slots area : List ℕ} {mark : ℕ} (all : All (λ d. d < 256) s
       let h = and-true (leb (headerSize (widthIn sheet)) (length sheet)) _ (got .opened .header) in
       let n : suc (widthIn sheet) + numberAt (widthIn sheet) sheet 1 ≡ length sheet = eqb-true _ _ (h .1) in
       let here : suc (widthIn sheet) ≤ length sheet = leb-true (headerSize (widthIn sheet)) (length sheet) (h .0) in
-      let small : numberAt (widthIn sheet) (drop 1 sheet) 0 < 256 ^ widthIn sheet = number-small (widthIn sheet) (drop 1 sheet) (omega (arith, here, length-drop 1 sheet)) (all-drop (λ d. d < 256) 1 sheet all) in
+      let small : numberAt (widthIn sheet) (drop 1 sheet) 0 < 256 ^ widthIn sheet = number-small (widthIn sheet)
+      (drop 1 sheet) (omega (arith, here, length-drop 1 sheet)) (all-drop (λ d. d < 256) 1 sheet all) in
       let same : numberAt (widthIn sheet) sheet 1 ≡ numberAt (widthIn sheet) (drop 1 sheet) 0 = length-here (widthIn sheet) sheet 1 refl in
       let body : length (bodyBytes (widthIn sheet) (entriesAt (widthIn sheet) sheet)) < 256 ^ widthIn sheet = omega (arith, got .whole, n, small, same) in
       lt-ltb (length (bodyBytes 2 (entriesAt (widthIn sheet) sheet))) 65536 (subst (λ (k : ℕ). length (bodyBytes k (entriesAt (widthIn sheet) sheet)) < 256 ^ k) (ap widthOf e) body)

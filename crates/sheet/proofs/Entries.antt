@@ -189,7 +189,9 @@ module _ (w : ℕ) where
       let size : length (entryBytes w e ++ bodyBytes w es) ≡ w + suc (length (e .value)) + length (bodyBytes w es) = length-append (entryBytes w e) (bodyBytes w es) ∙ rw length-entry in
       let short : suc (length (e .value)) < 256 ^ w = omega (arith, h) in
       let split : bodyBytes w (e ∷ es) ++ rest ≡ entryBytes w e ++ more = append-assoc (entryBytes w e) (bodyBytes w es) rest in
-      let past : drop (w + numberAt w (entryBytes w e ++ more) 0) (entryBytes w e ++ more) ≡ more = drop-at (entryBytes w e) more (w + numberAt w (entryBytes w e ++ more) 0) (rw (entry-number w e more short) (length-entry w e)) in
+      let past : drop (w + numberAt w (entryBytes w e ++ more) 0) (entryBytes w e ++ more) ≡ more = drop-at
+      (entryBytes w e) more (w + numberAt w (entryBytes w e ++ more) 0) (rw (entry-number w e more short)
+      (length-entry w e)) in
       ap (entriesIn w) split
       ∙ entries-more w (entryBytes w e ++ more) (entry-begins w e more short (s .0))
       ∙ rw (entry-in w e more short, past) (ap (λ (r : List Entry). e ∷ r) (entries-in es rest (s .1) (omega (arith, h))))

@@ -43,5 +43,7 @@ pub written-version : WrittenVersion
 written-version slots area buffer h =
     let p = wrote slots area buffer h in
     let es : List Entry = entriesOf area (slotsOf slots) in
-    let sheet : sheetOf (writeSheet slots area buffer) ≡ tableSheet slots area = ap sheetOf (sym (write-done slots area buffer (p .sizes) (p .fits) (p .room))) ∙ take-append-seam (tableSheet slots area) (drop (length (tableSheet slots area)) buffer) in
+    let sheet : sheetOf (writeSheet slots area buffer) ≡ tableSheet slots area = ap sheetOf
+    (sym (write-done slots area buffer (p .sizes) (p .fits) (p .room))) ∙ take-append-seam (tableSheet slots area)
+    (drop (length (tableSheet slots area)) buffer) in
     ap versionOf sheet ∙ sheet-version (versionOfTable slots area) (widthOf (versionOfTable slots area)) es ∙ ap (λ (b : Bool). if b then version1 else version2) (fitting-rule es)

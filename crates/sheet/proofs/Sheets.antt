@@ -34,7 +34,9 @@ module _ (v w : ℕ) (es : List Entry) where
   pub length-sheet : length (sheetBytes v w es) ≡ entriesEnd w es
   unfolding sheetBytes entriesEnd
   length-sheet =
-      let sum : length (numberBytes w (length (bodyBytes w es)) ++ bodyBytes w es) ≡ w + length (bodyBytes w es) = length-append (numberBytes w (length (bodyBytes w es))) (bodyBytes w es) ∙ rw length-numberBytes in
+      let sum : length (numberBytes w (length (bodyBytes w es)) ++ bodyBytes w es) ≡ w + length
+      (bodyBytes w es) = length-append (numberBytes w (length (bodyBytes w es))) (bodyBytes w es)
+      ∙ rw length-numberBytes in
       omega arith
 
   -- what follows the header
@@ -68,6 +70,8 @@ sheet-back v w bs all head whole =
     let end : suc w + length body ≡ suc (length bs) = whole in
     let same : length body ≡ numberAt w bs 0 = omega arith in
     let all-there : length body ≡ length (drop w bs) = rw length-drop (omega arith) in
-    let back : body ≡ drop w bs = sym (append-nil body) ∙ ap (λ (r : List ℕ). body ++ r) (sym (ap (λ (n : ℕ). drop n (drop w bs)) all-there ∙ drop-length (drop w bs))) ∙ body-back w (drop w bs) (all-drop (λ d. d < 256) w bs all) in
+    let back : body ≡ drop w bs = sym (append-nil body) ∙ ap (λ (r : List ℕ). body ++ r)
+    (sym (ap (λ (n : ℕ). drop n (drop w bs)) all-there ∙ drop-length (drop w bs))) ∙ body-back w (drop w bs)
+    (all-drop (λ d. d < 256) w bs all) in
     ap (λ (r : List ℕ). v ∷ r)
     (ap₂ (λ (a : List ℕ) (b : List ℕ). a ++ b) (ap (numberBytes w) same ∙ bytes-in w bs (omega arith) all) back ∙ take-append-drop w bs)

@@ -103,7 +103,10 @@ seen-entry area s fits = go (eqb (s .kind) 0) (eqb (s .kind) 1) refl refl (slot-
         → _≡_ {A = Value} (if z then record { kind = 0; items = [] } else record { kind = s .kind; items = if o then take (s .len) bs else integersIn (s .len) bs })
         (record {
           kind = s .kind;
-          items = if o then take (if z then 0 else s .len * (if o then 1 else 8)) bs else integersIn (length (take (if z then 0 else s .len * (if o then 1 else 8)) bs) / 8) (take (if z then 0 else s .len * (if o then 1 else 8)) bs);
+          items =
+              if o then take (if z then 0 else s .len * (if o then 1 else 8)) bs else integersIn
+              (length (take (if z then 0 else s .len * (if o then 1 else 8)) bs) / 8)
+              (take (if z then 0 else s .len * (if o then 1 else 8)) bs);
         })
     go true true e f h = let a : s .kind ≡ 0 = eqb-true (s .kind) 0 e in let b : s .kind ≡ 1 = eqb-true (s .kind) 1 f in absurd (omega arith)
     go true false e f h = let a : s .kind ≡ 0 = eqb-true (s .kind) 0 e in rw a

@@ -41,11 +41,13 @@ module _ (sheet area : List ℕ) (mark : ℕ) (xs : List ℕ) where
       rw as-many (effect-over xs ys area mark (readsSheet sheet xs area mark))
 
   -- what a call left has room for the slots that it set
-  pub set-few : {a : Answer} {xs′ area′ : List ℕ} → record { answer = a; slots = xs′; area = area′ } ≡ readSheet sheet xs area mark → a .number ≡ 0 → length xs′ ≡ length xs → a .first * slotWidth ≤ length xs′
+  pub set-few : {a : Answer} {xs′ area′ : List ℕ} → record { answer = a; slots = xs′; area = area′ } ≡ readSheet sheet
+      xs area mark → a .number ≡ 0 → length xs′ ≡ length xs → a .first * slotWidth ≤ length xs′
   unfolding putEntries
   set-few {a} p z e =
       let same : readSheet sheet xs area mark .answer ≡ a = ap (λ (r : Read). r .answer) (sym p) in
       let got : ReadIt sheet xs area mark = read-it sheet xs area mark (rw same z) in
-      let is : readSheet sheet xs area mark ≡ putEntries xs area mark (entriesAt (widthIn sheet) sheet) = sym (read-put sheet xs area mark (got .opened) (got .whole) (got .needed) (got .rows) (got .room)) in
+      let is : readSheet sheet xs area mark ≡ putEntries xs area mark (entriesAt (widthIn sheet) sheet) = sym
+      (read-put sheet xs area mark (got .opened) (got .whole) (got .needed) (got .rows) (got .room)) in
       let first : a .first ≡ length (entriesAt (widthIn sheet) sheet) = ap (λ (r : Read). r .answer .first) (p ∙ is) in
       omega (arith, got .rows, length-slots xs)

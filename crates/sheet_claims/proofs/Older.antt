@@ -64,7 +64,12 @@ wider slots area sheet mark h =
     let (runs, start) = and-true (leb slots (slotWidth * maxSlots) && eqb (slots % slotWidth) 0 && leb area olderArea) (leb mark area) table in
     let (whole, limit) = and-true (leb slots (slotWidth * maxSlots) && eqb (slots % slotWidth) 0) (leb area olderArea) runs in
     let (few, rows) = and-true (leb slots (slotWidth * maxSlots)) (eqb (slots % slotWidth) 0) whole in
-    let fits = lengths-fit slots area sheet (record { table = leb-true _ _ few; rows = eqb-true _ _ rows; limit = omega (arith, leb-true area olderArea limit); size = omega (arith, leb-true sheet olderSheet size) }) in
+    let fits = lengths-fit slots area sheet (record {
+      table = leb-true _ _ few;
+      rows = eqb-true _ _ rows;
+      limit = omega (arith, leb-true area olderArea limit);
+      size = omega (arith, leb-true sheet olderSheet size);
+    }) in
     rw (fits, start)
 
 or-false : (x : Bool) → (x || false) ≡ x
@@ -146,7 +151,9 @@ pub written-newer : WrittenNewer
 written-newer slots area buffer h two =
     let p = wrote slots area buffer h in
     let es : List Entry = entriesOf area (slotsOf slots) in
-    let sheet : sheetOf (writeSheet slots area buffer) ≡ tableSheet slots area = ap sheetOf (sym (write-done slots area buffer (p .sizes) (p .fits) (p .room))) ∙ take-append-seam (tableSheet slots area) (drop (length (tableSheet slots area)) buffer) in
+    let sheet : sheetOf (writeSheet slots area buffer) ≡ tableSheet slots area = ap sheetOf
+    (sym (write-done slots area buffer (p .sizes) (p .fits) (p .room))) ∙ take-append-seam (tableSheet slots area)
+    (drop (length (tableSheet slots area)) buffer) in
     let version : versionFor es ≡ version2 = sym (sheet-version (versionFor es) (widthOf (versionFor es)) es) ∙ ap versionOf (sym sheet) ∙ two in
     let short : length (bodyBytes (widthOf version2) es) < 256 ^ widthOf version2 = subst (λ (v : ℕ). length (bodyBytes (widthOf v) es) < 256 ^ widthOf v) version (wrote-short p es refl) in
     let second : sheetOf (writeSheet slots area buffer) ≡ sheetBytes version2 (widthOf version2) es = sheet ∙ ap (λ (v : ℕ). sheetBytes v (widthOf v) es) version in

@@ -45,7 +45,9 @@ module _ (R : RattleType) (n : ℕ) where
     part-cells b zs =
         qed W (‵ (arr-parts (shares R) n .part fullShare zs b 0) ∷ []) ∵ fsplit ! $ drop ! $ by ! (whole-in 𝓤 H A W R zs b 0)
 
-    pub made-whole : (b : ℕ) (zs : List (R .Denot)) → length zs ≡ n → ent 𝓤 (sem 𝓤 H A (cells (mem R) zs b 0)) (ex 𝓤 (λ (v : Val). sep 𝓤 (H .at fullShare arr b 0 v) (sem 𝓤 H A (Array R n .own zs (v ∷ [])))))
+    pub made-whole : (b : ℕ) (zs : List (R .Denot)) → length zs ≡ n
+        → ent 𝓤 (sem 𝓤 H A (cells (mem R) zs b 0)) (ex 𝓤 (λ (v : Val). sep 𝓤 (H .at fullShare arr b 0 v)
+        (sem 𝓤 H A (Array R n .own zs (v ∷ [])))))
     unfolding partOf
     made-whole b zs long =
         qed W (‵ (cells (mem R) zs b 0) ∷ []) ∵ use1 W (‵ (arr-parts (shares R) n .part fullShare zs b 0)) (cells-part b zs long) $

@@ -58,7 +58,9 @@ abbrev pub scratch : List SlotRecord → List ℕ
 scratch ss = filled (taken (length ss)) ss (zeros maxNumbers)
 
 pub scratch-long : (ss : List SlotRecord) → length (scratch ss) ≡ maxNumbers
-scratch-long ss = length-filled ss (zeros maxNumbers) c (taken-within (length ss) .0) (subst (λ (k : ℕ). c * slotWidth ≤ k) (sym zeros-long) (numbers-fit c maxNumbers (taken-within (length ss) .1) (lit≤ tt))) ∙ zeros-long
+scratch-long ss =
+    length-filled ss (zeros maxNumbers) c (taken-within (length ss) .0) (subst (λ (k : ℕ). c * slotWidth ≤ k)
+    (sym zeros-long) (numbers-fit c maxNumbers (taken-within (length ss) .1) (lit≤ tt))) ∙ zeros-long
   where
     c : ℕ
     c = taken (length ss)

@@ -88,7 +88,10 @@ loaded-is ss ns (suc i) l g =
     slot-on = omega arith
 
     rest : drop (i * slotWidth + slotWidth) (front ++ drop (i * slotWidth) ns) ≡ drop (suc i * slotWidth) ns
-    rest = ap (λ (k : ℕ). drop (k + slotWidth) (front ++ drop (i * slotWidth) ns)) (sym front-long) ∙ drop-append-add front (drop (i * slotWidth) ns) slotWidth ∙ drop-drop slotWidth (i * slotWidth) ns ∙ ap (λ (k : ℕ). drop k ns) slot-on
+    rest =
+        ap (λ (k : ℕ). drop (k + slotWidth) (front ++ drop (i * slotWidth) ns)) (sym front-long)
+        ∙ drop-append-add front (drop (i * slotWidth) ns) slotWidth ∙ drop-drop slotWidth (i * slotWidth) ns
+        ∙ ap (λ (k : ℕ). drop k ns) slot-on
 
 -- the scratch after k slots are taken apart
 abbrev pub filled : ℕ → List SlotRecord → List ℕ → List ℕ
@@ -175,7 +178,9 @@ pub saved-is : (ss : List SlotRecord) (ns : List ℕ) (i : ℕ) → i ≤ length
 unfolding slotsFrom
 saved-is ss ns zero l g = refl
 saved-is ss ns (suc i) l g =
-    ap (λ (z : List SlotRecord). set z i (slotFrom ns (i * slotWidth))) (saved-is ss ns i (omega arith) (omega arith) ∙ ap (λ (z : List SlotRecord). slotsFrom (take (i * slotWidth) ns) ++ z) (drop-cons ss i noSlot l))
-    ∙ set-at (slotsFrom (take (i * slotWidth) ns)) (slotOf ss i) (drop (suc i) ss) (slotFrom ns (i * slotWidth)) i (length-slots (take (i * slotWidth) ns) i (length-take-le (i * slotWidth) ns (omega arith)))
+    ap (λ (z : List SlotRecord). set z i (slotFrom ns (i * slotWidth))) (saved-is ss ns i (omega arith) (omega arith)
+    ∙ ap (λ (z : List SlotRecord). slotsFrom (take (i * slotWidth) ns) ++ z) (drop-cons ss i noSlot l))
+    ∙ set-at (slotsFrom (take (i * slotWidth) ns)) (slotOf ss i) (drop (suc i) ss) (slotFrom ns (i * slotWidth)) i
+    (length-slots (take (i * slotWidth) ns) i (length-take-le (i * slotWidth) ns (omega arith)))
     ∙ sym (append-snoc (slotsFrom (take (i * slotWidth) ns)) (slotFrom ns (i * slotWidth)) (drop (suc i) ss))
     ∙ ap (λ (z : List SlotRecord). z ++ drop (suc i) ss) (sym (slots-more ns i g))

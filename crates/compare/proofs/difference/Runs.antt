@@ -64,7 +64,9 @@ module _ {f : List ℕ} {at : ℕ} {s : List ℕ} {to n i : ℕ} (a : Alike f at
   alike-done h = let z : n - i ≡ 0 = omega arith in sym (a .same ∙ rw z (omega arith))
 
   module _ (h : i < n) (k : at + i < length f) (l : to + i < length s) where
-    step : firstDifference (part f (at + i) (n - i)) (part s (to + i) (n - i)) ≡ (if eqb (getD f (at + i) 0) (getD s (to + i) 0) then suc (firstDifference (part f (suc (at + i)) (n - (i + 1))) (part s (suc (to + i)) (n - (i + 1)))) else 0)
+    step : firstDifference (part f (at + i) (n - i)) (part s (to + i) (n - i)) ≡ (if eqb (getD f (at + i) 0)
+        (getD s (to + i) 0) then suc (firstDifference (part f (suc (at + i)) (n - (i + 1))) (part s (suc (to + i))
+        (n - (i + 1)))) else 0)
     unfolding firstDifference
     step =
         let m : n - i ≡ suc (n - (i + 1)) = omega arith in
@@ -74,7 +76,9 @@ module _ {f : List ℕ} {at : ℕ} {s : List ℕ} {to n i : ℕ} (a : Alike f at
     alike-more e =
         let p : at + (i + 1) ≡ suc (at + i) = omega arith in
         let q : to + (i + 1) ≡ suc (to + i) = omega arith in
-        let t : firstDifference (part f (at + i) (n - i)) (part s (to + i) (n - i)) ≡ suc (firstDifference (part f (suc (at + i)) (n - (i + 1))) (part s (suc (to + i)) (n - (i + 1)))) = step ∙ rw (eq-eqb _ _ e) in
+        let t : firstDifference (part f (at + i) (n - i)) (part s (to + i) (n - i)) ≡ suc
+        (firstDifference (part f (suc (at + i)) (n - (i + 1))) (part s (suc (to + i)) (n - (i + 1)))) = step
+        ∙ rw (eq-eqb _ _ e) in
         record { within = omega arith; same = rw (p, q) (omega (arith, a .same, t)) }
 
     pub alike-parts : (getD f (at + i) 0 ≡ getD s (to + i) 0 → ⊥) → i ≡ firstDifference (part f at n) (part s to n)
@@ -150,7 +154,9 @@ alike-from f at s to n i w h k e =
     let sum : n ≡ i + (n - i) = omega arith in
     let p : part f at n ≡ part f at i ++ part f (at + i) (n - i) = ap (part f at) sum ∙ part-add f at i (n - i) in
     let q : part s to n ≡ part s to i ++ part s (to + i) (n - i) = ap (part s to) sum ∙ part-add s to i (n - i) in
-    let d : firstDifference (part f at i ++ part f (at + i) (n - i)) (part s to i ++ part s (to + i) (n - i)) ≡ length (part f at i) + firstDifference (part f (at + i) (n - i)) (part s (to + i) (n - i)) = difference-past (part f at i) (part s to i) (part f (at + i) (n - i)) (part s (to + i) (n - i)) e in
+    let d : firstDifference (part f at i ++ part f (at + i) (n - i)) (part s to i ++ part s (to + i) (n - i)) ≡ length
+    (part f at i) + firstDifference (part f (at + i) (n - i)) (part s (to + i) (n - i)) = difference-past
+    (part f at i) (part s to i) (part f (at + i) (n - i)) (part s (to + i) (n - i)) e in
     record { within = w; same = ap₂ firstDifference p q ∙ d ∙ ap (λ (m : ℕ). m + firstDifference (part f (at + i) (n - i)) (part s (to + i) (n - i))) (length-part i at f (omega arith)) }
 
 -- runs of different lengths are not the same

@@ -37,7 +37,8 @@ unfolding findings runs
 findings-runs zero xs ys = refl
 findings-runs (suc n) xs ys =
     let next : (i : ℕ) → findingAt xs ys (suc i) ≡ findingAt (drop 1 xs) (drop 1 ys) i = λ i. let e : 1 + i ≡ suc i = omega arith in rw (drop-drop i 1 xs, drop-drop i 1 ys, e) in
-    runs-first n (findingAt xs ys) ∙ ap (λ (l : List ℕ). findingOf xs ys ++ l) (runs-as n (λ i. findingAt xs ys (suc i)) (findingAt (drop 1 xs) (drop 1 ys)) next ∙ findings-runs n (drop 1 xs) (drop 1 ys))
+    runs-first n (findingAt xs ys) ∙ ap (λ (l : List ℕ). findingOf xs ys ++ l) (runs-as n (λ i. findingAt xs ys (suc i))
+    (findingAt (drop 1 xs) (drop 1 ys)) next ∙ findings-runs n (drop 1 xs) (drop 1 ys))
 
 length-both : (xs ys : List ℕ) → length (bothFinding xs ys) ≡ reportWidth
 unfolding bothFinding
@@ -75,7 +76,9 @@ finding-more {d} xs ys {i} r w h e q =
 
 -- ---- what the first n slots show from slot i on
 
-from-here : (area : List ℕ) (ts : List Slot) (n i : ℕ) → i < n → i < length ts → drop i (map (bytesShown area) (take n ts)) ≡ bytesShown area (nextSlot (drop i ts)) ∷ drop (suc i) (map (bytesShown area) (take n ts))
+from-here : (area : List ℕ) (ts : List Slot) (n i : ℕ) → i < n → i < length ts
+    → drop i (map (bytesShown area) (take n ts)) ≡ bytesShown area (nextSlot (drop i ts)) ∷ drop (suc i)
+    (map (bytesShown area) (take n ts))
 from-here area [] n i h k = absurd (not-suc-le-zero k)
 from-here area (t ∷ ts) zero i h k = absurd (not-suc-le-zero h)
 from-here area (t ∷ ts) (suc n) zero h k = refl

@@ -20,15 +20,20 @@ returns c = rw (c .refused .ensures) (too-long _ (c .before .if1 .taken))
 fits : (c : tie.Else1) → length (c .before .before .args .layout .now) ≤ maxLayout
 fits c = omega arith
 
-bad : (c : tie.After-known-told) → fieldsOf true (c .before .before .before .before .before .before .before .before .args .layout .now) ≡ refused (c .before .p .given .0 .0) (c .before .p .given .0 .1 .0)
+bad : (c : tie.After-known-told)
+    → let start = c .before .before .before .before .before .before .before .before in
+    fieldsOf true (start .args .layout .now) ≡ refused (c .before .p .given .0 .0) (c .before .p .given .0 .1 .0)
 bad c = parsed-refused _ _ _ _ _ (c .before .before .before .before .parse .ensures) (c .before .p .given .1)
 
-learnt : (c : tie.After-known-told2) → Learnt (fieldsOf true (c .before .before .before .before .before .before .before .before .args .layout .now)) (c .before .p2 .given .0 .0) (c .before .p2 .given .0 .1 .0) (c .before .before .before .before .parse .last .1 .1 .0)
+learnt : (c : tie.After-known-told2)
+    → let start = c .before .before .before .before .before .before .before .before in
+    Learnt (fieldsOf true (start .args .layout .now)) (c .before .p2 .given .0 .0) (c .before .p2 .given .0 .1 .0) (c .before .before .before .before .parse .last .1 .1 .0)
 learnt c = parsed-fields _ _ _ _ _ (c .before .before .before .before .parse .ensures) (c .before .p2 .given .1)
 
 cast-refused : tie.Need-cast-refused
 cast-refused c =
-    omega (arith, fits (c .before .before .before .before .before .before), refused-inside true (c .before .before .before .before .before .before .before .before .args .layout .now) _ _ (bad c))
+    let earlier = c .before .before .before .before .before .before in
+    omega (arith, fits earlier, refused-inside true (earlier .before .before .args .layout .now) _ _ (bad c))
 
 least-length-requires : tie.Need-least-length-requires
 least-length-requires c κs =
@@ -55,8 +60,9 @@ returns-3 : tie.Need-returns-3
 returns-3 c =
     let m = c .before in
     let k = m .before .before in
+    let earlier = k .before .before .before .before .before .before in
     let l = learnt k in
-    rw (c .accepted .ensures) (told _ (fits (k .before .before .before .before .before .before)) _ (l .fields) _ _ (l .taken) (m .least-length .ensures))
+    rw (c .accepted .ensures) (told _ (fits earlier) _ (l .fields) _ _ (l .taken) (m .least-length .ensures))
 
 pub describe-spec : {M : Type 1} → statement M
 describe-spec =

@@ -21,7 +21,14 @@ store-requires : tie.Need-store-requires
 store-requires c κs =
     let a = c .before in
     let start = a .before .before .before .before in
-    omega (arith, c .bytes-for .ensures, a .amount .ensures, amount-small (start .args .n) 0 (start .pre .1), bytes-small (a .before .before .role .given .0 .0) (a .amount .result) (fit (a .before)), start .pre .2)
+    omega (
+      arith,
+      c .bytes-for .ensures,
+      a .amount .ensures,
+      amount-small (start .args .n) 0 (start .pre .1),
+      bytes-small (a .before .before .role .given .0 .0) (a .amount .result) (fit (a .before)),
+      start .pre .2,
+    )
 
 returns : tie.Need-returns
 returns c =

@@ -36,8 +36,10 @@ module _ (P : ℕ → ℕ → ℕ → ℕ → Type 0) where
       → (a b c d : ℕ) → a < 2 → b < 2 → c < 2 → d < 2 → P a b c d
   four-bits p₀ p₁ p₂ p₃ p₄ p₅ p₆ p₇ p₈ p₉ pₐ p₁₁ p₁₂ p₁₃ p₁₄ p₁₅ a b c d ha hb hc hd =
       bit (λ a. P a b c d) a ha
-      (bit (λ b. P 0 b c d) b hb (bit (λ c. P 0 0 c d) c hc (bit (λ d. P 0 0 0 d) d hd p₀ p₁) (bit (λ d. P 0 0 1 d) d hd p₂ p₃)) (bit (λ c. P 0 1 c d) c hc (bit (λ d. P 0 1 0 d) d hd p₄ p₅) (bit (λ d. P 0 1 1 d) d hd p₆ p₇)))
-      (bit (λ b. P 1 b c d) b hb (bit (λ c. P 1 0 c d) c hc (bit (λ d. P 1 0 0 d) d hd p₈ p₉) (bit (λ d. P 1 0 1 d) d hd pₐ p₁₁)) (bit (λ c. P 1 1 c d) c hc (bit (λ d. P 1 1 0 d) d hd p₁₂ p₁₃) (bit (λ d. P 1 1 1 d) d hd p₁₄ p₁₅)))
+      (bit (λ b. P 0 b c d) b hb (bit (λ c. P 0 0 c d) c hc (bit (λ d. P 0 0 0 d) d hd p₀ p₁) (bit (λ d. P 0 0 1 d) d hd
+      p₂ p₃)) (bit (λ c. P 0 1 c d) c hc (bit (λ d. P 0 1 0 d) d hd p₄ p₅) (bit (λ d. P 0 1 1 d) d hd p₆ p₇)))
+      (bit (λ b. P 1 b c d) b hb (bit (λ c. P 1 0 c d) c hc (bit (λ d. P 1 0 0 d) d hd p₈ p₉) (bit (λ d. P 1 0 1 d) d hd
+      pₐ p₁₁)) (bit (λ c. P 1 1 c d) c hc (bit (λ d. P 1 1 0 d) d hd p₁₂ p₁₃) (bit (λ d. P 1 1 1 d) d hd p₁₄ p₁₅)))
 
 -- the factor that moves four digits to their places, for either order
 abbrev pub mover : Bool → ℕ
@@ -104,6 +106,8 @@ module _ (area : List ℕ) (at : ℕ) (fits : at + 8 ≤ length area) where
   unfolding byteOf
   eight-low {a} {b} ea eb = rw (eight-values, number-low first second first-long second-long, ea, eb)
 
-  pub eight-high : {a b : ℕ} → a ≡ number 2 (reverse (map digitValue (part area at 4))) → b ≡ number 2 (reverse (map digitValue (part area (at + 4) 4))) → a * 16 + b ≡ byteOf false true (valuesAt area at 8)
+  pub eight-high : {a b : ℕ} → a ≡ number 2 (reverse (map digitValue (part area at 4)))
+      → b ≡ number 2 (reverse (map digitValue (part area (at + 4) 4)))
+      → a * 16 + b ≡ byteOf false true (valuesAt area at 8)
   unfolding byteOf
   eight-high {a} {b} ea eb = rw (eight-values, number-high first second first-long second-long, ea, eb)

@@ -75,7 +75,8 @@ pub length-first : (hex high : Bool) (b count : ℕ) → count ≤ perByte hex �
 length-first hex high b count h = length-take-le count (charsOf hex high b) (omega (arith, length-chars hex high b))
 
 -- the character of a digit that was found at its place
-pub char-found : (hex high : Bool) (b j p q x d v : ℕ) → j < perByte hex → p ≡ perByte hex → q ≡ placeOf high p j → x ≡ b → d ≡ getD (digits (base hex) (perByte hex) x) q 0 → v ≡ digitChar d → v ≡ getD (charsOf hex high b) j 0
+pub char-found : (hex high : Bool) (b j p q x d v : ℕ) → j < perByte hex → p ≡ perByte hex → q ≡ placeOf high p j
+    → x ≡ b → d ≡ getD (digits (base hex) (perByte hex) x) q 0 → v ≡ digitChar d → v ≡ getD (charsOf hex high b) j 0
 unfolding charsOf
 char-found hex high b j p q x d v h ep eq ex ed ev =
     let ds : List ℕ = digits (base hex) (perByte hex) b in

@@ -59,7 +59,8 @@ shown-part hex high n bs k count h l m =
     rw (chars-join hex high bs) (part-take n (k * perByte hex) count (join (map (charsOf hex high) bs)) m ∙ join-part (charsOf hex high) (perByte hex) (length-chars hex high) bs k count h l)
 
 -- the turn of the loop that reads the byte number k
-pub chars-turn : (hex high : Bool) (n : ℕ) (bytes : List ℕ) (at k : ℕ) {d₀ d d′ : List ℕ} {to i count : ℕ} → at + ceilDiv n (perByte hex) ≤ length bytes → k < ceilDiv n (perByte hex) → i ≡ k * perByte hex → i < n
+pub chars-turn : (hex high : Bool) (n : ℕ) (bytes : List ℕ) (at k : ℕ) {d₀ d d′ : List ℕ} {to i count : ℕ}
+    → at + ceilDiv n (perByte hex) ≤ length bytes → k < ceilDiv n (perByte hex) → i ≡ k * perByte hex → i < n
     → to + n ≤ length d₀ → count ≡ min (perByte hex) (n - i) → Grown d₀ to (shownChars hex high n (part bytes at (ceilDiv n (perByte hex)))) d i
     → d′ ≡ storeAt d (to + i) (take count (charsOf hex high (getD bytes (at + k) 0))) → Grown d₀ to (shownChars hex high n (part bytes at (ceilDiv n (perByte hex)))) d′ (i + count)
 chars-turn hex high n bytes at k {d₀} {d} {d′} {to} {i} {count} fits h ei l room ec g q =

@@ -24,7 +24,8 @@ shown-piece high n bs k j count h l m =
     let s : List ℕ = shownChars false high n bs in
     let chars : List ℕ = charsOf false high (getD bs k 0) in
     let rest : j + count - j ≡ count = omega arith in
-    let cut : part s (k * 8 + j) (j + count - j) ≡ part chars j (j + count - j) = sym (part-rest s (k * 8) (j + count) j) ∙ ap (drop j) (shown-part false high n bs k (j + count) h l m) ∙ drop-take j (j + count) chars in
+    let cut : part s (k * 8 + j) (j + count - j) ≡ part chars j (j + count - j) = sym (part-rest s (k * 8) (j + count)
+    j) ∙ ap (drop j) (shown-part false high n bs k (j + count) h l m) ∙ drop-take j (j + count) chars in
     rw rest at cut
 
 module _ (high : Bool) (bytes : List ℕ) (at to n : ℕ) (area : List ℕ) (fits : at + ceilDiv n 8 ≤ length bytes) (room : to + n ≤ length area) where

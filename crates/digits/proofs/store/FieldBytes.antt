@@ -50,7 +50,8 @@ pub length-stored : (hex high : Bool) (n : ℕ) (cs : List ℕ) → length (stor
 unfolding stored digitBytes
 length-stored hex high n cs = simp (length-map, length-pieces)
 
-pub stored-at : (hex high : Bool) (n : ℕ) (cs : List ℕ) (k : ℕ) → k < ceilDiv n (perByte hex) → getD (stored (Digits hex high) n cs) k 0 ≡ byteOf hex high (drop (k * perByte hex) (map digitValue (take n cs)))
+pub stored-at : (hex high : Bool) (n : ℕ) (cs : List ℕ) (k : ℕ) → k < ceilDiv n (perByte hex)
+    → getD (stored (Digits hex high) n cs) k 0 ≡ byteOf hex high (drop (k * perByte hex) (map digitValue (take n cs)))
 unfolding stored digitBytes byteOf digitValue
 stored-at hex high n cs k h =
     let per : ℕ = perByte hex in

@@ -51,7 +51,8 @@ module _ (high : Bool) (cs : List ℕ) where
       let lf : length front ≡ k = front-long high cs d k (omega arith) in
       let lb : length (behind k d) ≡ ceilDiv (d - 8 * k) 8 = length-stored false high (d - 8 * k) (drop (8 * k) cs) in
       let next : (t : List ℕ) → at + k + length t ≤ length bytes → storeAt (storeAt bytes at front) (at + k) t ≡ storeAt bytes at (front ++ t) = λ t i. store-both bytes at k front t lf i refl refl in
-      let now : storeAt bytes at (field d) ≡ storeAt (storeAt bytes at front) (at + k) (behind k d) = ap (storeAt bytes at) (sym (stored-cut high cs d k (omega arith))) ∙ sym (next (behind k d) (omega arith)) in
+      let now : storeAt bytes at (field d) ≡ storeAt (storeAt bytes at front) (at + k) (behind k d) = ap (storeAt bytes
+      at) (sym (stored-cut high cs d k (omega arith))) ∙ sym (next (behind k d) (omega arith)) in
       let then : storeAt bytes at (field e) ≡ storeAt (storeAt bytes at front) (at + k) (byte ∷ []) =
       ap (storeAt bytes at) (sym (stored-cut high cs e k (omega arith)) ∙ ap (λ (b : List ℕ). front ++ b) (one-byte k e (omega arith) l)) ∙ sym (next (byte ∷ []) (omega arith)) in
       let over : set (storeAt (storeAt bytes at front) (at + k) (behind k d)) (at + k) byte ≡ storeAt (storeAt bytes at front) (at + k) (byte ∷ []) =
@@ -96,13 +97,20 @@ module _ (high : Bool) (area : List ℕ) (start have at n : ℕ) where
   writing = storing high (part area start have) at
 
   -- over a whole byte
-  pub whole-stored : (k : ℕ) {out out′ : List ℕ} {b : ℕ} → k < n / 8 → b ≡ byteOf false high (drop (8 * k) (valuesAt area start have)) → out′ ≡ set out (at + k) b → Advanced writing n k (k + 1) out out′
+  pub whole-stored : (k : ℕ) {out out′ : List ℕ} {b : ℕ} → k < n / 8
+      → b ≡ byteOf false high (drop (8 * k) (valuesAt area start have)) → out′ ≡ set out (at + k) b
+      → Advanced writing n k (k + 1) out out′
   unfolding byteOf
   whole-stored k {out} {b = b} h eb e bytes same =
       let cs : List ℕ = part area start have in
       let byte : 8 * k / 8 ≡ k = omega arith in
       let count : 8 * k + 8 - 8 * k ≡ 8 = omega arith in
-      let eight : byteOf false high (map digitValue (part cs (8 * k) 8)) ≡ b = rw (map-take digitValue 8 (drop (8 * k) cs), map-drop digitValue (8 * k) cs) (byte-eight high (drop (8 * k) (map digitValue cs)) ∙ sym eb) in
+      let eight : byteOf false high (map digitValue (part cs (8 * k) 8)) ≡ b = rw (
+        map-take digitValue 8
+            (drop (8 * k) cs),
+        map-drop digitValue (8 * k) cs,
+      ) (byte-eight high (drop (8 * k) (map digitValue cs))
+      ∙ sym eb) in
       let here : writing out (8 * k) (8 * k + 8) ≡ set out (at + k) b = rw (byte, count) (ap (set out (at + k)) eight) in
       e ∙ sym (whole-step writing n k bytes h ∙ ap (λ (r : List ℕ). writing r (8 * k) (8 * k + 8)) (sym same) ∙ here)
 
@@ -119,7 +127,8 @@ module _ (high : Bool) (area : List ℕ) (start have at n : ℕ) where
       rw (byte, count, map-take digitValue (j + 1) (drop (8 * (n / 8)) cs), map-drop digitValue (8 * (n / 8)) cs)
 
   -- where j of them are stored, the byte is what they make
-  so-far : (k : ℕ) (out bytes : List ℕ) (j : ℕ) → k ≡ n / 8 + j → j < n % 8 → at + n / 8 < length out → out ≡ steps writing n bytes k .bytes → soFar j out (at + n / 8) ≡ byteOf false high (take j last)
+  so-far : (k : ℕ) (out bytes : List ℕ) (j : ℕ) → k ≡ n / 8 + j → j < n % 8 → at + n / 8 < length out
+      → out ≡ steps writing n bytes k .bytes → soFar j out (at + n / 8) ≡ byteOf false high (take j last)
   so-far k out bytes zero ek h inside same = sym (zero-byte false high)
   so-far k out bytes (suc j) ek h inside same =
       let k₁ : ℕ = n / 8 + j in

@@ -86,7 +86,8 @@ module _ (c : LentToBoth) where
           readings = ap readPart left;
           shows =
               ap (λ (x : PackedAndRead). map (shown (x .values)) (take (length (due l layout (c .cut))) (slotsOf (x .table)))) left
-              ∙ ap (λ (r : Read). map (shown (r .area)) (take (length (due l layout (c .cut))) (slotsOf (r .slots)))) (sym (back .readings packed layout (c .cut) (c .table) (c .values) (c .mark) (h .reading)))
+              ∙ ap (λ (r : Read). map (shown (r .area)) (take (length (due l layout (c .cut))) (slotsOf (r .slots))))
+              (sym (back .readings packed layout (c .cut) (c .table) (c .values) (c .mark) (h .reading)))
               ∙ back .shows packed layout (c .cut) (c .table) (c .values) (c .mark) (h .reading);
           positions =
               λ i inside.

@@ -17,11 +17,14 @@ abbrev pub encodedAt : List ℕ → ℕ → List ℕ
 encodedAt xs i = numberBytes numberSize (getD xs i 0)
 
 -- one more of the n numbers from number `from` on
-pub encoded-more : {d₀ d d′ : List ℕ} (xs : List ℕ) (from n : ℕ) {j : ℕ} → Wrote d₀ (from * numberSize) (encodedAt (part xs from n)) d j → j < n → from + n ≤ length xs → length xs * numberSize ≤ length d₀
+pub encoded-more : {d₀ d d′ : List ℕ} (xs : List ℕ) (from n : ℕ) {j : ℕ}
+    → Wrote d₀ (from * numberSize) (encodedAt (part xs from n)) d j → j < n → from + n ≤ length xs
+    → length xs * numberSize ≤ length d₀
     → d′ ≡ storeAt d ((from + j) * numberSize) (encodedAt xs (from + j)) → Wrote d₀ (from * numberSize) (encodedAt (part xs from n)) d′ (j + 1)
 encoded-more {d} xs from n {j} w h k room e =
     let is : _≡_ {A = ℕ} (getD xs (from + j) 0) (getD (part xs from n) j 0) = sym (part-at xs from n j h) in
-    wrote-more {to = (from + j) * numberSize} numberSize (λ i. length-numberBytes numberSize _) w (omega arith) (omega arith) (e ∙ ap (λ (x : ℕ). storeAt d ((from + j) * numberSize) (numberBytes numberSize x)) is)
+    wrote-more {to = (from + j) * numberSize} numberSize (λ i. length-numberBytes numberSize _) w (omega arith)
+    (omega arith) (e ∙ ap (λ (x : ℕ). storeAt d ((from + j) * numberSize) (numberBytes numberSize x)) is)
 
 pub encoded : {d₀ d : List ℕ} {at : ℕ} (xs : List ℕ) {i : ℕ} → Wrote d₀ at (encodedAt xs) d i → i ≡ length xs → d ≡ storeAt d₀ at (numbersBytes xs)
 unfolding numbersBytes

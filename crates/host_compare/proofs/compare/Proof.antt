@@ -14,7 +14,9 @@ use Rattle.host_compare.proofs.compare.Tie as tie
 returns : tie.Need-returns
 returns c = unwritten _ _ _ _ _ _ _ _ _ (sym (c .before .reply-fits .ensures) ∙ not-true _ (c .if1 .taken))
 
-sized : (c : tie.Else1) → length (c .before .before .before .before .before .before .before .before .before .before .before .args .reply .now) ≡ replySize
+sized : (c : tie.Else1)
+    → let start = c .before .before .before .before .before .before .before .before .before .before .before in
+    length (start .args .reply .now) ≡ replySize
 sized c = eqb-true _ _ (sym (c .before .reply-fits .ensures) ∙ not-false _ (c .if1 .left))
 
 reply-with-requires : tie.Need-reply-with-requires
@@ -30,10 +32,15 @@ returns-2 c =
     let tested = refused .before .before in
     let replying = tested .before .before in
     let a = replying .before .before .before .before .before .before .before .before .before .before .before .args in
-    first-cut (a .layout .now) (a .first .now) (a .second .now) (a .first-slots .now) (a .first-area .now) (a .second-slots .now) (a .second-area .now) (a .report .now) (a .reply .now) (sized replying)
-    {r = replied .reply-with .result} {a = refused .refused .result} {reply′ = replied .reply-with .last .0} (sym (tested .before .slots-fit .ensures) ∙ not-true _ (tested .if2 .taken)) (refused .refused .ensures) (replied .reply-with .ensures)
+    first-cut (a .layout .now) (a .first .now) (a .second .now) (a .first-slots .now) (a .first-area .now)
+    (a .second-slots .now) (a .second-area .now) (a .report .now) (a .reply .now) (sized replying)
+    {r = replied .reply-with .result} {a = refused .refused .result} {reply′ = replied .reply-with .last .0}
+    (sym (tested .before .slots-fit .ensures) ∙ not-true _ (tested .if2 .taken)) (refused .refused .ensures)
+    (replied .reply-with .ensures)
 
-first-fits : (c : tie.Else2) → Fit (length (c .before .before .before .before .before .before .before .before .before .before .before .before .before .args .first-slots .now))
+first-fits : (c : tie.Else2)
+    → let start = c .before .before .before .before .before .before .before .before .before .before .before .before .before in
+    Fit (length (start .args .first-slots .now))
 first-fits c = fit _ (sym (c .before .slots-fit .ensures) ∙ not-false _ (c .if2 .left))
 
 array-share-prefix-first-room : tie.Need-array-share-prefix-first-room
@@ -55,21 +62,31 @@ returns-3 c =
     let served = tested .before .before in
     let replying = served .before .before in
     let a = replying .before .before .before .before .before .before .before .before .before .before .before .args in
-    second-cut (a .layout .now) (a .first .now) (a .second .now) (a .first-slots .now) (a .first-area .now) (a .second-slots .now) (a .second-area .now) (a .report .now) (a .reply .now) (sized replying) (first-fits served) _
-    {r = called .refuse-second .result} {reply′ = called .refuse-second .last .1 .1 .1 .1 .0} (length-take-le _ _ (array-share-prefix-first-room tested)) (sym (tested .before .slots-fit2 .ensures) ∙ not-true _ (tested .if3 .taken))
+    second-cut (a .layout .now) (a .first .now) (a .second .now) (a .first-slots .now) (a .first-area .now)
+    (a .second-slots .now) (a .second-area .now) (a .report .now) (a .reply .now) (sized replying)
+    (first-fits served) _
+    {r = called .refuse-second .result} {reply′ = called .refuse-second .last .1 .1 .1 .1 .0}
+    (length-take-le _ _ (array-share-prefix-first-room tested)) (sym (tested .before .slots-fit2 .ensures)
+    ∙ not-true _ (tested .if3 .taken))
     (called .refuse-second .ensures)
 
-second-fits : (c : tie.Else3) → Fit (length (c .before .before .before .before .before .before .before .before .before .before .before .before .before .before .before .args .second-slots .now))
+second-fits : (c : tie.Else3)
+    → let start = c .before .before .before .before .before .before .before .before .before .before .before .before .before .before .before in
+    Fit (length (start .args .second-slots .now))
 second-fits c = fit _ (sym (c .before .slots-fit2 .ensures) ∙ not-false _ (c .if3 .left))
 
 array-borrow-prefix-first-room : tie.Need-array-borrow-prefix-first-room
-array-borrow-prefix-first-room c = let f = first-fits (c .before .before .before .before .before .before .before .before .before) in omega (arith, f .few)
+array-borrow-prefix-first-room c =
+    let earlier = c .before .before .before .before .before .before .before .before .before in
+    let f = first-fits earlier in omega (arith, f .few)
 
 slice-aggregate-compare-by : tie.Need-slice-aggregate-compare-by
 slice-aggregate-compare-by c = sym (length-take-le _ _ (array-borrow-prefix-first-room (c .before)))
 
 array-borrow-prefix-second-room : tie.Need-array-borrow-prefix-second-room
-array-borrow-prefix-second-room c = let f = second-fits (c .before .before .before .before .before .before .before .before) in omega (arith, f .few)
+array-borrow-prefix-second-room c =
+    let earlier = c .before .before .before .before .before .before .before .before in
+    let f = second-fits earlier in omega (arith, f .few)
 
 slice-aggregate-compare-by-2 : tie.Need-slice-aggregate-compare-by-2
 slice-aggregate-compare-by-2 c = sym (length-take-le _ _ (array-borrow-prefix-second-room (c .before)))
@@ -95,10 +112,14 @@ compare-by-requires c κs =
     )
 
 same-length-4 : tie.Need-same-length-4
-same-length-4 c = c .before .before .before .before .before .before .before .before .before .before .before .before .before .before .first-slots .given
+same-length-4 c =
+    let at-first-slots = c .before .before .before .before .before .before .before .before .before .before .before .before .before .before in
+    at-first-slots .first-slots .given
 
 same-length-5 : tie.Need-same-length-5
-same-length-5 c = c .before .before .before .before .before .before .before .before .before .before .before .before .first-area .given
+same-length-5 c =
+    let at-first-area = c .before .before .before .before .before .before .before .before .before .before .before .before in
+    at-first-area .first-area .given
 
 same-length-6 : tie.Need-same-length-6
 same-length-6 c = c .before .before .before .before .before .before .before .before .before .before .second-slots .given
@@ -120,8 +141,11 @@ returns-4 c =
     let replying = first .before .before in
     let a = replying .before .before .before .before .before .before .before .before .before .before .before .args in
     let l = called .compare-by .last .1 .1 .1 in
-    served (a .layout .now) (a .first .now) (a .second .now) (a .first-slots .now) (a .first-area .now) (a .second-slots .now) (a .second-area .now) (a .report .now) (a .reply .now) (sized replying) (first-fits first) (second-fits left)
-    {r = called .compare-by .result} {fslots′ = l .0} {farea′ = l .1 .0} {sslots′ = l .1 .1 .0} {sarea′ = l .1 .1 .1 .0} {report′ = l .1 .1 .1 .1 .0} {reply′ = l .1 .1 .1 .1 .1 .0} (called .compare-by .ensures)
+    served (a .layout .now) (a .first .now) (a .second .now) (a .first-slots .now) (a .first-area .now)
+    (a .second-slots .now) (a .second-area .now) (a .report .now) (a .reply .now) (sized replying)
+    (first-fits first) (second-fits left)
+    {r = called .compare-by .result} {fslots′ = l .0} {farea′ = l .1 .0} {sslots′ = l .1 .1 .0} {sarea′ = l .1 .1 .1 .0}
+    {report′ = l .1 .1 .1 .1 .0} {reply′ = l .1 .1 .1 .1 .1 .0} (called .compare-by .ensures)
 
 pub compare-spec : {M : Type 1} → statement M
 compare-spec =

@@ -16,7 +16,8 @@ write-back-requires c κs =
     let a = start .args in
     let l = called .compare .last .1 .1 .1 in (
       start .pre .0 .0,
-      fits (a .layout .now) (a .first .now) (a .second .now) (a .first-slots .now) (a .first-area .now) (a .second-slots .now) (a .second-area .now) (a .report .now) (a .findings .now) (start .pre .0 .1)
+      fits (a .layout .now) (a .first .now) (a .second .now) (a .first-slots .now) (a .first-area .now)
+          (a .second-slots .now) (a .second-area .now) (a .report .now) (a .findings .now) (start .pre .0 .1)
           {ns = first .decode .last .1 .0} {ms = second .decode2 .last .1 .0} (first .decode .ensures) (second .decode2 .ensures)
           {ns′ = l .0} {farea′ = l .1 .0} {ms′ = l .1 .1 .0} {sarea′ = l .1 .1 .1 .0} {findings′ = l .1 .1 .1 .1 .0} {a = called .compare .result} (called .compare .ensures),
     )
@@ -25,13 +26,17 @@ same-length : tie.Need-same-length
 same-length c = c .before .before .before .before .before .before .before .first-slots .given
 
 same-length-2 : tie.Need-same-length-2
-same-length-2 c = c .before .before .before .before .before .before .before .before .before .before .before .before .before .before .before .before .before .before .before .before .before .before .before .first-area .given
+same-length-2 c =
+    let at-first-area = c .before .before .before .before .before .before .before .before .before .before .before .before .before .before .before .before .before .before .before .before .before .before .before in
+    at-first-area .first-area .given
 
 same-length-3 : tie.Need-same-length-3
 same-length-3 c = c .before .before .before .before .before .second-slots .given
 
 same-length-4 : tie.Need-same-length-4
-same-length-4 c = c .before .before .before .before .before .before .before .before .before .before .before .before .before .before .before .before .before .before .before .second-area .given
+same-length-4 c =
+    let at-second-area = c .before .before .before .before .before .before .before .before .before .before .before .before .before .before .before .before .before .before .before in
+    at-second-area .second-area .given
 
 same-length-5 : tie.Need-same-length-5
 same-length-5 c = c .before .before .before .report .given
@@ -40,13 +45,21 @@ same-length-6 : tie.Need-same-length-6
 same-length-6 c = c .before .reply .given
 
 same-length-7 : tie.Need-same-length-7
-same-length-7 c = c .before .before .before .before .before .before .before .before .before .before .before .before .before .before .before .before .before .before .before .before .before .before .before .before .before .first-room2 .given ∙ c .before .before .before .before .before .before .before .before .before .before .before .before .before .before .before .before .before .before .before .before .before .before .before .before .before .before .before .before .before .before .before .before .before .before .before .before .before .before .first-room .given
+same-length-7 c =
+    let at-first-room2 = c .before .before .before .before .before .before .before .before .before .before .before .before .before .before .before .before .before .before .before .before .before .before .before .before .before in
+    let at-first-room = at-first-room2 .before .before .before .before .before .before .before .before .before .before .before .before .before in
+    at-first-room2 .first-room2 .given ∙ at-first-room .first-room .given
 
 same-length-8 : tie.Need-same-length-8
-same-length-8 c = c .before .before .before .before .before .before .before .before .before .before .before .before .before .before .before .before .before .before .before .before .before .second-room2 .given ∙ c .before .before .before .before .before .before .before .before .before .before .before .before .before .before .before .before .before .before .before .before .before .before .before .before .before .before .before .before .before .before .before .before .before .second-room .given
+same-length-8 c =
+    let at-second-room2 = c .before .before .before .before .before .before .before .before .before .before .before .before .before .before .before .before .before .before .before .before .before in
+    let at-second-room = at-second-room2 .before .before .before .before .before .before .before .before .before .before .before .before in
+    at-second-room2 .second-room2 .given ∙ at-second-room .second-room .given
 
 same-length-9 : tie.Need-same-length-9
-same-length-9 c = c .before .before .before .before .before .before .before .before .before .before .before .before .before .before .before .before .before .findings .given
+same-length-9 c =
+    let at-findings = c .before .before .before .before .before .before .before .before .before .before .before .before .before .before .before .before .before in
+    at-findings .findings .given
 
 returns : tie.Need-returns
 returns c =

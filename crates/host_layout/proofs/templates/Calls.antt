@@ -17,7 +17,8 @@ module _ (template layout reply : List ℕ) where
   unfolding curlewFromPerl
   unwritten h = rw h
 
-  pub replied : {layout′ reply′ : List ℕ} {a : Answer} {r : ℕ} → eqb (length reply) replySize ≡ true → record { answer = a; layout = layout′ } ≡ fromPerl template layout → (r ≡ a .number) × (reply′ ≡ replyOf a)
+  pub replied : {layout′ reply′ : List ℕ} {a : Answer} {r : ℕ} → eqb (length reply) replySize ≡ true
+      → record { answer = a; layout = layout′ } ≡ fromPerl template layout → (r ≡ a .number) × (reply′ ≡ replyOf a)
       → record { returned = r; layout = layout′; reply = reply′ } ≡ curlewFromPerl template layout reply
   unfolding curlewFromPerl perlCall
   replied h p q = rw (h, ← p, q .0, q .1)

@@ -15,16 +15,24 @@ use borrow.Author.Needs.{needs}
 use Rattle.host_plans.proofs.pack.Statement.{statement}
 use Rattle.host_plans.proofs.pack.Tie as tie
 
-right : (c : tie.Else1) → eqb (length (c .before .before .before .before .before .before .before .args .reply .now)) replySize ≡ true
+right : (c : tie.Else1)
+    → let start = c .before .before .before .before .before .before .before in
+    eqb (length (start .args .reply .now)) replySize ≡ true
 right c = sym (c .before .reply-fits .ensures) ∙ not-false _ (c .if1 .left)
 
-served : (c : tie.Else2) → Fit (length (c .before .before .before .before .before .before .before .before .before .args .slots .now))
+served : (c : tie.Else2)
+    → let start = c .before .before .before .before .before .before .before .before .before in
+    Fit (length (start .args .slots .now))
 served c = fit _ (sym (c .before .slots-fit .ensures) ∙ not-false _ (c .if2 .left))
 
-fine : (c : tie.Else3) → lengthsFit (length (c .before .before .before .before .before .before .before .before .before .before .before .args .plan .now)) (length (c .before .before .before .before .before .before .before .before .before .before .before .args .slots .now) / numberSize) (length (c .before .before .before .before .before .before .before .before .before .before .before .args .out .now)) (length (c .before .before .before .before .before .before .before .before .before .before .before .args .area .now)) ≡ true
+fine : (c : tie.Else3)
+    → let start = c .before .before .before .before .before .before .before .before .before .before .before in
+    lengthsFit (length (start .args .plan .now)) (length (start .args .slots .now) / numberSize) (length (start .args .out .now)) (length (start .args .area .now)) ≡ true
 fine c = sym (c .before .lengths-fit .ensures) ∙ not-false _ (c .if3 .left)
 
-limits : (c : tie.Else3) → Sized (length (c .before .before .before .before .before .before .before .before .before .before .before .args .plan .now)) (length (c .before .before .before .before .before .before .before .before .before .before .before .args .slots .now) / numberSize) (length (c .before .before .before .before .before .before .before .before .before .before .before .args .out .now)) (length (c .before .before .before .before .before .before .before .before .before .before .before .args .area .now))
+limits : (c : tie.Else3)
+    → let start = c .before .before .before .before .before .before .before .before .before .before .before in
+    Sized (length (start .args .plan .now)) (length (start .args .slots .now) / numberSize) (length (start .args .out .now)) (length (start .args .area .now))
 limits c = sized (fine c)
 
 returns : tie.Need-returns
@@ -37,7 +45,8 @@ returns-2 : tie.Need-returns-2
 returns-2 c =
     let replied = c .before .before in
     let tested = replied .before .before .before in
-    pack-refused _ _ _ _ _ (right (tested .before .before)) (sym (tested .before .slots-fit .ensures) ∙ not-true _ (tested .if2 .taken)) (replied .before .refused .ensures) (replied .reply-with .ensures)
+    pack-refused _ _ _ _ _ (right (tested .before .before)) (sym (tested .before .slots-fit .ensures)
+    ∙ not-true _ (tested .if2 .taken)) (replied .before .refused .ensures) (replied .reply-with .ensures)
 
 reply-with-requires-2 : tie.Need-reply-with-requires-2
 reply-with-requires-2 c κs = eqb-true _ _ (right (c .before .before .before .before .before .before))
@@ -46,7 +55,9 @@ returns-3 : tie.Need-returns-3
 returns-3 c =
     let replied = c .before .before in
     let tested = replied .before .before .before in
-    pack-unfit _ _ _ _ _ (right (tested .before .before .before .before)) (served (tested .before .before)) (sym (tested .before .lengths-fit .ensures) ∙ not-true _ (tested .if3 .taken)) (replied .before .refused2 .ensures) (replied .reply-with2 .ensures)
+    pack-unfit _ _ _ _ _ (right (tested .before .before .before .before)) (served (tested .before .before))
+    (sym (tested .before .lengths-fit .ensures) ∙ not-true _ (tested .if3 .taken))
+    (replied .before .refused2 .ensures) (replied .reply-with2 .ensures)
 
 judge-requires : tie.Need-judge-requires
 judge-requires c κs = limits c .text
@@ -57,7 +68,9 @@ packed-requires c κs =
     record { whole = served (judged .before .before .before) .whole; fine = fine (judged .before); parsed = judged .judge .ensures }
 
 reply-with-requires-3 : tie.Need-reply-with-requires-3
-reply-with-requires-3 c κs = eqb-true _ _ (right (c .before .before .before .before .before .before .before .before .before .before))
+reply-with-requires-3 c κs =
+    let earlier = c .before .before .before .before .before .before .before .before .before .before in
+    eqb-true _ _ (right earlier)
 
 returns-4 : tie.Need-returns-4
 returns-4 c =

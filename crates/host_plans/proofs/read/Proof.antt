@@ -15,16 +15,24 @@ use borrow.Author.Needs.{needs}
 use Rattle.host_plans.proofs.read.Statement.{statement}
 use Rattle.host_plans.proofs.read.Tie as tie
 
-right : (c : tie.Else1) → eqb (length (c .before .before .before .before .before .before .before .args .reply .now)) longReplySize ≡ true
+right : (c : tie.Else1)
+    → let start = c .before .before .before .before .before .before .before in
+    eqb (length (start .args .reply .now)) longReplySize ≡ true
 right c = sym (c .before .long-reply-fits .ensures) ∙ not-false _ (c .if1 .left)
 
-served : (c : tie.Else2) → Fit (length (c .before .before .before .before .before .before .before .before .before .args .slots .now))
+served : (c : tie.Else2)
+    → let start = c .before .before .before .before .before .before .before .before .before in
+    Fit (length (start .args .slots .now))
 served c = fit _ (sym (c .before .slots-fit .ensures) ∙ not-false _ (c .if2 .left))
 
-fine : (c : tie.Else3) → readLentFits (length (c .before .before .before .before .before .before .before .before .before .before .before .args .plan .now)) (length (c .before .before .before .before .before .before .before .before .before .before .before .args .slots .now) / numberSize) (length (c .before .before .before .before .before .before .before .before .before .before .before .args .bytes .now)) (length (c .before .before .before .before .before .before .before .before .before .before .before .args .area .now)) (c .before .before .before .before .before .before .before .before .before .before .before .args .mark) ≡ true
+fine : (c : tie.Else3)
+    → let start = c .before .before .before .before .before .before .before .before .before .before .before in
+    readLentFits (length (start .args .plan .now)) (length (start .args .slots .now) / numberSize) (length (start .args .bytes .now)) (length (start .args .area .now)) (start .args .mark) ≡ true
 fine c = sym (c .before .sizes-fit .ensures) ∙ not-false _ (c .if3 .left)
 
-limits : (c : tie.Else3) → Lent (length (c .before .before .before .before .before .before .before .before .before .before .before .args .plan .now)) (length (c .before .before .before .before .before .before .before .before .before .before .before .args .slots .now) / numberSize) (length (c .before .before .before .before .before .before .before .before .before .before .before .args .bytes .now)) (length (c .before .before .before .before .before .before .before .before .before .before .before .args .area .now)) (c .before .before .before .before .before .before .before .before .before .before .before .args .mark)
+limits : (c : tie.Else3)
+    → let start = c .before .before .before .before .before .before .before .before .before .before .before in
+    Lent (length (start .args .plan .now)) (length (start .args .slots .now) / numberSize) (length (start .args .bytes .now)) (length (start .args .area .now)) (start .args .mark)
 limits c = lent (fine c)
 
 returns : tie.Need-returns
@@ -37,7 +45,8 @@ returns-2 : tie.Need-returns-2
 returns-2 c =
     let replied = c .before .before in
     let tested = replied .before .before .before in
-    read-refused _ _ _ _ _ _ (right (tested .before .before)) (sym (tested .before .slots-fit .ensures) ∙ not-true _ (tested .if2 .taken)) (replied .before .refused .ensures) (replied .reply-long .ensures)
+    read-refused _ _ _ _ _ _ (right (tested .before .before)) (sym (tested .before .slots-fit .ensures)
+    ∙ not-true _ (tested .if2 .taken)) (replied .before .refused .ensures) (replied .reply-long .ensures)
 
 reply-long-requires-2 : tie.Need-reply-long-requires-2
 reply-long-requires-2 c κs = eqb-true _ _ (right (c .before .before .before .before .before .before))
@@ -46,7 +55,9 @@ returns-3 : tie.Need-returns-3
 returns-3 c =
     let replied = c .before .before in
     let tested = replied .before .before .before in
-    read-unfit _ _ _ _ _ _ (right (tested .before .before .before .before)) (served (tested .before .before)) (sym (tested .before .sizes-fit .ensures) ∙ not-true _ (tested .if3 .taken)) (replied .before .refused2 .ensures) (replied .reply-long2 .ensures)
+    read-unfit _ _ _ _ _ _ (right (tested .before .before .before .before)) (served (tested .before .before))
+    (sym (tested .before .sizes-fit .ensures) ∙ not-true _ (tested .if3 .taken))
+    (replied .before .refused2 .ensures) (replied .reply-long2 .ensures)
 
 judge-requires : tie.Need-judge-requires
 judge-requires c κs = limits c .text

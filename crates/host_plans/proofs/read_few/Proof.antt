@@ -23,18 +23,31 @@ fill-requires c κs =
 read-back-requires : tie.Need-read-back-requires
 read-back-requires c κs =
     let called = c .before .before .before .before .before .before .before in
-    let start = c .before .before .before .before .before .before .before .before .before .before .before .before .before .before .before .before .before .before in
-    (start .pre .0 .sized, search needs, set-room _ _ _ _ (start .args .room .now) (room-read (start .pre .0) _ (start .pre .1) (sure-put (room-ready (start .pre .0) _ (start .pre .1)) (sym (called .before .before .before .before .surely-fits .ensures) ∙ called .before .before .before .if1 .taken) (called .fill .ensures))) (search needs))
+    let start = c .before .before .before .before .before .before .before .before .before .before .before .before .before .before .before .before .before .before in (
+      start .pre .0 .sized,
+      search needs,
+      set-room _ _ _ _ (start .args .room .now) (room-read (start .pre .0) _
+          (start .pre .1) (sure-put (room-ready (start .pre .0) _ (start .pre .1))
+          (sym (called .before .before .before .before .surely-fits .ensures)
+          ∙ called .before .before .before .if1 .taken) (called .fill .ensures))) (search needs),
+    )
 
 returns : tie.Need-returns
 returns c =
     let back = c .before .before .before .before in
     let called = back .before .before .before .before .before .before .before .before in
-    let start = called .before .before .before .before .before .before .before .before .before .before .before in
-    read-replied _ _ (start .args .slots .now) _ _ (start .args .room .now) (start .pre .1) (room-read (start .pre .0) _ (start .pre .1) (sure-put (room-ready (start .pre .0) _ (start .pre .1)) (sym (called .before .before .before .before .surely-fits .ensures) ∙ called .before .before .before .if1 .taken) (called .fill .ensures))) (back .read-back .ensures) (all-below (start .args .slots .now) (λ i. called .before .before .before .before .before .before .before .before .slice-known .given i .fits))
+    let at-slice-known = called .before .before .before .before .before .before .before .before in
+    let start = at-slice-known .before .before .before in
+    read-replied _ _ (start .args .slots .now) _ _ (start .args .room .now) (start .pre .1) (room-read (start .pre .0) _
+    (start .pre .1) (sure-put (room-ready (start .pre .0) _ (start .pre .1))
+    (sym (called .before .before .before .before .surely-fits .ensures)
+    ∙ called .before .before .before .if1 .taken) (called .fill .ensures))) (back .read-back .ensures)
+    (all-below (start .args .slots .now) (λ i. at-slice-known .slice-known .given i .fits))
 
 read-requires : tie.Need-read-requires
-read-requires c κs = room-ready (c .before .before .before .before .before .before .before .before .before .before .pre .0) _ (c .before .before .before .before .before .before .before .before .before .before .pre .1)
+read-requires c κs =
+    let start = c .before .before .before .before .before .before .before .before .before .before in
+    room-ready (start .pre .0) _ (start .pre .1)
 
 read-back-requires-2 : tie.Need-read-back-requires-2
 read-back-requires-2 c κs =
@@ -46,8 +59,11 @@ returns-2 : tie.Need-returns-2
 returns-2 c =
     let back = c .before .before .before .before in
     let called = back .before .before .before .before .before .before .before .before in
-    let start = called .before .before .before .before .before .before .before .before .before .before .before in
-    read-replied _ _ (start .args .slots .now) _ _ (start .args .room .now) (start .pre .1) (room-read (start .pre .0) _ (start .pre .1) (called .read .ensures)) (back .read-back2 .ensures) (all-below (start .args .slots .now) (λ i. called .before .before .before .before .before .before .before .before .slice-known .given i .fits))
+    let at-slice-known = called .before .before .before .before .before .before .before .before in
+    let start = at-slice-known .before .before .before in
+    read-replied _ _ (start .args .slots .now) _ _ (start .args .room .now) (start .pre .1) (room-read (start .pre .0) _
+    (start .pre .1) (called .read .ensures)) (back .read-back2 .ensures) (all-below (start .args .slots .now)
+    (λ i. at-slice-known .slice-known .given i .fits))
 
 pub read-few-spec : {M : Type 1} → statement M
 read-few-spec =

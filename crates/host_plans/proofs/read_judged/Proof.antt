@@ -10,7 +10,9 @@ use Rattle.host_plans.proofs.read_judged.Statement.{statement}
 use Rattle.host_plans.proofs.read_judged.Tie as tie
 
 cast-refused : tie.Need-cast-refused
-cast-refused c = omega (arith, read-place (c .before .before .before .before .before .before .before .before .before .pre) (c .before .before .p .given .1))
+cast-refused c =
+    let start = c .before .before .before .before .before .before .before .before .before in
+    omega (arith, read-place (start .pre) (c .before .before .p .given .1))
 
 reply-long-requires : tie.Need-reply-long-requires
 reply-long-requires c κs = c .before .before .before .before .before .before .before .before .before .before .pre .sized
@@ -23,25 +25,34 @@ slice-aggregate-read-few c = sym (length-take-le _ _ (array-borrow-prefix-room (
 
 read-few-requires : tie.Need-read-few-requires
 read-few-requires c κs =
-    let k = readable (c .before .before .before .before .before .before .before .before .before .before .before .before .before .pre) (c .before .before .before .before .before .before .p2 .given .1) in
+    let at-p2 = c .before .before .before .before .before .before in
+    let start = at-p2 .before .before .before .before .before .before .before in
+    let k = readable (start .pre) (at-p2 .p2 .given .1) in
     (k, room-for _ (read-whole k) (array-borrow-prefix-room (c .before)))
 
 returns : tie.Need-returns
 returns c = c .before .before .before .before .before .before .before .read-few .ensures
 
 array-borrow-prefix-room-2 : tie.Need-array-borrow-prefix-room-2
-array-borrow-prefix-room-2 c = let k = read-whole (readable (c .before .before .before .before .before .before .before .before .before .before .before .before .pre) (c .before .before .before .before .before .p2 .given .1)) in omega (arith, k .few)
+array-borrow-prefix-room-2 c =
+    let start = c .before .before .before .before .before .before .before .before .before .before .before .before in
+    let k = read-whole (readable (start .pre) (c .before .before .before .before .before .p2 .given .1)) in omega (arith, k .few)
 
 slice-aggregate-read-many : tie.Need-slice-aggregate-read-many
 slice-aggregate-read-many c = sym (length-take-le _ _ (array-borrow-prefix-room-2 (c .before)))
 
 read-many-requires : tie.Need-read-many-requires
 read-many-requires c κs =
-    let k = readable (c .before .before .before .before .before .before .before .before .before .before .before .before .before .pre) (c .before .before .before .before .before .before .p2 .given .1) in
+    let at-p2 = c .before .before .before .before .before .before in
+    let start = at-p2 .before .before .before .before .before .before .before in
+    let k = readable (start .pre) (at-p2 .p2 .given .1) in
     (k, room-for _ (read-whole k) (array-borrow-prefix-room-2 (c .before)))
 
 returns-2 : tie.Need-returns-2
-returns-2 c = read-bad (c .before .before .before .before .before .before .before .before .before .before .before .before .before .pre) (c .before .before .before .before .before .before .p .given .1) (c .before .before .before .refused .ensures) (c .before .before .reply-long .ensures)
+returns-2 c =
+    let at-p = c .before .before .before .before .before .before in
+    let start = at-p .before .before .before .before .before .before .before in
+    read-bad (start .pre) (at-p .p .given .1) (c .before .before .before .refused .ensures) (c .before .before .reply-long .ensures)
 
 returns-3 : tie.Need-returns-3
 returns-3 c = c .before .before .before .before .before .before .before .read-many .ensures

@@ -6,7 +6,9 @@ use Rattle.host_plans.proofs.read_many.Statement.{statement}
 use Rattle.host_plans.proofs.read_many.Tie as tie
 
 read-requires : tie.Need-read-requires
-read-requires c κs = room-ready (c .before .before .before .before .before .before .before .before .pre .0) _ (c .before .before .before .before .before .before .before .before .pre .1)
+read-requires c κs =
+    let start = c .before .before .before .before .before .before .before .before in
+    room-ready (start .pre .0) _ (start .pre .1)
 
 read-back-requires : tie.Need-read-back-requires
 read-back-requires c κs =
@@ -18,8 +20,11 @@ returns : tie.Need-returns
 returns c =
     let back = c .before .before .before .before in
     let called = back .before .before .before .before .before .before .before .before in
-    let start = called .before .before .before .before .before .before .before .before .before in
-    read-replied _ _ (start .args .slots .now) _ _ (start .args .room .now) (start .pre .1) (room-read (start .pre .0) _ (start .pre .1) (called .read .ensures)) (back .read-back .ensures) (all-below (start .args .slots .now) (λ i. called .before .before .before .before .before .before .slice-known .given i .fits))
+    let at-slice-known = called .before .before .before .before .before .before in
+    let start = at-slice-known .before .before .before in
+    read-replied _ _ (start .args .slots .now) _ _ (start .args .room .now) (start .pre .1) (room-read (start .pre .0) _
+    (start .pre .1) (called .read .ensures)) (back .read-back .ensures) (all-below (start .args .slots .now)
+    (λ i. at-slice-known .slice-known .given i .fits))
 
 pub read-many-spec : {M : Type 1} → statement M
 read-many-spec =

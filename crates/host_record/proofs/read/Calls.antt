@@ -72,7 +72,8 @@ module _ (size : ℕ) (o : Result (List Field)) (bytes : List ℕ) where
     unfolding stepsCall
     replied e =
         let answer : readFields size o bytes (numbersIn slots) area mark .answer .answer ≡ a .answer = ap (λ (x : Read). x .answer) lent in
-        let reply : reply′ ≡ longReply (readFields size o bytes (numbersIn slots) area mark .answer .answer) (readFields size o bytes (numbersIn slots) area mark .answer .steps) = q .1 ∙ rw (answer, steps) in
+        let reply : reply′ ≡ longReply (readFields size o bytes (numbersIn slots) area mark .answer .answer)
+        (readFields size o bytes (numbersIn slots) area mark .answer .steps) = q .1 ∙ rw (answer, steps) in
         rw (reply, e)
 
     by-answer : (b : Bool) → eqb (a .answer .number) 0 ≡ b → slots′ ≡ (if b then storeAt slots 0 (numbersBytes (take (a .answer .first * slotWidth) ns′)) else slots) → All (λ b. b < 256) slots
@@ -92,7 +93,9 @@ set-room layout bytes area mark ns p e h = fields-room (length layout) (fieldsOf
 
 module _ (layout bytes slots area : List ℕ) (mark : ℕ) where
   pub read-replied : (ns : List ℕ) {ns′ area′ slots′ reply′ : List ℕ} {a : ReadAnswer} {r : ℕ} → length slots ≡ length ns * numberSize
-      → record { answer = a; slots = ns′; area = area′ } ≡ readAll layout bytes ns area mark → (r ≡ a .answer .number) × (reply′ ≡ longReply (a .answer) (a .steps)) × (slots′ ≡ writtenBack slots ns′ (a .answer))
+      → record { answer = a; slots = ns′; area = area′ } ≡ readAll layout bytes ns area mark
+      → (r ≡ a .answer .number) × (reply′ ≡ longReply (a .answer) (a .steps))
+      × (slots′ ≡ writtenBack slots ns′ (a .answer))
       → All (λ b. b < 256) slots → record { returned = r; slots = slots′; area = area′; reply = reply′ } ≡ stepsCall slots (readAll layout bytes (numbersIn slots) area mark)
   read-replied ns long p q below =
       fields-replied (length layout) (fieldsOf false layout) bytes slots area mark ns long (p ∙ read-fields layout bytes ns area mark) q below
@@ -108,7 +111,12 @@ module _ (layout bytes slots area : List ℕ) (mark : ℕ) where
           → record { returned = r; slots = slots; area = area; reply = reply′ } ≡ curlewRead layout bytes slots area mark reply
       unfolding curlewRead stepsCall readCall
       read-refused {a} {r} {reply′} bad e q =
-          let here : record { returned = r; slots = slots; area = area; reply = reply′ } ≡ stepsCall slots (record { answer = record { answer = refusal BadSize 0; steps = 0 }; slots = numbersIn slots; area = area }) = rw (q .0, q .1, e) in
+          let here : record { returned = r; slots = slots; area = area; reply = reply′ } ≡ stepsCall slots
+          (record {
+            answer = record { answer = refusal BadSize 0; steps = 0 };
+            slots = numbersIn slots;
+            area = area;
+          }) = rw (q .0, q .1, e) in
           here ∙ guarded-refused longReplySize reply slots _ _ _ sized bad (λ many.
           ap (stepsCall slots)
           (fields-many (length layout) (fieldsOf false layout) (numbersIn slots) bytes area many mark ∙ sym (read-fields layout bytes (numbersIn slots) area mark)))

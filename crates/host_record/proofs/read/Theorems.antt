@@ -32,7 +32,9 @@ pub second-number : (x y : ℕ) (rest : List ℕ) → y < 4294967296 → numberA
 unfolding numberAt numbersBytes bigEndian join
 second-number x y rest h =
     let front : drop numberSize (numbersBytes (x ∷ y ∷ rest)) ≡ numbersBytes (y ∷ rest) = drop-at (numberBytes numberSize x) (numbersBytes (y ∷ rest)) numberSize (length-numberBytes numberSize x) in
-    let here : part (numbersBytes (x ∷ y ∷ rest)) numberSize numberSize ≡ numberBytes numberSize y = ap (take numberSize) front ∙ take-at (numberBytes numberSize y) (numbersBytes rest) numberSize (length-numberBytes numberSize y) in
+    let here : part (numbersBytes (x ∷ y ∷ rest)) numberSize numberSize ≡ numberBytes numberSize
+    y = ap (take numberSize) front ∙ take-at (numberBytes numberSize y) (numbersBytes rest) numberSize
+    (length-numberBytes numberSize y) in
     ap (λ (p : List ℕ). number 256 (reverse p)) here ∙ number-back y h
 
 -- what a call on numbers leaves
@@ -44,7 +46,9 @@ module _ (slots : List ℕ) (r : Read) where
       let at : slotSize * r .answer .first ≡ n * numberSize = omega arith in
       rw at (sym (bytes-drop n (r .slots)) ∙ ap numbersBytes same ∙ bytes-drop n (numbersIn slots) ∙ ap (drop (n * numberSize)) (bytes-back slots whole below))
 
-  stay-by : (k : ℕ) (b : Bool) → eqb (r .answer .number) 0 ≡ b → (r .answer .number ≡ 0 → (r .answer .first < 4294967296) × (drop (slotSize * r .answer .first) (numbersBytes (r .slots)) ≡ drop (slotSize * r .answer .first) slots))
+  stay-by : (k : ℕ) (b : Bool) → eqb (r .answer .number) 0 ≡ b
+      → (r .answer .number ≡ 0 → (r .answer .first < 4294967296)
+      × (drop (slotSize * r .answer .first) (numbersBytes (r .slots)) ≡ drop (slotSize * r .answer .first) slots))
       → Stay slots (stepsCall slots (withSteps r k))
   unfolding stepsCall readCall longReply
   stay-by k true e h =

@@ -22,7 +22,8 @@ use Rattle.rescue.proofs.Unset.{over, rescue-over}
 use Rattle.host_sheet.specs.Rescuing.{rescueReplySize, rescueReply, rescueCall, curlewSheetRescue}
 
 -- more slots than a call may be lent are refused with 1
-rescue-many : (sheet : List ℕ) (legs : ℕ) (ns area : List ℕ) (mark : ℕ) → slotWidth * maxSlots < length ns → record { answer = rescueRefused BadSize 0; slots = ns; area = area } ≡ rescue sheet legs ns area mark
+rescue-many : (sheet : List ℕ) (legs : ℕ) (ns area : List ℕ) (mark : ℕ) → slotWidth * maxSlots < length ns
+    → record { answer = rescueRefused BadSize 0; slots = ns; area = area } ≡ rescue sheet legs ns area mark
 unfolding rescue rescues
 rescue-many sheet legs ns area mark many = rw (lt-leb (length ns) (slotWidth * maxSlots) many)
 
@@ -47,7 +48,9 @@ module _ (sheet : List ℕ) (legs : ℕ) (slots area : List ℕ) (mark : ℕ) wh
     rescue-set h below s = rw (lent, eq-eqb (a .number) 0 h, bytes-stored slots (take (legs * slotWidth) ns′) (omega arith) below, s, q .0, q .1)
 
   module _ (reply : List ℕ) where
-    pub rescue-unwritten : eqb (length reply) rescueReplySize ≡ false → record { returned = numberOf BadSize; slots = slots; area = area; reply = reply } ≡ curlewSheetRescue sheet legs slots area mark reply
+    pub rescue-unwritten : eqb (length reply) rescueReplySize ≡ false
+        → record { returned = numberOf BadSize; slots = slots; area = area; reply = reply } ≡ curlewSheetRescue sheet
+        legs slots area mark reply
     unfolding curlewSheetRescue
     rescue-unwritten h = guarded-unwritten rescueReplySize reply slots _ _ _ h
 
@@ -56,7 +59,12 @@ module _ (sheet : List ℕ) (legs : ℕ) (slots area : List ℕ) (mark : ℕ) wh
           → record { returned = r; slots = slots; area = area; reply = reply′ } ≡ curlewSheetRescue sheet legs slots area mark reply
       unfolding curlewSheetRescue rescueCall
       rescue-refused {a} {r} {reply′} bad e q =
-          let here : record { returned = r; slots = slots; area = area; reply = reply′ } ≡ rescueCall slots (record { answer = rescueRefused BadSize 0; slots = numbersIn slots; area = area }) = rw (q .0, q .1, e) in
+          let here : record { returned = r; slots = slots; area = area; reply = reply′ } ≡ rescueCall slots
+          (record { answer = rescueRefused BadSize 0; slots = numbersIn slots; area = area }) = rw (
+            q .0,
+            q .1,
+            e,
+          ) in
           here ∙ guarded-refused rescueReplySize reply slots _ _ _ sized bad (λ many. ap (rescueCall slots) (rescue-many sheet legs (numbersIn slots) area mark many))
 
       pub rescue-served : Fit (length slots) → rescueCall slots (rescue sheet legs (numbersIn slots) area mark) ≡ curlewSheetRescue sheet legs slots area mark reply

@@ -59,7 +59,8 @@ module _ (sheet slots area : List ℕ) (mark : ℕ) where
           → record { returned = r; slots = slots; area = area; reply = reply′ } ≡ curlewSheetRead sheet slots area mark reply
       unfolding curlewSheetRead readCall
       read-refused {a} {r} {reply′} bad e q =
-          let here : record { returned = r; slots = slots; area = area; reply = reply′ } ≡ readCall slots (record { answer = refusal BadSize 0; slots = numbersIn slots; area = area }) = rw (q .0, q .1, e) in
+          let here : record { returned = r; slots = slots; area = area; reply = reply′ } ≡ readCall slots
+          (record { answer = refusal BadSize 0; slots = numbersIn slots; area = area }) = rw (q .0, q .1, e) in
           here ∙ guarded-refused replySize reply slots _ _ _ sized bad (λ many. ap (readCall slots) (read-many (numbersIn slots) area sheet many mark))
 
       pub read-served : Fit (length slots) → readCall slots (readSheet sheet (numbersIn slots) area mark) ≡ curlewSheetRead sheet slots area mark reply

@@ -33,7 +33,8 @@ module _ (c : Pair) where
   -- ---- the promise
 
   -- what is accepted is what packing by the joined template gives
-  joined-both : (bs cs : List ℕ) → first ≡ ok bs → second (length bs) ≡ ok cs → Joinable c → packEffect (c .output) (ok (bs ++ cs)) ≡ packBy (joinTemplates (c .first) (c .second)) (c .area) (c .output)
+  joined-both : (bs cs : List ℕ) → first ≡ ok bs → second (length bs) ≡ ok cs → Joinable c
+      → packEffect (c .output) (ok (bs ++ cs)) ≡ packBy (joinTemplates (c .first) (c .second)) (c .area) (c .output)
   unfolding pack
   joined-both bs cs e₁ e₂ j =
       let left : List ℕ = drop (length bs) (c .output) in
@@ -167,7 +168,9 @@ module _ (c : Pair) (room : List ℕ) (same : length room ≡ length (c .output)
             ap (λ (r : List ℕ). bs ++ r) (two .stored ∙ ap (λ (r : List ℕ). cs ++ r) rest) ∙ sym (append-assoc bs cs (drop (length (bs ++ cs)) o)) in
             let whole : 0 + length bs ≡ n = omega (arith, one .count) in
             let put : storeAt last 0 (part left 0 n) ≡ bs ++ out = rw (front, whole, behind) in
-            promised c _ (ap₂ (λ (a : Answer) (b : List ℕ). record { answer = a; output = b }) (e ∙ ap (λ (i : ℕ). accepted i 0) total) (copied ∙ put ∙ joined) ∙ ap (packEffect o) (sym (both-is (ok cs) (two .result))))
+            promised c _ (ap₂ (λ (a : Answer) (b : List ℕ). record { answer = a; output = b }) (e
+            ∙ ap (λ (i : ℕ). accepted i 0) total) (copied ∙ put ∙ joined)
+            ∙ ap (packEffect o) (sym (both-is (ok cs) (two .result))))
 
 -- a buffer larger than a record may be
 pub too-large : (c : Pair) (x : Answer) → x ≡ refusal BadSize 0 → maxRecord < length (c .output) → PacksBothAs c (record { answer = x; output = c .output })

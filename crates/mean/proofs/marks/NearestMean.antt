@@ -176,7 +176,9 @@ quotient-at a n apos ha pos hn =
     let y : ℕ = nearest (N / u) o in
     let b = rounded-bounds (N / u) k 1074 o (s .held) (s .few) (le-refl 1074) in
     let form : round binary64 false a n ≡ inUnits binary64 false y k = round-is binary64 false a n ∙ ap (core binary64 false N n) (sym (s .is)) in
-    let bits : toBits binary64 (round binary64 false a n) ≡ k * 2 ^ 52 + y = ap (toBits binary64) form ∙ bits-carried y k (le-trans (s .leading) (nearest-ge (N / u) o)) (b .0) (inUnits binary64 false y k) (units-val binary64 false y k (b .2)) in
+    let bits : toBits binary64 (round binary64 false a n) ≡ k * 2 ^ 52 + y = ap (toBits binary64) form
+    ∙ bits-carried y k (le-trans (s .leading) (nearest-ge (N / u) o)) (b .0) (inUnits binary64 false y k)
+    (units-val binary64 false y k (b .2)) in
     rw bits (nearest-at n N k (N / u) (N % u) pos (s .some) (sym (div-add-mod' N u)) (mod-lt N (mul-pos pos (pow-pos k))) (s .leading) (s .held) o (compared (N % u * 2) u) (b .1))
 
 rises : (n : ℕ) → 0 < n → (a b : ℕ) → a < b → n * doubleMagnitude a < n * doubleMagnitude b

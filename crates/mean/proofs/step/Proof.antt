@@ -25,7 +25,9 @@ returns-2 c =
     let slot = c .before .before .before .before .slot-at in
     rw (← slot .ensures .same) (bad-slot _ _ (slot .result) _ (set (c .before .before)) (sym (c .before .is-inside .ensures) ∙ not-true _ (c .if2 .taken)))
 
-inside : (c : tie.Else2) → isInside (c .before .before .before .before .slot-at .result) (length (c .before .before .before .before .before .before .before .args .area .now)) ≡ true
+inside : (c : tie.Else2)
+    → let start = c .before .before .before .before .before .before .before in
+    isInside (c .before .before .before .before .slot-at .result) (length (start .args .area .now)) ≡ true
 inside c = sym (c .before .is-inside .ensures) ∙ not-false _ (c .if2 .left)
 
 returns-3 : tie.Need-returns-3
@@ -34,7 +36,9 @@ returns-3 c =
     let slot = tested .before .before .before .before .slot-at in
     rw (← slot .ensures .same) (wrong-kind _ _ (slot .result) _ (set (tested .before .before)) (inside tested) (sym (c .before .is-integers .ensures) ∙ not-true _ (c .if3 .taken)))
 
-integers : (c : tie.Else3) → isIntegers (c .before .before .before .before .before .before .slot-at .result .kind) ≡ true
+integers : (c : tie.Else3)
+    → let at-slot-at = c .before .before .before .before .before .before in
+    isIntegers (at-slot-at .slot-at .result .kind) ≡ true
 integers c = sym (c .before .is-integers .ensures) ∙ not-false _ (c .if3 .left)
 
 returns-4 : tie.Need-returns-4
@@ -44,7 +48,9 @@ returns-4 c =
     let slot = tested .before .before .before .before .slot-at in
     rw (← slot .ensures .same) (wrong-amount _ _ (slot .result) _ (set (tested .before .before)) (inside tested) (integers third) (ne-eqb _ _ (c .if4 .taken)))
 
-one : (c : tie.Else4) → eqb (c .before .before .before .before .before .before .before .before .slot-at .result .len) 1 ≡ true
+one : (c : tie.Else4)
+    → let at-slot-at = c .before .before .before .before .before .before .before .before in
+    eqb (at-slot-at .slot-at .result .len) 1 ≡ true
 one c = eq-eqb _ _ (c .if4 .left)
 
 number-at-requires : tie.Need-number-at-requires

@@ -57,7 +57,8 @@ module _ (area : List ℕ) (n : Count) (a : Slot) where
         told (shapeNumbered d) bytes b
         (λ k.
         rw (shape-integers d l m)
-        (fine (Integers (widthNumbered d) (eqb (d % 2) 1)) k (ne-eqb (a .kind) 0 (λ x. omega arith)) (le-leb (a .kind) maxKind (omega arith)) (rw e (le-leb _ _ i)) (kind-integers (a .kind) h u) p refl refl))
+        (fine (Integers (widthNumbered d) (eqb (d % 2) 1)) k (ne-eqb (a .kind) 0 (λ x. omega arith))
+        (le-leb (a .kind) maxKind (omega arith)) (rw e (le-leb _ _ i)) (kind-integers (a .kind) h u) p refl refl))
 
     pub reals-sound : (d : ℕ) → lastIntegers < d → d ≤ lastData → a .kind ≡ real → a .start + a .len * 8 ≤ length area → enough n (a .len) ≡ true
         → (t : Bool) → ((big : Bool) → t ≡ realsFit (Reals (leb d lastSingle) big) items (shown area a .items)) → t ≡ true

@@ -130,7 +130,8 @@ module _ (area : List ℕ) (n : ℕ) (ws ns lent : List ℕ) (fine : Writable ar
       unfolding argumentsChecked
       stepping =
           let s = slot-here area ns k c (f .role) (f .count) slot in
-          room-step (fieldChecked area k (slotAt ns k) c (f .role) (f .count)) (argumentsChecked area (k + slotsTaken f) (drop (k + slotsTaken f) (slotsOf ns)) (drop (i + 1) (decoded n ws))) (length lent)
+          room-step (fieldChecked area k (slotAt ns k) c (f .role) (f .count)) (argumentsChecked area (k + slotsTaken f)
+          (drop (k + slotsTaken f) (slotsOf ns)) (drop (i + 1) (decoded n ws))) (length lent)
           (rw (← drop-drop (slotsTaken f) k (slotsOf ns), ← s) (rw here at (w .room)))
 
       pub writing-ready : Puttable area ns k c (f .role) (f .count) (length out)
@@ -152,7 +153,9 @@ module _ (area : List ℕ) (n : ℕ) (ws ns lent : List ℕ) (fine : Writable ar
           let (d′, q, r) = stepping in
           let a : d′ ≡ d = stepped-advance area k (slotAt ns k) c (f .role) (f .count) d′ q ∙ sym (p .0) in
           let h = put-here area ns out k c (f .role) (f .count) slot in
-          let s : written area (drop (slotsTaken f) (drop k (slotsOf ns))) (drop (i + 1) (decoded n ws)) (advance c (f .role) (f .count) (nextSlot (drop k (slotsOf ns)) .len)) (put area (nextSlot (drop k (slotsOf ns))) out c (f .role) (f .count))
+          let s : written area (drop (slotsTaken f) (drop k (slotsOf ns))) (drop (i + 1) (decoded n ws))
+          (advance c (f .role) (f .count) (nextSlot (drop k (slotsOf ns)) .len))
+          (put area (nextSlot (drop k (slotsOf ns))) out c (f .role) (f .count))
           ≡ written area (slotsOf ns) (decoded n ws) origin lent = rw here at (w .same) in
           rw t
           (record {

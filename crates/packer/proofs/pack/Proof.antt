@@ -10,10 +10,14 @@ use borrow.Author.Needs.{needs}
 use Rattle.packer.proofs.pack.Statement.{statement}
 use Rattle.packer.proofs.pack.Tie as tie
 
-fine : (c : tie.Else1) → lengthsFit (length (c .before .before .before .before .before .before .args .layout .now)) (length (c .before .before .before .before .before .before .args .slots .now)) (length (c .before .before .before .before .before .before .args .output .now)) (length (c .before .before .before .before .before .before .args .area .now)) ≡ true
+fine : (c : tie.Else1)
+    → let start = c .before .before .before .before .before .before in
+    lengthsFit (length (start .args .layout .now)) (length (start .args .slots .now)) (length (start .args .output .now)) (length (start .args .area .now)) ≡ true
 fine c = sym (c .before .lengths-fit .ensures) ∙ not-false _ (c .if1 .left)
 
-limits : (c : tie.Else1) → Sized (length (c .before .before .before .before .before .before .args .layout .now)) (length (c .before .before .before .before .before .before .args .slots .now)) (length (c .before .before .before .before .before .before .args .output .now)) (length (c .before .before .before .before .before .before .args .area .now))
+limits : (c : tie.Else1)
+    → let start = c .before .before .before .before .before .before in
+    Sized (length (start .args .layout .now)) (length (start .args .slots .now)) (length (start .args .output .now)) (length (start .args .area .now))
 limits c = sized (fine c)
 
 returns : tie.Need-returns

@@ -13,7 +13,9 @@ use Rattle.packer.proofs.pack_short.Tie as tie
 returns : tie.Need-returns
 returns c = c .before .before .pack .ensures
 
-fine : (c : tie.Else2) → lengthsFit (length (c .before .before .before .before .before .before .before .args .layout .now)) (length (c .before .before .before .before .before .before .before .args .slots .now)) (length (c .before .before .before .before .before .before .before .args .output .now)) (length (c .before .before .before .before .before .before .before .args .area .now)) ≡ true
+fine : (c : tie.Else2)
+    → let start = c .before .before .before .before .before .before .before in
+    lengthsFit (length (start .args .layout .now)) (length (start .args .slots .now)) (length (start .args .output .now)) (length (start .args .area .now)) ≡ true
 fine c = sym (c .before .lengths-fit .ensures) ∙ not-false _ (c .if2 .left)
 
 returns-2 : tie.Need-returns-2

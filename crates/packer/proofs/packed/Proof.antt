@@ -19,7 +19,9 @@ ReadFrom c size o = let a = c .before .before .before .before .args in FieldsRea
 bad : (c : tie.After-p) (size : ℕ) (o : Result (List Field)) → ReadFrom (c .before .before) size o → o ≡ refused (c .p .given .0 .0) (c .p .given .0 .1 .0)
 bad c size o j = parsed-refused _ _ _ _ _ (j .parsed) (c .p .given .1)
 
-learnt : (c : tie.After-p2) (size : ℕ) (o : Result (List Field)) → ReadFrom (c .before .before) size o → Learnt o (c .p2 .given .0 .0) (c .p2 .given .0 .1 .0) (c .before .before .before .before .before .before .args .codes .now)
+learnt : (c : tie.After-p2) (size : ℕ) (o : Result (List Field)) → ReadFrom (c .before .before) size o
+    → Learnt o (c .p2 .given .0 .0) (c .p2 .given .0 .1 .0)
+    (c .before .before .before .before .before .before .args .codes .now)
 learnt c size o j = parsed-fields _ _ _ _ _ (j .parsed) (c .p2 .given .1)
 
 cast-refused : tie.Need-cast-refused

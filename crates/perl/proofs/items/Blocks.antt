@@ -54,7 +54,9 @@ module _ (d text : List ℕ) (to b : ℕ) (u : Bool) (start n size : ℕ) (sized
   pub put-over : maxLayout < to + size + n → Stored item to d (suc maxLayout) d
   put-over h = record { place = omega (arith, item-length); long = refl; bytes = λ k. absurd (omega (arith, item-length)) }
 
-  pub put-whole : {d₁ d₂ : List ℕ} → length d ≡ maxLayout → to + size + n ≤ maxLayout → d₁ ≡ storeAt d to (b ∷ flagText u) → d₂ ≡ storeAt d₁ (to + size) (part text start n) → Stored item to d (to + size + n) d₂
+  pub put-whole : {d₁ d₂ : List ℕ} → length d ≡ maxLayout → to + size + n ≤ maxLayout
+      → d₁ ≡ storeAt d to (b ∷ flagText u) → d₂ ≡ storeAt d₁ (to + size) (part text start n)
+      → Stored item to d (to + size + n) d₂
   put-whole {d₁} {d₂} room fits e₁ e₂ =
       let count : length (part text start n) ≡ n = length-part n start text inside in
       let whole : d₂ ≡ storeAt d to item = e₂ ∙ (rw (e₁, sized) (store-store d to (b ∷ flagText u) (part text start n) (omega arith))) in
@@ -126,7 +128,9 @@ module _ (s d : List ℕ) (to end times : ℕ) (old : List ℕ) (order : to ≤ 
       pub again-more : end - to ≤ j → j < times * (end - to) → Put d to (repeated times s) (set out (to + j) (getD out (to + (j - (end - to))) 0)) (j + 1)
       again-more h k =
           let m : times * length s ≡ times * (end - to) = rw size-is in
-          let b : getD out (to + (j - (end - to))) 0 ≡ getD (repeated times s) j 0 = put-at d to (repeated times s) out j (j - (end - to)) p (omega arith) (omega (arith, total)) (omega (arith, some-bytes times (end - to) k)) ∙ (rw size-is (period times s j (omega (arith, size-is)) (omega arith))) in
+          let b : getD out (to + (j - (end - to))) 0 ≡ getD (repeated times s) j 0 = put-at d to (repeated times s) out
+          j (j - (end - to)) p (omega arith) (omega (arith, total)) (omega (arith, some-bytes times (end - to) k))
+          ∙ (rw size-is (period times s j (omega (arith, size-is)) (omega arith))) in
           put-more p (omega arith) (omega (arith, total)) b
 
       pub again-done : j ≡ times * (end - to) → Stored (repeated times s) to d (to + times * (end - to)) out

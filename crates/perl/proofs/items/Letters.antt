@@ -40,7 +40,12 @@ module _ {A : Type 0} {text : A → List ℕ} {o : ReadTo A} {to : ℕ} {old new
   unfolding spanFrom
   writes {a} {e} {end} q s =
       let again : (b : A) (n : ℕ) → read b n ≡ read a e → a ≡ b = λ b n k. cc in
-      rw q (record { says = ap (Read e) (s .place); long = s .long; bytes = λ b n k. subst (λ (x : A). to + length (text x) ≤ maxLayout → new ≡ storeAt old to (text x)) (again b n (sym k)) (s .bytes) })
+      rw q (record {
+        says = ap (Read e) (s .place);
+        long = s .long;
+        bytes = λ b n k. subst (λ (x : A). to + length (text x) ≤ maxLayout → new ≡ storeAt old to (text x))
+            (again b n (sym k)) (s .bytes);
+      })
 
   pub strays : {p : ℕ} → o ≡ stray p → length new ≡ length old → Written text o to old (Stray p) new
   unfolding spanFrom

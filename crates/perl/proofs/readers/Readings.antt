@@ -45,7 +45,9 @@ group-ends depth at cs (read t e) h =
     (omega arith, omega arith)
 group-ends depth at cs (stray p) h = (omega arith, h .1)
 
-item-ends : (depth at c : ℕ) (cs : List ℕ) (inside : Unit {0} → ReadTo Template) → Ends (suc depth) (suc at) (suc at + length cs) (inside tt) → ItemEnds at (suc at + length cs) (itemAt depth at c cs inside)
+item-ends : (depth at c : ℕ) (cs : List ℕ) (inside : Unit {0} → ReadTo Template)
+    → Ends (suc depth) (suc at) (suc at + length cs) (inside tt)
+    → ItemEnds at (suc at + length cs) (itemAt depth at c cs inside)
 unfolding itemAt
 item-ends depth at c cs inside h = go (eqb c 40 && ltb depth maxDepth)
   where
@@ -160,7 +162,9 @@ module _ (depth : ℕ) (text : List ℕ) where
           let l : pieceExtra at s ≤ length cs = extra-within at (length cs) s (subst (StepEnds at (suc at + length cs)) e k) in
           ap (sequence depth filled at 0) (drop-cons text at 0 inside)
           ∙ ap (λ (z : Piece). pieceThen at z (sequence depth (filled || isItem z) (suc at) (pieceExtra at z) cs)) e
-          ∙ ap (pieceThen at s) (skipped cs depth (filled || isItem s) (suc at) (pieceExtra at s) l ∙ ap (sequence depth (filled || isItem s) (suc at + pieceExtra at s) 0) (drop-drop (pieceExtra at s) (suc at) text))
+          ∙ ap (pieceThen at s) (skipped cs depth (filled || isItem s) (suc at) (pieceExtra at s) l
+          ∙ ap (sequence depth (filled || isItem s) (suc at + pieceExtra at s) 0) (drop-drop (pieceExtra at s)
+          (suc at) text))
 
       here-space : getD text at 0 ≡ 32 → here ≡ space
       unfolding here pieceAt

@@ -20,7 +20,8 @@ use Rattle.perl.proofs.readers.Readings.{ItemEnds, item-end, from-end-t
 
 -- ---- a letter
 
-pub letter-item : (depth : ℕ) (text : List ℕ) (p : ℕ) {to : ℕ} {d d′ : List ℕ} {r : Span} → (getD text p 0 ≡ 40 → ⊥) → Written itemText (letterAt p (letterOf (getD text p 0)) (drop (suc p) text)) to d r d′
+pub letter-item : (depth : ℕ) (text : List ℕ) (p : ℕ) {to : ℕ} {d d′ : List ℕ} {r : Span} → (getD text p 0 ≡ 40 → ⊥)
+    → Written itemText (letterAt p (letterOf (getD text p 0)) (drop (suc p) text)) to d r d′
     → Written itemText (itemFrom depth text p) to d r d′
 letter-item depth text p e w = rw (item-letter depth text p e) w
 
@@ -148,5 +149,8 @@ module _ (depth : ℕ) (text : List ℕ) (at to : ℕ) (old : List ℕ) where
                   within = item-after .1;
                   so-far = m .so-far ++ itemText a;
                   stored = stored-append room (m .stored) s;
-                  rest = rest-item _ (m .so-far) a (itemsFrom depth true text e) (subst (Rest (itemsFrom depth false text at) (m .so-far)) (from-item depth text filled i inside no-space no-close a e k) (m .rest));
+                  rest =
+                      rest-item _ (m .so-far) a (itemsFrom depth true text e)
+                      (subst (Rest (itemsFrom depth false text at) (m .so-far)) (from-item depth text filled i inside
+                      no-space no-close a e k) (m .rest));
                 }

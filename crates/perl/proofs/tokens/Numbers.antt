@@ -69,7 +69,9 @@ unfolding numberIn continues
 number-limit limit v [] h = h
 number-limit limit v (c ∷ cs) h = step (isDecimal c) (ltb 0 (withDigit v c)) (leb (withDigit v c) limit) (λ e. leb-true (withDigit v c) limit e) (λ k. number-limit limit (withDigit v c) cs k)
   where
-    step : (d z t : Bool) → (t ≡ true → withDigit v c ≤ limit) → (withDigit v c ≤ limit → numberIn limit (withDigit v c) cs ≤ limit) → (if (d && z && t) then numberIn limit (withDigit v c) cs else v) ≤ limit
+    step : (d z t : Bool) → (t ≡ true → withDigit v c ≤ limit)
+        → (withDigit v c ≤ limit → numberIn limit (withDigit v c) cs ≤ limit)
+        → (if (d && z && t) then numberIn limit (withDigit v c) cs else v) ≤ limit
     step false z t e k = h
     step true false t e k = h
     step true true false e k = h

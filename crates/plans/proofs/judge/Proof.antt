@@ -35,7 +35,9 @@ loop-again c =
     judging-more _ _ _ _ (turn .before .loop .inv) _ (turn .loop-test .taken) good (c .slots-in .ensures ∙ code-slots _) (good-code _ _ _ good)
 
 add-taken : tie.Need-add-taken Inv-loop μ-loop
-add-taken c = omega (arith, loop-again c .less, loop-again c .within, c .before .before .before .before .before .before .before .before .pre)
+add-taken c =
+    let start = c .before .before .before .before .before .before .before .before in
+    omega (arith, loop-again c .less, loop-again c .within, start .pre)
 
 add-i : tie.Need-add-i Inv-loop μ-loop
 add-i c = omega (arith, loop-again c .within, c .before .before .before .before .before .before .before .before .pre)

@@ -12,7 +12,9 @@ use borrow.Author.Needs.{needs}
 use Rattle.plans.proofs.read.Statement.{statement}
 use Rattle.plans.proofs.read.Tie as tie
 
-sized : (c : tie.Else1) → Fit (length (c .before .before .before .before .before .before .args .plan .now)) (length (c .before .before .before .before .before .before .args .slots .now)) (length (c .before .before .before .before .before .before .args .bytes .now)) (length (c .before .before .before .before .before .before .args .area .now)) (c .before .before .before .before .before .before .args .mark)
+sized : (c : tie.Else1)
+    → let start = c .before .before .before .before .before .before in
+    Fit (length (start .args .plan .now)) (length (start .args .slots .now)) (length (start .args .bytes .now)) (length (start .args .area .now)) (start .args .mark)
 sized c = fit (sym (c .before .sizes-fit .ensures) ∙ not-false _ (c .if1 .left))
 
 returns : tie.Need-returns

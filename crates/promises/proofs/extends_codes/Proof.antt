@@ -25,7 +25,9 @@ cast-refused : tie.Need-cast-refused
 cast-refused c = omega (arith, bad c .1)
 
 grown-requires : tie.Need-grown-requires
-grown-requires c κs = (c .before .before .before .before .before .before .before .before .before .pre .0, c .before .before .before .before .before .before .before .before .before .pre .1, good (c .before))
+grown-requires c κs =
+    let start = c .before .before .before .before .before .before .before .before .before in
+    (start .pre .0, start .pre .1, good (c .before))
 
 returns : tie.Need-returns
 returns c = rw (c .refused .ensures) (by-refused _ _ _ _ (bad (c .before) .0))

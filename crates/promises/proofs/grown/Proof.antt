@@ -58,9 +58,10 @@ returns-4 c =
 
 sub-accepted : tie.Need-sub-accepted
 sub-accepted c =
-    let same = c .before .before .before .before .before .before .before in
+    let earlier = c .before .before .before .before .before .before in
+    let same = earlier .before in
     let start = same .before .before .before .before in
-    let few = enough (c .before .before .before .before .before .before) in
+    let few = enough earlier in
     omega (arith, long start, grown-few _ _ _ (start .pre .2) _ _ (same .same-front .ensures) few)
 
 returns-5 : tie.Need-returns-5

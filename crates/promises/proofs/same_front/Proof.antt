@@ -22,13 +22,19 @@ mul-same-field : tie.Need-mul-same-field Inv-loop μ-loop
 mul-same-field c = omega (arith, c .before .before .least .ensures, c .before .before .before .before .before .pre)
 
 shared-slice-read-same-field : tie.Need-shared-slice-read-same-field Inv-loop μ-loop
-shared-slice-read-same-field c = omega (arith, c .before .before .before .least .ensures, c .before .before .before .before .before .before .pre)
+shared-slice-read-same-field c =
+    let start = c .before .before .before .before .before .before in
+    omega (arith, c .before .before .before .least .ensures, start .pre)
 
 mul-same-field-2 : tie.Need-mul-same-field-2 Inv-loop μ-loop
-mul-same-field-2 c = omega (arith, c .before .before .before .least .ensures, c .before .before .before .before .before .before .pre)
+mul-same-field-2 c =
+    let start = c .before .before .before .before .before .before in
+    omega (arith, c .before .before .before .least .ensures, start .pre)
 
 shared-slice-read-same-field-2 : tie.Need-shared-slice-read-same-field-2 Inv-loop μ-loop
-shared-slice-read-same-field-2 c = omega (arith, c .before .before .before .before .least .ensures, c .before .before .before .before .before .before .before .pre)
+shared-slice-read-same-field-2 c =
+    let start = c .before .before .before .before .before .before .before in
+    omega (arith, c .before .before .before .before .least .ensures, start .pre)
 
 returns : tie.Need-returns Inv-loop μ-loop
 returns c =

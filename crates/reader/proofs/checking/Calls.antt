@@ -142,7 +142,9 @@ module _ (layout bs slots area : List ℕ) (mark : ℕ) where
     unfolding reads
     parse-refuses e = fields-refuse (length layout) (fieldsOf false layout) bs slots area mark sizes e
 
-    pub check-fits : {n taken : ℕ} {ws : List ℕ} → Learnt (fieldsOf false layout) n taken ws → {r : Answer} → r ≡ fitting (length slots) taken (length area - mark) (length (valueBytes (valuesFrom bs 0 (decoded n ws)))) → r ≡ readChecked layout bs slots area mark
+    pub check-fits : {n taken : ℕ} {ws : List ℕ} → Learnt (fieldsOf false layout) n taken ws → {r : Answer}
+        → r ≡ fitting (length slots) taken (length area - mark) (length (valueBytes (valuesFrom bs 0 (decoded n ws))))
+        → r ≡ readChecked layout bs slots area mark
     unfolding reads
     check-fits l e =
         fitted (length layout) (fieldsOf false layout) bs slots area mark sizes l e (λ why h q z. check-refused h q) (λ h q. check-accepted l h q)

@@ -77,7 +77,8 @@ module _ {n taken : ℕ} {ws bs slots area : List ℕ} {mark : ℕ} (k : ReadRea
     sure-put q = codes-put sure-rows sure-size q
 
   -- by the lengths alone or by the fields
-  surely {ℓ} : {X : Type ℓ} → surelyRead n taken ws (length bs) (length slots) (length area - mark) ≡ true → (taken ≤ length slots / slotWidth → length (valueBytes (valuesOf n ws bs)) ≤ length area - mark → X) → X
+  surely {ℓ} : {X : Type ℓ} → surelyRead n taken ws (length bs) (length slots) (length area - mark) ≡ true
+      → (taken ≤ length slots / slotWidth → length (valueBytes (valuesOf n ws bs)) ≤ length area - mark → X) → X
   unfolding surelyRead
   surely t f =
       either (surelyFits n taken (length bs) (length slots) (length area - mark)) _ t

@@ -14,7 +14,9 @@ use Rattle.layout.specs.Layout.{maxLayout}
 use Rattle.reader.proofs.read.Statement.{statement}
 use Rattle.reader.proofs.read.Tie as tie
 
-sized : (c : tie.Else1) → Fit (length (c .before .before .before .before .before .before .args .layout .now)) (length (c .before .before .before .before .before .before .args .slots .now)) (length (c .before .before .before .before .before .before .args .bytes .now)) (length (c .before .before .before .before .before .before .args .area .now)) (c .before .before .before .before .before .before .args .mark)
+sized : (c : tie.Else1)
+    → let start = c .before .before .before .before .before .before in
+    Fit (length (start .args .layout .now)) (length (start .args .slots .now)) (length (start .args .bytes .now)) (length (start .args .area .now)) (start .args .mark)
 sized c = fit (sym (c .before .sizes-fit .ensures) ∙ not-false _ (c .if1 .left))
 
 returns : tie.Need-returns
@@ -24,16 +26,28 @@ parse-requires : tie.Need-parse-requires
 parse-requires c κs = (sized (c .before) .text, le-refl maxLayout)
 
 cast-refused : tie.Need-cast-refused
-cast-refused c = omega (arith, sized (c .before .before .before .before .before .before) .text, refused-inside false _ _ _ (parsed-refused _ _ _ _ _ (c .before .before .before .before .parse .ensures) (c .before .p .given .1)))
+cast-refused c =
+    let earlier = c .before .before .before .before .before .before in
+    omega (arith, sized earlier .text, refused-inside false _ _ _ (parsed-refused _ _ _ _ _ (c .before .before .before .before .parse .ensures) (c .before .p .given .1)))
 
 read-requires : tie.Need-read-requires
-read-requires c κs = ready _ _ _ _ _ (sized (c .before .before .before .before .before .before .before .before .before)) (parsed-fields _ _ _ _ _ (c .before .before .before .before .before .before .before .parse .ensures) (c .before .before .before .before .p2 .given .1))
+read-requires c κs =
+    let at-parse = c .before .before .before .before .before .before .before in
+    ready _ _ _ _ _ (sized (at-parse .before .before)) (parsed-fields _ _ _ _ _ (at-parse .parse .ensures) (c .before .before .before .before .p2 .given .1))
 
 returns-2 : tie.Need-returns-2
-returns-2 c = read-refused _ _ _ _ _ (parse-refuses _ _ _ _ _ (sized (c .before .before .before .before .before .before .before)) (parsed-refused _ _ _ _ _ (c .before .before .before .before .before .parse .ensures) (c .before .before .p .given .1))) (c .refused2 .ensures)
+returns-2 c =
+    let earlier = c .before .before .before .before .before .before .before in
+    read-refused _ _ _ _ _ (parse-refuses _ _ _ _ _ (sized earlier) (parsed-refused _ _ _ _ _
+    (c .before .before .before .before .before .parse .ensures) (c .before .before .p .given .1)))
+    (c .refused2 .ensures)
 
 returns-3 : tie.Need-returns-3
-returns-3 c = codes-read _ _ _ _ _ (sized (c .before .before .before .before .before .before .before .before .before .before .before .before .before .before)) (parsed-fields _ _ _ _ _ (c .before .before .before .before .before .before .before .before .before .before .before .before .parse .ensures) (c .before .before .before .before .before .before .before .before .before .p2 .given .1)) (c .before .before .before .before .read .ensures)
+returns-3 c =
+    let at-p2 = c .before .before .before .before .before .before .before .before .before in
+    codes-read _ _ _ _ _ (sized (at-p2 .before .before .before .before .before)) (parsed-fields _ _ _ _ _
+    (at-p2 .before .before .before .parse .ensures) (at-p2 .p2 .given .1))
+    (c .before .before .before .before .read .ensures)
 
 pub read-spec : {M : Type 1} → statement M
 read-spec =

@@ -14,7 +14,9 @@ use borrow.Author.Needs.{needs}
 use Rattle.reader.proofs.read_short.Statement.{statement}
 use Rattle.reader.proofs.read_short.Tie as tie
 
-sized : (c : tie.Else2) → Fit (length (c .before .before .before .before .before .before .before .args .layout .now)) (length (c .before .before .before .before .before .before .before .args .slots .now)) (length (c .before .before .before .before .before .before .before .args .bytes .now)) (length (c .before .before .before .before .before .before .before .args .area .now)) (c .before .before .before .before .before .before .before .args .mark)
+sized : (c : tie.Else2)
+    → let start = c .before .before .before .before .before .before .before in
+    Fit (length (start .args .layout .now)) (length (start .args .slots .now)) (length (start .args .bytes .now)) (length (start .args .area .now)) (start .args .mark)
 sized c = fit (sym (c .before .sizes-fit .ensures) ∙ not-false _ (c .if2 .left))
 
 returns : tie.Need-returns
@@ -27,7 +29,9 @@ parse-requires : tie.Need-parse-requires
 parse-requires c κs = (omega (arith, c .before .before .before .if1 .left), search needs)
 
 cast-refused : tie.Need-cast-refused
-cast-refused c = omega (arith, sized (c .before .before .before .before .before .before) .text, refused-inside false _ _ _ (parsed-refused _ _ _ _ _ (c .before .before .before .before .parse .ensures) (c .before .p .given .1)))
+cast-refused c =
+    let earlier = c .before .before .before .before .before .before in
+    omega (arith, sized earlier .text, refused-inside false _ _ _ (parsed-refused _ _ _ _ _ (c .before .before .before .before .parse .ensures) (c .before .p .given .1)))
 
 sub-surely-read : tie.Need-sub-surely-read
 sub-surely-read c = omega (arith, sized (c .before .before .before .before .before .before .before) .start)
@@ -39,24 +43,37 @@ surely-read-requires c κs =
 
 fill-requires : tie.Need-fill-requires
 fill-requires c κs =
-    let k = sized (c .before .before .before .before .before .before .before .before .before .before .before .before) in
-    let l = parsed-fields _ _ _ _ _ (c .before .before .before .before .before .before .before .before .before .before .parse .ensures) (c .before .before .before .before .before .before .before .p2 .given .1) in
+    let at-p2 = c .before .before .before .before .before .before .before in
+    let k = sized (at-p2 .before .before .before .before .before) in
+    let l = parsed-fields _ _ _ _ _ (at-p2 .before .before .before .parse .ensures) (at-p2 .p2 .given .1) in
     ((l .few, l .room, k .whole), surely-room (ready _ _ _ _ _ k l) (sym (c .before .before .before .before .surely-read .ensures) ∙ c .before .before .before .if3 .taken))
 
 returns-3 : tie.Need-returns-3
 returns-3 c =
-    let k = sized (c .before .before .before .before .before .before .before .before .before .before .before .before .before .before .before .before .before) in
-    let l = parsed-fields _ _ _ _ _ (c .before .before .before .before .before .before .before .before .before .before .before .before .before .before .before .parse .ensures) (c .before .before .before .before .before .before .before .before .before .before .before .before .p2 .given .1) in
-    codes-read _ _ _ _ _ k l (surely-put (ready _ _ _ _ _ k l) (sym (c .before .before .before .before .before .before .before .before .before .surely-read .ensures) ∙ c .before .before .before .before .before .before .before .before .if3 .taken) (c .before .before .before .before .fill .ensures))
+    let at-if3 = c .before .before .before .before .before .before .before .before in
+    let at-parse = at-if3 .before .before .before .before .before .before .before in
+    let k = sized (at-parse .before .before) in
+    let l = parsed-fields _ _ _ _ _ (at-parse .parse .ensures) (at-if3 .before .before .before .before .p2 .given .1) in
+    codes-read _ _ _ _ _ k l (surely-put (ready _ _ _ _ _ k l) (sym (at-if3 .before .surely-read .ensures) ∙ at-if3 .if3 .taken) (c .before .before .before .before .fill .ensures))
 
 read-requires-2 : tie.Need-read-requires-2
-read-requires-2 c κs = ready _ _ _ _ _ (sized (c .before .before .before .before .before .before .before .before .before .before .before .before)) (parsed-fields _ _ _ _ _ (c .before .before .before .before .before .before .before .before .before .before .parse .ensures) (c .before .before .before .before .before .before .before .p2 .given .1))
+read-requires-2 c κs =
+    let at-p2 = c .before .before .before .before .before .before .before in
+    ready _ _ _ _ _ (sized (at-p2 .before .before .before .before .before)) (parsed-fields _ _ _ _ _ (at-p2 .before .before .before .parse .ensures) (at-p2 .p2 .given .1))
 
 returns-4 : tie.Need-returns-4
-returns-4 c = read-refused _ _ _ _ _ (parse-refuses _ _ _ _ _ (sized (c .before .before .before .before .before .before .before)) (parsed-refused _ _ _ _ _ (c .before .before .before .before .before .parse .ensures) (c .before .before .p .given .1))) (c .refused2 .ensures)
+returns-4 c =
+    let earlier = c .before .before .before .before .before .before .before in
+    read-refused _ _ _ _ _ (parse-refuses _ _ _ _ _ (sized earlier) (parsed-refused _ _ _ _ _
+    (c .before .before .before .before .before .parse .ensures) (c .before .before .p .given .1)))
+    (c .refused2 .ensures)
 
 returns-5 : tie.Need-returns-5
-returns-5 c = codes-read _ _ _ _ _ (sized (c .before .before .before .before .before .before .before .before .before .before .before .before .before .before .before .before .before)) (parsed-fields _ _ _ _ _ (c .before .before .before .before .before .before .before .before .before .before .before .before .before .before .before .parse .ensures) (c .before .before .before .before .before .before .before .before .before .before .before .before .p2 .given .1)) (c .before .before .before .before .read2 .ensures)
+returns-5 c =
+    let at-p2 = c .before .before .before .before .before .before .before .before .before .before .before .before in
+    codes-read _ _ _ _ _ (sized (at-p2 .before .before .before .before .before)) (parsed-fields _ _ _ _ _
+    (at-p2 .before .before .before .parse .ensures) (at-p2 .p2 .given .1))
+    (c .before .before .before .before .read2 .ensures)
 
 pub read-short-spec : {M : Type 1} → statement M
 read-short-spec =

@@ -38,17 +38,19 @@ sub-left c = c .before .before .before .before .loop .inv .1 .ran .inside
 items-requires : tie.Need-items-requires Inv-loop μ-loop
 items-requires c κs =
     let l = c .before .before .before .before in
-    (omega (arith, l .loop .inv .1 .ran .size, l .before .before .before .before .before .before .pre .0 .2), c .before .if1 .left)
+    let start = l .before .before .before .before .before .before in
+    (omega (arith, l .loop .inv .1 .ran .size, start .pre .0 .2), c .before .if1 .left)
 
 bytes-numbered-requires : tie.Need-bytes-numbered-requires Inv-loop μ-loop
 bytes-numbered-requires c κs = (omega (arith, c .items .ensures .1), c .before .before .if1 .left)
 
 answer-requires : tie.Need-answer-requires Inv-loop μ-loop
 answer-requires c κs =
-    let l = c .before .before .before .before .before .before .before in
+    let at-loop-test = c .before .before .before .before .before .before in
+    let l = at-loop-test .before in
     let start = l .before .before .before .before .before .before in
     let b = written-bounds (start .pre .1) (l .loop .inv .1) in
-    (b .0, b .1, omega (arith, c .before .before .before .before .before .before .loop-test .taken, start .pre .0 .0, start .pre .0 .1))
+    (b .0, b .1, omega (arith, at-loop-test .loop-test .taken, start .pre .0 .0, start .pre .0 .1))
 
 same-length : tie.Need-same-length Inv-loop μ-loop
 same-length c = c .before .before .before .before .before .before .before .before .loop .inv .1 .rows
@@ -58,10 +60,13 @@ same-length-2 c = c .before .before .before .before .before .before .before .bef
 
 returns : tie.Need-returns Inv-loop μ-loop
 returns c =
-    let l = c .before .before .before .before .before .before .before .before in
+    let at-loop-test = c .before .before .before .before .before .before .before in
+    let l = at-loop-test .before in
     let start = l .before .before .before .before .before .before in
     let m = l .loop .inv .1 in
-    written-done (start .pre .1) m (ran-short _ _ (start .pre .0 .0) (m .ran) (c .before .before .before .before .before .before .before .loop-test .taken) (c .before .before .before .before .before .if1 .left) (c .before .before .before .items .ensures .0) (c .before .before .bytes-numbered .ensures) (c .before .if2 .taken)) (c .answer .ensures)
+    written-done (start .pre .1) m (ran-short _ _ (start .pre .0 .0) (m .ran) (at-loop-test .loop-test .taken)
+    (c .before .before .before .before .before .if1 .left) (c .before .before .before .items .ensures .0)
+    (c .before .before .bytes-numbered .ensures) (c .before .if2 .taken)) (c .answer .ensures)
 
 load-requires : tie.Need-load-requires Inv-loop μ-loop
 load-requires c κs =
@@ -71,15 +76,16 @@ load-requires c κs =
 
 put-requires : tie.Need-put-requires Inv-loop μ-loop
 put-requires c κs =
-    let l = c .before .before .before .before .before .before .before .before .before .before in
+    let at-if1 = c .before .before .before .before .before .before .before in
+    let l = at-if1 .before .before .before in
     let start = l .before .before .before .before .before .before in
     let m = l .loop .inv .1 in
-    let slot = c .before .before .before .before .before .before .before .if1 .left in
+    let slot = at-if1 .if1 .left in
     let items = c .before .before .before .before .before .items .ensures .0 in
     let bytes = c .before .before .before .before .bytes-numbered .ensures in
     let fits = c .before .before .before .if2 .left in (
-      (slot, found-inside _ _ (start .pre .0 .0) (m .ran) (c .before .before .before .before .before .before .before .before .before .loop-test .taken) slot items bytes fits (start .pre .0 .2)),
-      written-room (start .pre .1) m _ (ran-found _ _ (start .pre .0 .0) (m .ran) (c .before .before .before .before .before .before .before .before .before .loop-test .taken) slot items bytes fits (c .before .before .load .ensures)),
+      (slot, found-inside _ _ (start .pre .0 .0) (m .ran) (at-if1 .before .before .loop-test .taken) slot items bytes fits (start .pre .0 .2)),
+      written-room (start .pre .1) m _ (ran-found _ _ (start .pre .0 .0) (m .ran) (at-if1 .before .before .loop-test .taken) slot items bytes fits (c .before .before .load .ensures)),
     )
 
 add-set : tie.Need-add-set Inv-loop μ-loop
@@ -89,10 +95,17 @@ add-set c =
 
 loop-again-2 : tie.Need-loop-again-2 Inv-loop μ-loop
 loop-again-2 c =
-    let l = c .before .before .before .before .before .before .before .before .before .before .before .before .before .before .before in
+    let at-load = c .before .before .before .before .before .before .before in
+    let at-loop-test = at-load .before .before .before .before .before .before .before in
+    let l = at-loop-test .before in
     let start = l .before .before .before .before .before .before in
-    let m = l .loop .inv .1 in
-    (omega (arith, c .before .before .before .before .before .before .before .before .before .before .before .before .before .before .loop-test .taken), written-more (start .pre .1) m _ (ran-found _ _ (start .pre .0 .0) (m .ran) (c .before .before .before .before .before .before .before .before .before .before .before .before .before .before .loop-test .taken) (c .before .before .before .before .before .before .before .before .before .before .before .before .if1 .left) (c .before .before .before .before .before .before .before .before .before .before .items .ensures .0) (c .before .before .before .before .before .before .before .before .before .bytes-numbered .ensures) (c .before .before .before .before .before .before .before .before .if2 .left) (c .before .before .before .before .before .before .before .load .ensures)) (c .before .before .before .before .put .ensures))
+    let m = l .loop .inv .1 in (
+      omega (arith, at-loop-test .loop-test .taken),
+      written-more (start .pre .1) m _ (ran-found _ _ (start .pre .0 .0)
+          (m .ran) (at-loop-test .loop-test .taken) (at-load .before .before .before .before .before .if1 .left)
+          (at-load .before .before .before .items .ensures .0) (at-load .before .before .bytes-numbered .ensures)
+          (at-load .before .if2 .left) (at-load .load .ensures)) (c .before .before .before .before .put .ensures),
+    )
 
 answer-requires-2 : tie.Need-answer-requires-2 Inv-loop μ-loop
 answer-requires-2 c κs =

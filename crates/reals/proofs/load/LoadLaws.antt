@@ -27,7 +27,8 @@ by-four r ds below e = sym (mod-eq-of-lt below) ∙ sym (number-digits 256 4 r (
 pub single-low : (p : List ℕ) (big : Bool) (s : ℕ) → s < 4294967296 → digits 256 4 s ≡ ordered false p → big ≡ false → s ≡ number 256 (ordered big p)
 single-low p big s below e little = rw little (by-four s p below e)
 
-pub single-turned : (p : List ℕ) (big : Bool) (s r : ℕ) → digits 256 4 s ≡ ordered false p → numberBytes 4 r ≡ ordered false (digits 256 4 s) → r < 4294967296 → big ≡ true → r ≡ number 256 (ordered big p)
+pub single-turned : (p : List ℕ) (big : Bool) (s r : ℕ) → digits 256 4 s ≡ ordered false p
+    → numberBytes 4 r ≡ ordered false (digits 256 4 s) → r < 4294967296 → big ≡ true → r ≡ number 256 (ordered big p)
 unfolding numberBytes
 single-turned p big s r e er below first = rw first (by-four r (reverse p) below (sym (reverse-reverse (digits 256 4 r)) ∙ ap reverse (er ∙ e)))
 

@@ -23,13 +23,18 @@ returns : tie.Need-returns Inv-loop μ-loop
 returns c =
     let turn = c .before .before .before in
     let a = turn .before .before .before .args in
-    stops-at (a .area .now) (a .start) (a .n) (turn .before .loop .i) (turn .loop-test .taken) (c .before .before .double-at .ensures) (c .before .is-nan .ensures) (c .if1 .taken) ∙ sym (turn .before .loop .inv .1)
+    stops-at (a .area .now) (a .start) (a .n) (turn .before .loop .i) (turn .loop-test .taken)
+    (c .before .before .double-at .ensures) (c .before .is-nan .ensures) (c .if1 .taken)
+    ∙ sym (turn .before .loop .inv .1)
 
 loop-again : tie.Need-loop-again Inv-loop μ-loop
 loop-again c =
     let turn = c .before .before .before in
-    let a = turn .before .before .before .args in
-    (omega arith, turn .before .loop .inv .1 ∙ goes-past (a .area .now) (a .start) (a .n) (turn .before .loop .i) (turn .loop-test .taken) (c .before .before .double-at .ensures) (c .before .is-nan .ensures) (c .if1 .left))
+    let a = turn .before .before .before .args in (
+      omega arith,
+      turn .before .loop .inv .1 ∙ goes-past (a .area .now) (a .start) (a .n) (turn .before .loop .i)
+          (turn .loop-test .taken) (c .before .before .double-at .ensures) (c .before .is-nan .ensures) (c .if1 .left),
+    )
 
 returns-2 : tie.Need-returns-2 Inv-loop μ-loop
 returns-2 c =

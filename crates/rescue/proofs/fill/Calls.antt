@@ -41,7 +41,8 @@ module _ (sheet : List ℕ) (legs : ℕ) (slots area : List ℕ) (mark : ℕ) wh
         unfolding rescue rescues
         rescue-room h = rw (sizes, versions, le-leb legs (length (slotsOf slots)) rows, lt-leb _ _ h)
 
-        pub rescue-put : mark + length (entryValues (keptIn (widthIn sheet) legs sheet)) ≤ length area → keeping sheet legs slots area mark (keptIn (widthIn sheet) legs sheet) ≡ rescue sheet legs slots area mark
+        pub rescue-put : mark + length (entryValues (keptIn (widthIn sheet) legs sheet)) ≤ length area
+            → keeping sheet legs slots area mark (keptIn (widthIn sheet) legs sheet) ≡ rescue sheet legs slots area mark
         unfolding rescue rescues
         rescue-put h = rw (sizes, versions, le-leb legs (length (slotsOf slots)) rows, le-leb _ _ h)
 

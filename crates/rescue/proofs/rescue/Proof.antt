@@ -19,7 +19,9 @@ returns-2 c =
     let named = known .before in
     let sized = named .before in
     let start = sized .before .before .before .before .before in
-    rw (c .refused2 .ensures) (rescue-version _ _ _ _ _ (sym (sized .before .sizes-fit .ensures) ∙ not-false _ (sized .if1 .left)) (known-as (start .args .sheet .now) (named .version-of .ensures) (known .version-known .ensures) (not-true _ (c .before .if2 .taken))))
+    rw (c .refused2 .ensures) (rescue-version _ _ _ _ _ (sym (sized .before .sizes-fit .ensures)
+    ∙ not-false _ (sized .if1 .left)) (known-as (start .args .sheet .now) (named .version-of .ensures)
+    (known .version-known .ensures) (not-true _ (c .before .if2 .taken))))
 
 returns-3 : tie.Need-returns-3
 returns-3 c =
@@ -27,13 +29,18 @@ returns-3 c =
     let named = told .before .before in
     let sized = named .before in
     let start = sized .before .before .before .before .before in
-    rw (c .refused3 .ensures) (rescue-slots _ _ _ _ _ (sym (sized .before .sizes-fit .ensures) ∙ not-false _ (sized .if1 .left)) (known-as (start .args .sheet .now) (named .version-of .ensures) (told .before .version-known .ensures) (not-false _ (told .if2 .left))) (omega (arith, length-slots (start .args .slots .now), c .before .if3 .taken)))
+    rw (c .refused3 .ensures) (rescue-slots _ _ _ _ _ (sym (sized .before .sizes-fit .ensures)
+    ∙ not-false _ (sized .if1 .left)) (known-as (start .args .sheet .now) (named .version-of .ensures)
+    (told .before .version-known .ensures) (not-false _ (told .if2 .left)))
+    (omega (arith, length-slots (start .args .slots .now), c .before .if3 .taken)))
 
 has-header-requires : tie.Need-has-header-requires
 has-header-requires c κs = omega (arith, c .width-of .ensures .1)
 
 -- what was tested before the header is
-ready : (c : tie.After-width-of) → RescueReady (c .before .before .before .before .before .before .before .before .before .before .args .sheet .now) (c .before .before .before .before .before .before .before .before .before .before .args .legs) (c .before .before .before .before .before .before .before .before .before .before .args .slots .now) (c .before .before .before .before .before .before .before .before .before .before .args .area .now) (c .before .before .before .before .before .before .before .before .before .before .args .mark)
+ready : (c : tie.After-width-of)
+    → let start = c .before .before .before .before .before .before .before .before .before .before in
+    RescueReady (start .args .sheet .now) (start .args .legs) (start .args .slots .now) (start .args .area .now) (start .args .mark)
 ready c =
     let told = c .before .before in
     let named = told .before .before in
@@ -59,8 +66,14 @@ rescue-entries-requires c κs =
     let wide = tested .before .before in
     let named = wide .before .before .before .before in
     let start = named .before .before .before .before .before .before in
-    let width = wide .width-of .ensures in
-    (ready wide, width-as (start .args .sheet .now) (named .version-of .ensures) (width .0), width .1, a-header (start .args .sheet .now) (named .version-of .ensures) (width .0) (tested .before .has-header .ensures) (not-false _ (tested .if4 .left)))
+    let width = wide .width-of .ensures in (
+      ready wide,
+      width-as (start .args .sheet .now) (named .version-of .ensures) (width .0),
+      width .1,
+      a-header
+          (start .args .sheet .now) (named .version-of .ensures) (width .0) (tested .before .has-header .ensures)
+          (not-false _ (tested .if4 .left)),
+    )
 
 pub rescue-spec : {M : Type 1} → statement M
 rescue-spec =

@@ -149,7 +149,9 @@ module _ {w : ℕ} {sheet : List ℕ} {most : ℕ} {slots₀ area₀ : List ℕ}
         let bytes : entryValues after ≡ entryValues (f .es) ++ e .value = values-more (f .es) e in
         let table : slots′ ≡ storeAt slots₀ 0 (entriesNumbers mark after) =
         p .table ∙ ap (λ (s : List ℕ). storeAt s (slotWidth * set) (entryNumbers place e)) (f .table)
-        ∙ store-next slots₀ 0 (entriesNumbers mark (f .es)) (entryNumbers place e) (slotWidth * set) (omega (arith, len₀, f .count)) (omega (arith, len, sum, fits .0, all .rows)) ∙ ap (storeAt slots₀ 0) (sym numbers) in
+        ∙ store-next slots₀ 0 (entriesNumbers mark (f .es)) (entryNumbers place e) (slotWidth * set)
+        (omega (arith, len₀, f .count)) (omega (arith, len, sum, fits .0, all .rows))
+        ∙ ap (storeAt slots₀ 0) (sym numbers) in
         let values : area′ ≡ storeAt area₀ mark (entryValues after) =
         p .values ∙ ap (λ (s : List ℕ). storeAt s place (e .value)) (f .values)
         ∙ store-next area₀ mark (entryValues (f .es)) (e .value) place (f .next) (omega (arith, grown, fits .1, all .room)) ∙ ap (storeAt area₀ mark) (sym bytes) in

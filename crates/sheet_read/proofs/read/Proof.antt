@@ -16,7 +16,9 @@ returns-2 c =
     let known = c .before .before in
     let named = known .before in
     let sized = named .before in
-    rw (c .refused2 .ensures) (unknown _ _ _ _ (sym (sized .before .lent-fits .ensures) ∙ not-false _ (sized .if1 .left)) (named .version-of .ensures) (known .version-known .ensures) (not-true _ (c .before .if2 .taken)))
+    rw (c .refused2 .ensures) (unknown _ _ _ _ (sym (sized .before .lent-fits .ensures)
+    ∙ not-false _ (sized .if1 .left)) (named .version-of .ensures) (known .version-known .ensures)
+    (not-true _ (c .before .if2 .taken)))
 
 header-fits-requires : tie.Need-header-fits-requires
 header-fits-requires c κs = omega (arith, c .width-of .ensures .1)
@@ -28,7 +30,10 @@ returns-3 c =
     let known = wide .before .before in
     let named = known .before in
     let sized = named .before in
-    rw (c .refused3 .ensures) (bad-header _ _ _ _ (sym (sized .before .lent-fits .ensures) ∙ not-false _ (sized .if1 .left)) (named .version-of .ensures) (known .version-known .ensures) (not-false _ (wide .before .if2 .left)) (wide .width-of .ensures) (headed .header-fits .ensures) (not-true _ (c .before .if3 .taken)))
+    rw (c .refused3 .ensures) (bad-header _ _ _ _ (sym (sized .before .lent-fits .ensures)
+    ∙ not-false _ (sized .if1 .left)) (named .version-of .ensures) (known .version-known .ensures)
+    (not-false _ (wide .before .if2 .left)) (wide .width-of .ensures) (headed .header-fits .ensures)
+    (not-true _ (c .before .if3 .taken)))
 
 read-entries-requires : tie.Need-read-entries-requires
 read-entries-requires c κs =
@@ -37,7 +42,9 @@ read-entries-requires c κs =
     let known = wide .before .before in
     let named = known .before in
     let sized = named .before in
-    opened-as _ _ _ _ (sym (sized .before .lent-fits .ensures) ∙ not-false _ (sized .if1 .left)) (named .version-of .ensures) (known .version-known .ensures) (not-false _ (wide .before .if2 .left)) (wide .width-of .ensures) (headed .header-fits .ensures) (not-false _ (c .before .before .if3 .left))
+    opened-as _ _ _ _ (sym (sized .before .lent-fits .ensures) ∙ not-false _ (sized .if1 .left))
+    (named .version-of .ensures) (known .version-known .ensures) (not-false _ (wide .before .if2 .left))
+    (wide .width-of .ensures) (headed .header-fits .ensures) (not-false _ (c .before .before .if3 .left))
 
 pub read-spec : {M : Type 1} → statement M
 read-spec =

@@ -30,14 +30,17 @@ returns-2 : tie.Need-returns-2
 returns-2 c =
     let asked = c .before .before in
     let measured = asked .before .before .before in
-    rw (c .refused2 .ensures) (needless (measured .before .before .before .before .pre) (measured .measure .ensures) (asked .before .if1 .left) (asked .version-needed .ensures) (not-true _ (c .before .if2 .taken)))
+    rw (c .refused2 .ensures) (needless (measured .before .before .before .before .pre) (measured .measure .ensures)
+    (asked .before .if1 .left) (asked .version-needed .ensures) (not-true _ (c .before .if2 .taken)))
 
 returns-3 : tie.Need-returns-3
 returns-3 c =
     let ruled = c .before .before .before in
     let asked = ruled .before in
     let measured = asked .before .before .before in
-    rw (c .refused3 .ensures) (few-slots (measured .before .before .before .before .pre) (measured .measure .ensures) (asked .before .if1 .left) (asked .version-needed .ensures) (not-false _ (ruled .if2 .left)) (c .before .if3 .taken))
+    rw (c .refused3 .ensures) (few-slots (measured .before .before .before .before .pre) (measured .measure .ensures)
+    (asked .before .if1 .left) (asked .version-needed .ensures) (not-false _ (ruled .if2 .left))
+    (c .before .if3 .taken))
 
 sub-if4 : tie.Need-sub-if4
 sub-if4 c =
@@ -51,7 +54,8 @@ returns-4 c =
     let asked = ruled .before in
     let measured = asked .before .before .before in
     let o = measured .before .before .before .before .pre in
-    rw (c .refused4 .ensures) (no-room o (measured .measure .ensures) (asked .before .if1 .left) (asked .version-needed .ensures) (not-false _ (ruled .if2 .left)) (enough .if3 .left) (c .before .if4 .taken))
+    rw (c .refused4 .ensures) (no-room o (measured .measure .ensures) (asked .before .if1 .left)
+    (asked .version-needed .ensures) (not-false _ (ruled .if2 .left)) (enough .if3 .left) (c .before .if4 .taken))
 
 fill-requires : tie.Need-fill-requires
 fill-requires c κs =
@@ -59,8 +63,12 @@ fill-requires c κs =
     let ruled = enough .before .before in
     let asked = ruled .before in
     let measured = asked .before .before .before in
-    let o = measured .before .before .before .before .pre in
-    ((o .narrow, has-header o, all-found o (measured .measure .ensures)), has-room o (measured .measure .ensures) (asked .before .if1 .left) (asked .version-needed .ensures) (not-false _ (ruled .if2 .left)) (enough .if3 .left) (c .before .before .if4 .left))
+    let o = measured .before .before .before .before .pre in (
+      (o .narrow, has-header o, all-found o (measured .measure .ensures)),
+      has-room o (measured .measure .ensures)
+          (asked .before .if1 .left) (asked .version-needed .ensures) (not-false _ (ruled .if2 .left)) (enough .if3 .left)
+          (c .before .before .if4 .left),
+    )
 
 returns-5 : tie.Need-returns-5
 returns-5 c =
@@ -70,7 +78,9 @@ returns-5 c =
     let asked = ruled .before in
     let measured = asked .before .before .before in
     let o = measured .before .before .before .before .pre in
-    all-put o (measured .measure .ensures) (asked .before .if1 .left) (asked .version-needed .ensures) (not-false _ (ruled .if2 .left)) (enough .if3 .left) (filled .before .before .before .if4 .left) (filled .fill .ensures)
+    all-put o (measured .measure .ensures) (asked .before .if1 .left) (asked .version-needed .ensures)
+    (not-false _ (ruled .if2 .left)) (enough .if3 .left) (filled .before .before .before .if4 .left)
+    (filled .fill .ensures)
 
 pub read-entries-spec : {M : Type 1} → statement M
 read-entries-spec =

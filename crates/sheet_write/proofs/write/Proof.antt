@@ -13,7 +13,9 @@ use borrow.Author.Needs.{needs}
 use Rattle.sheet_write.proofs.write.Statement.{statement}
 use Rattle.sheet_write.proofs.write.Tie as tie
 
-bad : (c : tie.After-known-told) → (slotsWritable (c .before .before .before .before .before .before .before .before .before .args .area .now) 0 (slotsOf (c .before .before .before .before .before .before .before .before .before .args .slots .now)) ≡ refused BadSlot (c .before .m .given .0 .0)) × (c .before .m .given .0 .0 ≤ 64)
+bad : (c : tie.After-known-told)
+    → let start = c .before .before .before .before .before .before .before .before .before in
+    (slotsWritable (start .args .area .now) 0 (slotsOf (start .args .slots .now)) ≡ refused BadSlot (c .before .m .given .0 .0)) × (c .before .m .given .0 .0 ≤ 64)
 bad c = rw (c .before .m .given .1) at (c .before .before .before .measure .ensures)
 
 returns : tie.Need-returns
@@ -21,7 +23,10 @@ returns c = rw (c .refused .ensures) (write-sizes _ _ _ (sym (c .before .before 
 
 measure-requires : tie.Need-measure-requires
 measure-requires c κs =
-    let l = lengths (length (c .before .before .before .before .before .args .slots .now)) (length (c .before .before .before .before .before .args .area .now)) (length (c .before .before .before .before .before .args .sheet .now)) (sym (c .before .lengths-fit .ensures) ∙ not-false _ (c .if1 .left)) in
+    let l = lengths (length (c .before .before .before .before .before .args .slots .now))
+    (length (c .before .before .before .before .before .args .area .now))
+    (length (c .before .before .before .before .before .args .sheet .now)) (sym (c .before .lengths-fit .ensures)
+    ∙ not-false _ (c .if1 .left)) in
     (l .table, l .limit)
 
 cast-refused : tie.Need-cast-refused
@@ -34,7 +39,9 @@ write-sheet-requires c κs =
     record { sizes = sym (measured .before .before .lengths-fit .ensures) ∙ not-false _ (measured .before .if1 .left); measured = rw (told .before .m2 .given .1) at (measured .measure .ensures) }
 
 returns-2 : tie.Need-returns-2
-returns-2 c = rw (c .refused2 .ensures) (write-bad _ _ _ (sym (c .before .before .before .before .before .before .lengths-fit .ensures) ∙ not-false _ (c .before .before .before .before .before .if1 .left)) _ _ (bad (c .before) .0))
+returns-2 c =
+    let at-lengths-fit = c .before .before .before .before .before .before in
+    rw (c .refused2 .ensures) (write-bad _ _ _ (sym (at-lengths-fit .lengths-fit .ensures) ∙ not-false _ (c .before .before .before .before .before .if1 .left)) _ _ (bad (c .before) .0))
 
 pub write-spec : {M : Type 1} → statement M
 write-spec =

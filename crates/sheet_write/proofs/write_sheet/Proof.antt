@@ -18,15 +18,23 @@ returns c =
     let sized = c .before .before in
     let chosen = sized .before .before in
     let start = chosen .before .before .before .before in
-    rw (c .refused .ensures) (write-full _ _ _ (start .pre .sizes) (start .pre .measured .0) (omega (arith, c .before .if1 .taken, is-long (start .pre) (chosen .version-for .ensures) (sized .length-in .ensures))))
+    rw (c .refused .ensures) (write-full _ _ _ (start .pre .sizes) (start .pre .measured .0)
+    (omega (
+      arith,
+      c .before .if1 .taken,
+      is-long (start .pre) (chosen .version-for .ensures)
+          (sized .length-in .ensures),
+    )))
 
 fill-requires : tie.Need-fill-requires
 fill-requires c κs =
     let sized = c .before .before in
     let chosen = sized .before .before in
     let start = chosen .before .before .before .before in
-    let wide = sized .before .width-of .ensures .0 in
-    (has-room (start .pre) (chosen .version-for .ensures) (sized .length-in .ensures) wide (c .before .if1 .left), body-size (start .pre) (chosen .version-for .ensures) (sized .length-in .ensures) wide)
+    let wide = sized .before .width-of .ensures .0 in (
+      has-room (start .pre) (chosen .version-for .ensures) (sized .length-in .ensures) wide (c .before .if1 .left),
+      body-size (start .pre) (chosen .version-for .ensures) (sized .length-in .ensures) wide,
+    )
 
 cast-accepted : tie.Need-cast-accepted
 cast-accepted c =

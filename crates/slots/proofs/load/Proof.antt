@@ -180,7 +180,9 @@ module _ {M : Type 1} (𝓤 : URA M) (H : Heap 𝓤) (A : Atoms 𝓤) (W : Given
   abbrev Lent : ℕ → GName → ℕ → ℕ → Fml
   Lent ν δ i k = MutSlice (named 0) (ν ∷ []) u32 .own (x₁ δ (done-at i)) (sliceVal (b, o) k ∷ [])
 
-  asked : (ν : ℕ) (δ : GName) (i : ℕ) → i * slotWidth < 2 ^ 64 → Is R (slotOf ys i) (mach i ∷ []) → i * slotWidth + slotWidth ≤ length (done-at i) → ent 𝓤 (sep 𝓤 (A .lft (ν ∷ []) fullShare) (sem 𝓤 H A (Lent ν δ i m))) (PutSlot 𝓤 H A mem run .pre (to ν δ i))
+  asked : (ν : ℕ) (δ : GName) (i : ℕ) → i * slotWidth < 2 ^ 64 → Is R (slotOf ys i) (mach i ∷ [])
+      → i * slotWidth + slotWidth ≤ length (done-at i)
+      → ent 𝓤 (sep 𝓤 (A .lft (ν ∷ []) fullShare) (sem 𝓤 H A (Lent ν δ i m))) (PutSlot 𝓤 H A mem run .pre (to ν δ i))
   asked ν δ i fits is within =
       qed W (‵ (flft (ν ∷ []) fullShare) ∷ ‵ (Lent ν δ i m) ∷ []) ∵ says ! within $ nothing ! $ move ! (1 ∷ 0 ∷ []) $ join ! $ frame ! $
       nothing ! $ owned ! R (Is R) (LL.makes T.the-type T′.the-plain 𝓤 H A) (slotOf ys i) _ is $ fjoin ! $ owned ! usize (Is usize) (uint-makes 𝓤 H A W w64) (i * slotWidth) _ (refl, fits) $ fjoin ! $ move ! (1 ∷ 0 ∷ []) $ fjoin ! $ done !
@@ -206,12 +208,20 @@ module _ {M : Type 1} (𝓤 : URA M) (H : Heap 𝓤) (A : Atoms 𝓤) (W : Given
     Λ = 𝓣 .Λ
 
     abbrev E : Env 𝓤 H
-    E = (word, l₀) ∷ (slots, l₁) ∷ (nums, l₂) ∷ (word, l₃) ∷ (word, l₄) ∷ (word, l₅) ∷ (tyBool, l₆) ∷ (tyUnit, l₇) ∷ (lent, l₈) ∷ (sliceTy lent, l₉) ∷ (word, l₁₀) ∷ (word, l₁₁) ∷ (tyPtr, l₁₂) ∷ (T′.mir, l₁₃) ∷ []
+    E =
+        (word, l₀) ∷ (slots, l₁) ∷ (nums, l₂) ∷ (word, l₃) ∷ (word, l₄) ∷ (word, l₅) ∷ (tyBool, l₆) ∷ (tyUnit, l₇)
+        ∷ (lent, l₈) ∷ (sliceTy lent, l₉) ∷ (word, l₁₀) ∷ (word, l₁₁) ∷ (tyPtr, l₁₂) ∷ (T′.mir, l₁₃) ∷ []
 
     abbrev At : Upto → List (Item 𝓤)
     At i = ‵ (row R q′ ys (x .ptr .0) (x .ptr .1)) ∷ ‵ (fobor κ q (arr-parts (shares R) n .part q′ ys (x .ptr .0) (x .ptr .1))) ∷ ‵ (flft κ₁ q₁) ∷ ‵ (Own₁ (done-at (i .0)) m)
-        ∷ ‵ (froom T′.mir l₁₃ 0) ∷ ‵ (fdies T′.mir l₁₃) ∷ ‵ (froom tyPtr l₁₂ 0) ∷ ‵ (fdies tyPtr l₁₂) ∷ ‵ (froom word l₁₁ 0) ∷ ‵ (fdies word l₁₁) ∷ ‵ (froom word l₁₀ 0) ∷ ‵ (fdies word l₁₀) ∷ ‵ (froom (sliceTy lent) l₉ 0) ∷ ‵ (fdies (sliceTy lent) l₉) ∷ ‵ (froom lent l₈ 0) ∷ ‵ (fdies lent l₈) ∷ ‵ (froom tyUnit l₇ 0) ∷ ‵ (fdies tyUnit l₇) ∷ ‵ (froom tyBool l₆ 0) ∷ ‵ (fdies tyBool l₆)
-        ∷ ‵ (froom word l₅ 0) ∷ ‵ (fdies word l₅) ∷ ‵ (fat fullShare word l₄ 0 (vint w64 (i .0))) ∷ ‵ (fdies word l₄) ∷ ‵ (fat fullShare word l₃ 0 (vint w64 c)) ∷ ‵ (fdies word l₃) ∷ ‵ (fat fullShare nums l₂ 0 v₁) ∷ ‵ (fdies nums l₂) ∷ ‵ (fat fullShare slots l₁ 0 v₀) ∷ ‵ (fdies slots l₁) ∷ ‵ (froom word l₀ 0) ∷ ‵ (fdies word l₀) ∷ []
+        ∷ ‵ (froom T′.mir l₁₃ 0) ∷ ‵ (fdies T′.mir l₁₃) ∷ ‵ (froom tyPtr l₁₂ 0) ∷ ‵ (fdies tyPtr l₁₂) ∷ ‵
+        (froom word l₁₁ 0) ∷ ‵ (fdies word l₁₁) ∷ ‵ (froom word l₁₀ 0) ∷ ‵ (fdies word l₁₀) ∷ ‵
+        (froom (sliceTy lent) l₉ 0) ∷ ‵ (fdies (sliceTy lent) l₉) ∷ ‵ (froom lent l₈ 0) ∷ ‵ (fdies lent l₈) ∷ ‵
+        (froom tyUnit l₇ 0) ∷ ‵ (fdies tyUnit l₇) ∷ ‵ (froom tyBool l₆ 0) ∷ ‵ (fdies tyBool l₆)
+        ∷ ‵ (froom word l₅ 0) ∷ ‵ (fdies word l₅) ∷ ‵ (fat fullShare word l₄ 0 (vint w64 (i .0))) ∷ ‵ (fdies word l₄)
+        ∷ ‵ (fat fullShare word l₃ 0 (vint w64 c)) ∷ ‵ (fdies word l₃) ∷ ‵ (fat fullShare nums l₂ 0 v₁) ∷ ‵
+        (fdies nums l₂) ∷ ‵ (fat fullShare slots l₁ 0 v₀) ∷ ‵ (fdies slots l₁) ∷ ‵ (froom word l₀ 0) ∷ ‵
+        (fdies word l₀) ∷ []
 
     abbrev Turned : Upto → Out → SProp 𝓤
     Turned i = afterTurn 𝓤 H (Below 𝓤 H A Nearer At i) (afterBlock 𝓤 H (afterSeq 𝓤 H (Wp 𝓤 H C Λ E mir.t-5 (atReturn 𝓤 H E Post)) (atReturn 𝓤 H E Post)))
@@ -236,7 +246,9 @@ module _ {M : Type 1} (𝓤 : URA M) (H : Heap 𝓤) (A : Atoms 𝓤) (W : Given
         rewrite ! 3 (λ (k : ℕ). ‵ (Own₁ (done-at (i .0)) k)) (sym (length-loaded ys ms (i .0))) refl $ lft-new ! tt (λ ν. move ! (4 ∷ 3 ∷ []) $
         use2 W (later (some (λ (δ : GName). ‵ (Lent ν δ (i .0) (length (done-at (i .0)))) ⊛ ‵ (LentAgain u32 κ₁ (ν ∷ []) q₁ γ b o δ (done-at (i .0)))))) (lends-again u32 κ₁ (ν ∷ []) q₁ γ b o 𝓤 H A W (named 1) (named 0) (done-at (i .0))) $ await ! tt $ pick ! (λ δ. split ! $
         rewrite ! 0 (λ (k : ℕ). ‵ (Lent ν δ (i .0) k)) (length-loaded ys ms (i .0)) refl $ move ! (2 ∷ 0 ∷ []) $
-        use2 W (raw (PutSlot 𝓤 H A mem run .pre (to ν δ (i .0)))) (asked ν δ (i .0) (place-fits (i .0) n (inside i e) (gn .1)) is (subst (λ (k : ℕ). i .0 * slotWidth + slotWidth ≤ k) (sym (length-loaded ys ms (i .0))) (slot-more (i .0) c m (held (i .0) c e) room))) $
+        use2 W (raw (PutSlot 𝓤 H A mem run .pre (to ν δ (i .0)))) (asked ν δ (i .0) (place-fits (i .0) n (inside i e)
+        (gn .1)) is (subst (λ (k : ℕ). i .0 * slotWidth + slotWidth ≤ k) (sym (length-loaded ys ms (i .0)))
+        (slot-more (i .0) c m (held (i .0) c e) room))) $
         -- [what the callee asks; what is kept meanwhile; the row; the open borrow; _11; …]
         calls-at ! (fmOf 𝓤 H (W .laws) 𝓣) (PutSlot 𝓤 H A mem run) known (to ν δ (i .0)) (and-then ! (load ! (from ! (stop !)) (look ! 12 refl)) (and-then ! (load ! (from ! (stop !)) (look ! 10 refl)) (and-then ! (load ! (from ! (stop !)) (look ! 4 refl)) (no-more !)))) (λ u.
         use1 W (later (some (λ (r : Unit {0}). ((‵ (flft (ν ∷ []) fullShare) ⊛ ‵ ftrue) ⊛ ‵ (unit .own r (u ∷ []))) ⊛ raw (ensured 𝓤 H A put-slot.ended (put-slot.clauses 𝓤 H A mem run) (ν ∷ [], tt) (args δ (i .0)) tt r)))) (id⊢ 𝓤 _) $ await ! tt $ pick ! (λ r.
@@ -265,7 +277,10 @@ module _ {M : Type 1} (𝓤 : URA M) (H : Heap 𝓤) (A : Atoms 𝓤) (W : Given
     turns : (i : Upto) → Sq W (At i) (runs C Λ E mir.turn-1 (anyQ (Turned i)))
     turns i = turned i (ltb (i .0) c) refl
 
-  walk : (𝓣 : Tables 𝓤 H) → Triple 𝓤 (𝓣 .C #slots·taken) (Taken 𝓤 H A mem run) → Triple 𝓤 (𝓣 .C #slots·put-slot) (PutSlot 𝓤 H A mem run) → ent 𝓤 (onEntry 𝓤 H A load′.signature (κ, (κ₁, tt)) (q, (q₁, tt)) (x, (x₁ γ ms, tt)) at) (WpFn 𝓤 H (𝓣 .C) (𝓣 .Λ) code.function (v₀ ∷ v₁ ∷ []) Post)
+  walk : (𝓣 : Tables 𝓤 H) → Triple 𝓤 (𝓣 .C #slots·taken) (Taken 𝓤 H A mem run)
+      → Triple 𝓤 (𝓣 .C #slots·put-slot) (PutSlot 𝓤 H A mem run)
+      → ent 𝓤 (onEntry 𝓤 H A load′.signature (κ, (κ₁, tt)) (q, (q₁, tt)) (x, (x₁ γ ms, tt)) at) (WpFn 𝓤 H (𝓣 .C) (𝓣 .Λ)
+      code.function (v₀ ∷ v₁ ∷ []) Post)
   walk 𝓣 known-taken known =
       qed W ((‵ (flft κ q) ⊛ (‵ (flft κ₁ q₁) ⊛ ‵ ftrue)) ∷ ‵ (owns (ShrSlice (named 0) κ R ∷ MutSlice (named 1) κ₁ u32 ∷ []) (x, (x₁ γ ms, tt)) at) ∷ []) ∵ enter ! (𝓣 .C) (𝓣 .Λ) code.function (v₀ ∷ v₁ ∷ []) _ $
       alloc1 ! (λ l₀. alloc1 ! (λ l₁. alloc1 ! (λ l₂. alloc1 ! (λ l₃. alloc1 ! (λ l₄. alloc1 ! (λ l₅. alloc1 ! (λ l₆. alloc1 ! (λ l₇. alloc1 ! (λ l₈. alloc1 ! (λ l₉. alloc1 ! (λ l₁₀. alloc1 ! (λ l₁₁. alloc1 ! (λ l₁₂. alloc1 ! (λ l₁₃. alloc0 ! $ params1 ! $
@@ -286,12 +301,26 @@ module _ {M : Type 1} (𝓤 : URA M) (H : Heap 𝓤) (A : Atoms 𝓤) (W : Given
 
 module _ {M : Type 1} (𝓤 : URA M) (H : Heap 𝓤) (A : Atoms 𝓤) (W : Given 𝓤 H A) (mem : Memory → SProp 𝓤) (run : Routine → Fun 𝓤) (𝓣 : Tables 𝓤 H) (known-taken : Triple 𝓤 (𝓣 .C #slots·taken) (Taken 𝓤 H A mem run)) (known : Triple 𝓤 (𝓣 .C #slots·put-slot) (PutSlot 𝓤 H A mem run)) where
   walks : Walks 𝓤 H A load′.ended stayed (WpFn 𝓤 H (𝓣 .C) (𝓣 .Λ) code.function) (load′.clauses 𝓤 H A mem run)
-  walks = walked 𝓤 H A load′.ended stayed (load′.clauses 𝓤 H A mem run) (WpFn 𝓤 H (𝓣 .C) (𝓣 .Λ) code.function) (λ κs. (slice-vals, (slice-vals, tt))) (λ κs. (shr-slice-tells (named 0) (κs .0) R, (mut-slice-tells (named 1) (κs .1 .0) u32, tt)))
+  walks =
+      walked 𝓤 H A load′.ended stayed (load′.clauses 𝓤 H A mem run) (WpFn 𝓤 H (𝓣 .C) (𝓣 .Λ) code.function)
+      (λ κs. (slice-vals, (slice-vals, tt))) (λ κs. (
+        shr-slice-tells (named 0) (κs .0) R,
+        (
+          mut-slice-tells (named 1)
+              (κs .1 .0) u32,
+          tt,
+        ),
+      ))
       (λ κs qs bounds a g are. needs 𝓤 (slotWidth * maxSlots ≤ length (a .1 .0 .now)) _ (λ enough.
       walk 𝓤 H A W mem run (κs .0) (κs .1 .0) (qs .0) (qs .1 .0) (a .0) (a .1 .0 .ptr .0) (a .1 .0 .ptr .1) (a .1 .0 .name) (a .1 .0 .now) (are .0 .0 .1) (are .1 .0 .0 .1) enough 𝓣 known-taken known))
 
   meets : Meets 𝓤 H A load′.signature (WpFn 𝓤 H (𝓣 .C) (𝓣 .Λ) code.function) (load′.spec 𝓤 H A mem run)
-  meets = walk-meets 𝓤 H A load′.ended stayed W (goes-dropped 𝓤 H A W 2 (shrSlice 0 tt (λ _. R)) yes (λ κs x f. refl), (goes-slice 𝓤 H A W 2 1 tt (plain (λ _. u32)), tt)) (load′.clauses 𝓤 H A mem run) (WpFn 𝓤 H (𝓣 .C) (𝓣 .Λ) code.function) (WpFn-mono 𝓤 H (W .laws) 𝓣 code.function) walks
+  meets =
+      walk-meets 𝓤 H A load′.ended stayed W (
+        goes-dropped 𝓤 H A W 2 (shrSlice 0 tt (λ _. R)) yes (λ κs x f. refl),
+        (goes-slice 𝓤 H A W 2 1 tt (plain (λ _. u32)), tt),
+      ) (load′.clauses 𝓤 H A mem run) (WpFn 𝓤 H (𝓣 .C) (𝓣 .Λ)
+      code.function) (WpFn-mono 𝓤 H (W .laws) 𝓣 code.function) walks
 
 pub load-spec : {M : Type 1} → stated.statement M
 unfolding code.routine tablesOf

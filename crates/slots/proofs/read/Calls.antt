@@ -31,12 +31,18 @@ module _ (layout bs ns area : List ℕ) (n mark : ℕ) where
   read-many l = rw (lt-leb n maxSlots l)
 
 -- what the call leaves at the front of the scratch
-pub read-front : (zs rest : List ℕ) (k : ℕ) → length zs ≡ k → {a : ReadAnswer} {z : List ℕ} {e : ReadAll} → record { answer = a; slots = zs; area = z } ≡ e → record { answer = a; slots = take k (zs ++ rest); area = z } ≡ e
+pub read-front : (zs rest : List ℕ) (k : ℕ) → length zs ≡ k → {a : ReadAnswer} {z : List ℕ} {e : ReadAll}
+    → record { answer = a; slots = zs; area = z } ≡ e → record { answer = a; slots = take k (zs ++ rest); area = z } ≡ e
 read-front zs rest k l {a} {z} r = ap (λ (s : List ℕ). record { answer = a; slots = s; area = z }) (take-at zs rest k l) ∙ r
 
 -- ---- more slots than a table may have: number 1
 
-read-over : (layout bs area : List ℕ) (ss : List SlotRecord) (mark : ℕ) → maxSlots < length ss → record { answer = record { answer = refusal BadSize 0; steps = 0 }; slots = slotsNumbers ss; area = area } ≡ readAll layout bs (slotsNumbers ss) area mark
+read-over : (layout bs area : List ℕ) (ss : List SlotRecord) (mark : ℕ) → maxSlots < length ss
+    → record {
+      answer = record { answer = refusal BadSize 0; steps = 0 };
+      slots = slotsNumbers ss;
+      area = area;
+    } ≡ readAll layout bs (slotsNumbers ss) area mark
 unfolding read readSteps reads
 read-over layout bs area ss mark l = rw (beyond layout bs area ss l)
 
@@ -54,15 +60,26 @@ module _ (layout bs ns ws area z : List ℕ) (ss ts : List SlotRecord) (mark : �
   ]
     where
       few : length ss ≤ maxSlots → record { answer = a; slots = ts; area = z } ≡ withSlots (readAll layout bs (slotsNumbers ss) area mark)
-      few l = ap (λ (t : List SlotRecord). record { answer = a; slots = t; area = z }) whole ∙ ap withSlots (r ∙ sym (read-few layout bs _ area (length ss) mark l) ∙ ap (λ (m : List ℕ). readAll layout bs m area mark) (first-numbers ss ns l))
+      few l =
+          ap (λ (t : List SlotRecord). record { answer = a; slots = t; area = z }) whole
+          ∙ ap withSlots (r ∙ sym (read-few layout bs _ area (length ss) mark l)
+          ∙ ap (λ (m : List ℕ). readAll layout bs m area mark) (first-numbers ss ns l))
         where
           whole : ts ≡ slotsFrom (take (length ss * slotWidth) ws)
-          whole = s ∙ ap (λ (k : ℕ). slotsFrom (take (k * slotWidth) ws) ++ drop k ss) (taken-few (length ss) l) ∙ ap (λ (t : List SlotRecord). slotsFrom (take (length ss * slotWidth) ws) ++ t) (drop-length ss) ∙ append-nil (slotsFrom (take (length ss * slotWidth) ws))
+          whole =
+              s ∙ ap (λ (k : ℕ). slotsFrom (take (k * slotWidth) ws) ++ drop k ss) (taken-few (length ss) l)
+              ∙ ap (λ (t : List SlotRecord). slotsFrom (take (length ss * slotWidth) ws) ++ t) (drop-length ss)
+              ∙ append-nil (slotsFrom (take (length ss * slotWidth) ws))
 
       many : maxSlots < length ss → record { answer = a; slots = ts; area = z } ≡ withSlots (readAll layout bs (slotsNumbers ss) area mark)
       many l = (λ i. record { answer = same i .answer; slots = kept i; area = same i .area }) ∙ ap withSlots (read-over layout bs area ss mark l)
         where
-          same : _≡_ {A = ReadAll} (record { answer = a; slots = take (length ss * slotWidth) ws; area = z }) (record { answer = record { answer = refusal BadSize 0; steps = 0 }; slots = take (length ss * slotWidth) (filled (taken (length ss)) ss ns); area = area })
+          same : _≡_ {A = ReadAll} (record { answer = a; slots = take (length ss * slotWidth) ws; area = z })
+              (record {
+                answer = record { answer = refusal BadSize 0; steps = 0 };
+                slots = take (length ss * slotWidth) (filled (taken (length ss)) ss ns);
+                area = area;
+              })
           same = r ∙ sym (read-many layout bs _ area (length ss) mark l)
 
           kept : ts ≡ slotsFrom (slotsNumbers ss)

@@ -150,9 +150,14 @@ module _ {M : Type 1} (𝓤 : URA M) (H : Heap 𝓤) (A : Atoms 𝓤) (W : Given
     E = (tyUnit, l₀) ∷ (slots, l₁) ∷ (nums, l₂) ∷ (word, l₃) ∷ (word, l₄) ∷ (tyBool, l₅) ∷ (T′.mir, l₆) ∷ (word, l₇) ∷ (word, l₈) ∷ (tyPtr, l₉) ∷ []
 
     abbrev At : Upto → List (Item 𝓤)
-    At i = ‵ (row R fullShare (saved ys ns (i .0)) b o) ∷ ‵ (flft κ₁ q₁) ∷ ‵ Own₁ ∷ ‵ (fobor κ q (Held R n b o γ)) ∷ ‵ (fobs γ (codedHoleys R .code (heres R ys))) ∷ ‵ (fauth γ (codedHoleys R .code (heres R ys)))
-        ∷ ‵ (froom tyPtr l₉ 0) ∷ ‵ (fdies tyPtr l₉) ∷ ‵ (froom word l₈ 0) ∷ ‵ (fdies word l₈) ∷ ‵ (froom word l₇ 0) ∷ ‵ (fdies word l₇) ∷ ‵ (froom T′.mir l₆ 0) ∷ ‵ (fdies T′.mir l₆) ∷ ‵ (froom tyBool l₅ 0) ∷ ‵ (fdies tyBool l₅)
-        ∷ ‵ (fat fullShare word l₄ 0 (vint w64 (i .0))) ∷ ‵ (fdies word l₄) ∷ ‵ (fat fullShare word l₃ 0 (vint w64 c)) ∷ ‵ (fdies word l₃) ∷ ‵ (fat fullShare nums l₂ 0 v₁) ∷ ‵ (fdies nums l₂) ∷ ‵ (fat fullShare slots l₁ 0 v₀) ∷ ‵ (fdies slots l₁) ∷ ‵ (froom tyUnit l₀ 0) ∷ ‵ (fdies tyUnit l₀) ∷ []
+    At i =
+        ‵ (row R fullShare (saved ys ns (i .0)) b o) ∷ ‵ (flft κ₁ q₁) ∷ ‵ Own₁ ∷ ‵ (fobor κ q (Held R n b o γ)) ∷ ‵
+        (fobs γ (codedHoleys R .code (heres R ys))) ∷ ‵ (fauth γ (codedHoleys R .code (heres R ys)))
+        ∷ ‵ (froom tyPtr l₉ 0) ∷ ‵ (fdies tyPtr l₉) ∷ ‵ (froom word l₈ 0) ∷ ‵ (fdies word l₈) ∷ ‵ (froom word l₇ 0) ∷ ‵
+        (fdies word l₇) ∷ ‵ (froom T′.mir l₆ 0) ∷ ‵ (fdies T′.mir l₆) ∷ ‵ (froom tyBool l₅ 0) ∷ ‵ (fdies tyBool l₅)
+        ∷ ‵ (fat fullShare word l₄ 0 (vint w64 (i .0))) ∷ ‵ (fdies word l₄) ∷ ‵ (fat fullShare word l₃ 0 (vint w64 c))
+        ∷ ‵ (fdies word l₃) ∷ ‵ (fat fullShare nums l₂ 0 v₁) ∷ ‵ (fdies nums l₂) ∷ ‵ (fat fullShare slots l₁ 0 v₀)
+        ∷ ‵ (fdies slots l₁) ∷ ‵ (froom tyUnit l₀ 0) ∷ ‵ (fdies tyUnit l₀) ∷ []
 
     abbrev Turned : Upto → Out → SProp 𝓤
     Turned i = afterTurn 𝓤 H (Below 𝓤 H A Nearer At i) (afterBlock 𝓤 H (afterSeq 𝓤 H (Wp 𝓤 H C Λ E mir.t-3 (atReturn 𝓤 H E Post)) (atReturn 𝓤 H E Post)))
@@ -166,7 +171,8 @@ module _ {M : Type 1} (𝓤 : URA M) (H : Heap 𝓤) (A : Atoms 𝓤) (W : Given
         assigns ! (bin ! (load ! (from ! (stop !)) (look ! 16 refl)) (lit ! tt) (record { fits = place-fits (i .0) n (inside i e) (gn .1) })) (from ! (stop !)) (init ! 10 refl (tt, record { fits = place-fits (i .0) n (inside i e) (gn .1) })) $
         -- the callee gets a copy of the numbers' reference, and the token
         move ! (2 ∷ []) $ use1 W (‵ Own₁ ⊛ ‵ Own₁) (shr-slice-copy 𝓤 H A W (named 1) κ₁ u32 .twice x₁ (v₁ ∷ [])) $ split ! $ move ! (3 ∷ 0 ∷ []) $
-        use2 W (raw (SlotAt 𝓤 H A mem run .pre (to (i .0 * slotWidth)))) (asked (i .0 * slotWidth) (place-fits (i .0) n (inside i e) (gn .1)) (slot-more (i .0) c (length ns) (held (i .0) c e) enough)) $
+        use2 W (raw (SlotAt 𝓤 H A mem run .pre (to (i .0 * slotWidth)))) (asked (i .0 * slotWidth)
+        (place-fits (i .0) n (inside i e) (gn .1)) (slot-more (i .0) c (length ns) (held (i .0) c e) enough)) $
         -- [what the callee asks; the numbers; the row; the open borrow; obs; auth; _8; …]
         calls-at ! (fmOf 𝓤 H (W .laws) 𝓣) (SlotAt 𝓤 H A mem run) known (to (i .0 * slotWidth)) (and-then ! (load ! (from ! (stop !)) (look ! 20 refl)) (and-then ! (load ! (from ! (stop !)) (look ! 10 refl)) (no-more !))) (λ u.
         use1 W (later (some (λ (r : SlotRecord). ((‵ (flft κ₁ q₁) ⊛ ‵ ftrue) ⊛ ‵ (R .own r (u ∷ []))) ⊛ raw (ensured 𝓤 H A slot-from.ended (slot-from.clauses 𝓤 H A mem run) (κ₁, tt) (x₁, (i .0 * slotWidth, tt)) tt r)))) (id⊢ 𝓤 _) $ await ! tt $ pick ! (λ r.
@@ -203,7 +209,9 @@ module _ {M : Type 1} (𝓤 : URA M) (H : Heap 𝓤) (A : Atoms 𝓤) (W : Given
     turns : (i : Upto) → Sq W (At i) (runs C Λ E mir.turn-1 (anyQ (Turned i)))
     turns i = turned i (ltb (i .0) c) refl
 
-  walk : (𝓣 : Tables 𝓤 H) → Triple 𝓤 (𝓣 .C #slots·slot-from) (SlotAt 𝓤 H A mem run) → ent 𝓤 (onEntry 𝓤 H A save.signature (κ, (κ₁, tt)) (q, (q₁, tt)) (x, (x₁, (c, tt))) at) (WpFn 𝓤 H (𝓣 .C) (𝓣 .Λ) code.function (v₀ ∷ v₁ ∷ vint w64 c ∷ []) Post)
+  walk : (𝓣 : Tables 𝓤 H) → Triple 𝓤 (𝓣 .C #slots·slot-from) (SlotAt 𝓤 H A mem run)
+      → ent 𝓤 (onEntry 𝓤 H A save.signature (κ, (κ₁, tt)) (q, (q₁, tt)) (x, (x₁, (c, tt))) at) (WpFn 𝓤 H (𝓣 .C) (𝓣 .Λ)
+      code.function (v₀ ∷ v₁ ∷ vint w64 c ∷ []) Post)
   walk 𝓣 known =
       qed W ((‵ (flft κ q) ⊛ (‵ (flft κ₁ q₁) ⊛ ‵ ftrue)) ∷ ‵ (owns (MutSlice (named 0) κ R ∷ ShrSlice (named 1) κ₁ u32 ∷ usize ∷ []) (x, (x₁, (c, tt))) at) ∷ []) ∵ enter ! (𝓣 .C) (𝓣 .Λ) code.function (v₀ ∷ v₁ ∷ vint w64 c ∷ []) _ $
       alloc1 ! (λ l₀. alloc1 ! (λ l₁. alloc1 ! (λ l₂. alloc1 ! (λ l₃. alloc1 ! (λ l₄. alloc1 ! (λ l₅. alloc1 ! (λ l₆. alloc1 ! (λ l₇. alloc1 ! (λ l₈. alloc1 ! (λ l₉. alloc0 ! $ params1 ! $
@@ -217,12 +225,31 @@ module _ {M : Type 1} (𝓤 : URA M) (H : Heap 𝓤) (A : Atoms 𝓤) (W : Given
 
 module _ {M : Type 1} (𝓤 : URA M) (H : Heap 𝓤) (A : Atoms 𝓤) (W : Given 𝓤 H A) (mem : Memory → SProp 𝓤) (run : Routine → Fun 𝓤) (𝓣 : Tables 𝓤 H) (known : Triple 𝓤 (𝓣 .C #slots·slot-from) (SlotAt 𝓤 H A mem run)) where
   walks : Walks 𝓤 H A save.ended stayed (WpFn 𝓤 H (𝓣 .C) (𝓣 .Λ) code.function) (save.clauses 𝓤 H A mem run)
-  walks = walked 𝓤 H A save.ended stayed (save.clauses 𝓤 H A mem run) (WpFn 𝓤 H (𝓣 .C) (𝓣 .Λ) code.function) (λ κs. (slice-vals, (slice-vals, (uint-vals w64, tt)))) (λ κs. (mut-slice-tells (named 0) (κs .0) R, (shr-slice-tells (named 1) (κs .1 .0) u32, (uint-tells w64, tt))))
+  walks =
+      walked 𝓤 H A save.ended stayed (save.clauses 𝓤 H A mem run) (WpFn 𝓤 H (𝓣 .C) (𝓣 .Λ) code.function)
+      (λ κs. (slice-vals, (slice-vals, (uint-vals w64, tt)))) (λ κs. (
+        mut-slice-tells (named 0) (κs .0) R,
+        (shr-slice-tells (named 1) (κs .1 .0) u32, (uint-tells w64, tt)),
+      ))
       (λ κs qs bounds a g are. needs 𝓤 ((a .1 .1 .0 ≤ length (a .0 .now)) × (a .1 .1 .0 * slotWidth ≤ length (a .1 .0 .now))) _ (λ p.
-      walk 𝓤 H A W mem run (κs .0) (κs .1 .0) (qs .0) (qs .1 .0) (a .0 .ptr .0) (a .0 .ptr .1) (a .0 .name) (a .0 .now) (a .1 .0) (a .1 .1 .0) (are .0 .0 .1) (are .1 .0 .0 .1) (are .1 .1 .0 .1) (p .0) (p .1) 𝓣 known))
+      walk 𝓤 H A W mem run (κs .0) (κs .1 .0) (qs .0) (qs .1 .0) (a .0 .ptr .0) (a .0 .ptr .1) (a .0 .name) (a .0 .now)
+      (a .1 .0) (a .1 .1 .0) (are .0 .0 .1) (are .1 .0 .0 .1) (are .1 .1 .0 .1) (p .0) (p .1) 𝓣 known))
 
   meets : Meets 𝓤 H A save.signature (WpFn 𝓤 H (𝓣 .C) (𝓣 .Λ) code.function) (save.spec 𝓤 H A mem run)
-  meets = walk-meets 𝓤 H A save.ended stayed W (goes-gave-slice 𝓤 H A W 2 0 tt (plain (λ _. R)), (goes-dropped 𝓤 H A W 2 (shrSlice 1 tt (λ _. u32)) yes (λ κs x f. refl), (goes-dropped 𝓤 H A W 2 (plain (λ _. usize)) yes (λ κs x f. refl), tt))) (save.clauses 𝓤 H A mem run) (WpFn 𝓤 H (𝓣 .C) (𝓣 .Λ) code.function) (WpFn-mono 𝓤 H (W .laws) 𝓣 code.function) walks
+  meets =
+      walk-meets 𝓤 H A save.ended stayed W (
+        goes-gave-slice 𝓤 H A W 2 0 tt (plain (λ _. R)),
+        (
+          goes-dropped 𝓤 H A W 2
+              (shrSlice 1 tt (λ _. u32)) yes (λ κs x f. refl),
+          (
+            goes-dropped 𝓤 H A W 2 (plain (λ _. usize)) yes
+                (λ κs x f. refl),
+            tt,
+          ),
+        ),
+      ) (save.clauses 𝓤 H A mem run) (WpFn 𝓤 H (𝓣 .C) (𝓣 .Λ) code.function)
+      (WpFn-mono 𝓤 H (W .laws) 𝓣 code.function) walks
 
 pub save-spec : {M : Type 1} → stated.statement M
 unfolding code.routine tablesOf

@@ -21,7 +21,9 @@ cast-t11 c =
 returns-2 : tie.Need-returns-2
 returns-2 c =
     let p = c .before .before .before .before .before .before .before .pre in
-    both-differ _ _ _ _ _ _ _ (p .0) (p .1) (c .before .before .least .ensures) (c .before .before .before .before .same .ensures) (c .before .before .before .if1 .left) (c .before .first-difference .ensures) (c .differing-bits .ensures)
+    both-differ _ _ _ _ _ _ _ (p .0) (p .1) (c .before .before .least .ensures)
+    (c .before .before .before .before .same .ensures) (c .before .before .before .if1 .left)
+    (c .before .first-difference .ensures) (c .differing-bits .ensures)
 
 pub both-finding-spec : {M : Type 1} → statement M
 both-finding-spec =

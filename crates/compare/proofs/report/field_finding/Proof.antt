@@ -12,13 +12,19 @@ both-finding-requires c κs =
 returns : tie.Need-returns
 returns c =
     let h = c .before .before .before .before .before .before .before .before .before .pre in
-    finding-both _ _ _ _ _ _ _ (h .0) (h .1) (c .before .before .before .before .if1 .taken) (c .before .before .before .if2 .taken) (c .before .before .value-span .ensures) (c .before .value-span2 .ensures) (c .both-finding .ensures)
+    finding-both _ _ _ _ _ _ _ (h .0) (h .1) (c .before .before .before .before .if1 .taken)
+    (c .before .before .before .if2 .taken) (c .before .before .value-span .ensures)
+    (c .before .value-span2 .ensures) (c .both-finding .ensures)
 
 returns-2 : tie.Need-returns-2
-returns-2 c = finding-first _ _ _ _ _ _ _ (c .before .before .before .before .before .before .before .pre .0) (c .before .before .if1 .taken) (c .before .if2 .left) (c .plain-finding .ensures)
+returns-2 c =
+    let start = c .before .before .before .before .before .before .before in
+    finding-first _ _ _ _ _ _ _ (start .pre .0) (c .before .before .if1 .taken) (c .before .if2 .left) (c .plain-finding .ensures)
 
 returns-3 : tie.Need-returns-3
-returns-3 c = finding-second _ _ _ _ _ _ _ (c .before .before .before .before .before .before .before .pre .1) (c .before .before .if1 .left) (c .before .if3 .taken) (c .plain-finding2 .ensures)
+returns-3 c =
+    let start = c .before .before .before .before .before .before .before in
+    finding-second _ _ _ _ _ _ _ (start .pre .1) (c .before .before .if1 .left) (c .before .if3 .taken) (c .plain-finding2 .ensures)
 
 returns-4 : tie.Need-returns-4
 returns-4 c = finding-neither _ _ _ _ _ _ _ (c .before .before .if1 .left) (c .before .if3 .left) (c .plain-finding3 .ensures)

@@ -17,7 +17,8 @@ mul-t5 : tie.Need-mul-t5
 mul-t5 c =
     let a = c .before .before .slot-at in
     let n = c .before .item-size in
-    let small : a .result .len * n .result ≤ 4294967296 * 8 = product-small (a .result .len) (n .result) 4294967296 8 (omega (arith, a .ensures .len)) (omega (arith, n .ensures, item-small (a .result .kind))) in
+    let small : a .result .len * n .result ≤ 4294967296 * 8 = product-small (a .result .len) (n .result) 4294967296 8
+    (omega (arith, a .ensures .len)) (omega (arith, n .ensures, item-small (a .result .kind))) in
     omega (arith, small)
 
 returns : tie.Need-returns

@@ -21,17 +21,21 @@ short : (c : tie.Else1) → length (c .before .before .before .args .layout .now
 short c = omega arith
 
 bad : (c : tie.After-known-told)
-    → fieldsOf false (c .before .before .before .before .before .before .before .before .before .args .layout .now) ≡ refused (c .before .p .given .0 .0) (c .before .p .given .0 .1 .0)
+    → let start = c .before .before .before .before .before .before .before .before .before in
+    fieldsOf false (start .args .layout .now) ≡ refused (c .before .p .given .0 .0) (c .before .p .given .0 .1 .0)
 bad c = parsed-refused _ _ _ _ _ (c .before .before .before .before .parse .ensures) (c .before .p .given .1)
 
 good : (c : tie.After-known-told2)
-    → Holds (c .before .before .before .before .before .before .before .before .before .args .layout .now) (c .before .p2 .given .0 .0) (c .before .before .before .before .parse .last .1 .1 .0)
+    → let start = c .before .before .before .before .before .before .before .before .before in
+    Holds (start .args .layout .now) (c .before .p2 .given .0 .0) (c .before .before .before .before .parse .last .1 .1 .0)
 good c =
-    holds _ (short (c .before .before .before .before .before .before)) _ _ _ (parsed-fields _ _ _ _ _ (c .before .before .before .before .parse .ensures) (c .before .p2 .given .1))
+    let earlier = c .before .before .before .before .before .before in
+    holds _ (short earlier) _ _ _ (parsed-fields _ _ _ _ _ (c .before .before .before .before .parse .ensures) (c .before .p2 .given .1))
 
 cast-refused : tie.Need-cast-refused
 cast-refused c =
-    omega (arith, short (c .before .before .before .before .before .before), refused-inside false (c .before .before .before .before .before .before .before .before .before .args .layout .now) _ _ (bad c))
+    let earlier = c .before .before .before .before .before .before in
+    omega (arith, short earlier, refused-inside false (earlier .before .before .before .args .layout .now) _ _ (bad c))
 
 returns-2 : tie.Need-returns-2
 returns-2 c = rw (c .refused3 .ensures) (no-room _ _ _ _ (good (c .before .before)) (c .before .if2 .taken))
@@ -48,11 +52,13 @@ put-rows-requires c κs =
 
 returns-3 : tie.Need-returns-3
 returns-3 c =
-    rw (c .refused2 .ensures) (refused-fields _ _ (short (c .before .before .before .before .before .before .before)) _ _ (bad (c .before)))
+    let earlier = c .before .before .before .before .before .before .before in
+    rw (c .refused2 .ensures) (refused-fields _ _ (short earlier) _ _ (bad (c .before)))
 
 returns-4 : tie.Need-returns-4
 returns-4 c =
-    rw (c .accepted .ensures) (told _ _ _ _ (good (c .before .before .before .before .before .before .before)) (c .before .before .before .before .before .before .if2 .left) _ (c .before .before .before .put-rows .ensures))
+    let at-if2 = c .before .before .before .before .before .before in
+    rw (c .accepted .ensures) (told _ _ _ _ (good (at-if2 .before)) (at-if2 .if2 .left) _ (c .before .before .before .put-rows .ensures))
 
 pub fields-spec : {M : Type 1} → statement M
 fields-spec =

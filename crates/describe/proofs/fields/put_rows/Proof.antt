@@ -48,7 +48,8 @@ ready c =
 
 -- and ends inside the text
 inside : (c : tie.After-row-at Inv-loop μ-loop)
-    → c .before .before .before .before .before .before .loop .at + c .row-at .result .size ≤ length (c .before .before .before .before .before .before .before .before .before .before .args .text .now)
+    → let turn = c .before .before .before .before .before .before in
+    turn .loop .at + c .row-at .result .size ≤ length (turn .before .before .before .before .args .text .now)
 inside c =
     let e = c .before .before .before in
     let l = e .before .before .before .loop in
@@ -79,18 +80,28 @@ put-row-requires c κs =
 
 cast-at : tie.Need-cast-at Inv-loop μ-loop
 cast-at c =
-    omega (arith, inside (c .before .before .before .before .before), c .before .before .before .before .before .before .before .before .before .before .before .loop .inv .0 .short)
+    let turn = c .before .before .before .before .before .before .before .before .before .before .before in
+    omega (arith, inside (c .before .before .before .before .before), turn .loop .inv .0 .short)
 
 add-at-2 : tie.Need-add-at-2 Inv-loop μ-loop
 add-at-2 c =
-    omega (arith, inside (c .before .before .before .before .before), c .before .before .before .before .before .before .before .before .before .before .before .loop .inv .0 .short)
+    let turn = c .before .before .before .before .before .before .before .before .before .before .before in
+    omega (arith, inside (c .before .before .before .before .before), turn .loop .inv .0 .short)
 
 taken-requires : tie.Need-taken-requires Inv-loop μ-loop
 taken-requires c κs = tt
 
 add-slot : tie.Need-add-slot Inv-loop μ-loop
 add-slot c =
-    omega (arith, few (c .before .before .before .before .before .before .before .before .before), c .before .before .before .before .before .before .before .before .before .before .before .before .loop .inv .1 .taken, c .taken .ensures, bit-le (takesSlot (c .before .before .before .before .before .before .before .field-of .result .role)))
+    let at-field-of = c .before .before .before .before .before .before .before in
+    omega (
+      arith,
+      few (at-field-of .before .before),
+      at-field-of .before .before .before .before .before .loop .inv .1 .taken,
+      c .taken .ensures,
+      bit-le
+          (takesSlot (at-field-of .field-of .result .role)),
+    )
 
 onward-requires : tie.Need-onward-requires Inv-loop μ-loop
 onward-requires c κs = ready (c .before .before .before .before .before .before .before)
@@ -100,14 +111,20 @@ add-i c = omega (arith, few (c .before .before .before .before .before .before .
 
 loop-less-2 : tie.Need-loop-less-2 Inv-loop μ-loop
 loop-less-2 c =
-    omega (arith, inside (c .before .before .before .before .before .before .before), ap (λ (r : Row). r .size) (c .before .before .before .before .before .before .before .row-at .ensures))
+    let earlier = c .before .before .before .before .before .before .before in
+    omega (arith, inside earlier, ap (λ (r : Row). r .size) (earlier .row-at .ensures))
 
 loop-again-2 : tie.Need-loop-again-2 Inv-loop μ-loop
 loop-again-2 c =
-    let e = c .before .before .before .before .before .before .before .before .before .before in
+    let at-row-at = c .before .before .before .before .before .before .before in
+    let e = at-row-at .before .before .before in
+    let start = e .before .before .before .before .before .before .before in
     let l = e .before .before .before .loop in (
       l .inv .0,
-      listing-next _ _ _ _ (l .inv .0) _ _ _ _ _ (l .inv .1) (e .before .before .loop-test .taken) (e .if1 .left) _ (c .before .before .before .before .before .before .before .before .field-of .ensures) _ (c .before .before .before .before .before .before .before .row-at .ensures) _ (c .before .before .before .before .before .put-row .ensures) _ (c .onward .ensures) _ (c .before .taken .ensures) (e .before .before .before .before .before .before .before .pre .1),
+      listing-next _ _ _ _ (l .inv .0) _ _ _ _ _ (l .inv .1) (e .before .before .loop-test .taken) (e .if1 .left) _
+          (at-row-at .before .field-of .ensures) _ (at-row-at .row-at .ensures) _
+          (c .before .before .before .before .before .put-row .ensures) _ (c .onward .ensures) _
+          (c .before .taken .ensures) (start .pre .1),
     )
 
 same-length : tie.Need-same-length Inv-loop μ-loop

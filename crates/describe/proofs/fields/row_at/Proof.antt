@@ -34,7 +34,9 @@ returns c =
     let fills = flag .before .before in
     let read = fills .before .before in
     let start = read .before .before in
-    row-is _ _ _ _ _ (read .tail-at .ensures) (start .args .f) (start .args .slot) (start .args .t) _ _ _ _ _ _ (flag .bit .ensures) (count .count-number .ensures) (slot .slot-number .ensures) (position .number .ensures) (fills .filling .ensures) (c .number2 .ensures)
+    row-is _ _ _ _ _ (read .tail-at .ensures) (start .args .f) (start .args .slot) (start .args .t) _ _ _ _ _ _
+    (flag .bit .ensures) (count .count-number .ensures) (slot .slot-number .ensures) (position .number .ensures)
+    (fills .filling .ensures) (c .number2 .ensures)
 
 pub row-at-spec : {M : Type 1} → statement M
 row-at-spec =

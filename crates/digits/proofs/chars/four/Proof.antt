@@ -82,7 +82,19 @@ returns-16 c =
     let n = c .before .args .n in
     let r = c .match .rest in
     let above : 15 ≤ n =
-    beyond n 14 (beyond n 13 (beyond n 12 (beyond n 11 (beyond n 10 (beyond n 9 (beyond n 8 (beyond n 7 (beyond n 6 (beyond n 5 (beyond n 4 (beyond n 3 (beyond n 2 (beyond n 1 (beyond n 0 (least n) (r .0 .0 .0 .0 .0 .0 .0 .0 .0 .0 .0 .0 .0 .0 .1)) (r .0 .0 .0 .0 .0 .0 .0 .0 .0 .0 .0 .0 .0 .1)) (r .0 .0 .0 .0 .0 .0 .0 .0 .0 .0 .0 .0 .1)) (r .0 .0 .0 .0 .0 .0 .0 .0 .0 .0 .0 .1)) (r .0 .0 .0 .0 .0 .0 .0 .0 .0 .0 .1)) (r .0 .0 .0 .0 .0 .0 .0 .0 .0 .1)) (r .0 .0 .0 .0 .0 .0 .0 .0 .1)) (r .0 .0 .0 .0 .0 .0 .0 .1)) (r .0 .0 .0 .0 .0 .0 .1)) (r .0 .0 .0 .0 .0 .1)) (r .0 .0 .0 .0 .1)) (r .0 .0 .0 .1)) (r .0 .0 .1)) (r .0 .1)) (r .1) in
+    beyond n 14 (beyond n 13
+    (beyond n 12
+    (beyond n 11
+    (beyond n 10
+    (beyond n 9 (beyond n 8
+    (beyond n 7 (beyond n 6
+    (beyond n 5 (beyond n 4
+    (beyond n 3 (beyond n 2 (beyond n 1 (beyond n 0 (least n) (r .0 .0 .0 .0 .0 .0 .0 .0 .0 .0 .0 .0 .0 .0 .1))
+    (r .0 .0 .0 .0 .0 .0 .0 .0 .0 .0 .0 .0 .0 .1)) (r .0 .0 .0 .0 .0 .0 .0 .0 .0 .0 .0 .0 .1))
+    (r .0 .0 .0 .0 .0 .0 .0 .0 .0 .0 .0 .1)) (r .0 .0 .0 .0 .0 .0 .0 .0 .0 .0 .1))
+    (r .0 .0 .0 .0 .0 .0 .0 .0 .0 .1)) (r .0 .0 .0 .0 .0 .0 .0 .0 .1)) (r .0 .0 .0 .0 .0 .0 .0 .1))
+    (r .0 .0 .0 .0 .0 .0 .1)) (r .0 .0 .0 .0 .0 .1)) (r .0 .0 .0 .0 .1)) (r .0 .0 .0 .1)) (r .0 .0 .1)) (r .0 .1))
+    (r .1) in
     sym (ap fourChars (last n above (c .before .pre)))
 
 pub four-spec : {M : Type 1} → statement M

@@ -15,7 +15,9 @@ returns c =
     let start = low .before .before in
     let a = start .args in
     rw (test .if1 .taken)
-    (two-fours (a .area .now) (a .to) (top .four2 .result) (low .four .result) true _ (rw (top .four2 .ensures, low .four .ensures) (high-first (a .b))) (start .pre) (first .put-four .ensures) (second .put-four2 .ensures))
+    (two-fours (a .area .now) (a .to) (top .four2 .result) (low .four .result) true _
+    (rw (top .four2 .ensures, low .four .ensures) (high-first (a .b))) (start .pre) (first .put-four .ensures)
+    (second .put-four2 .ensures))
 
 returns-2 : tie.Need-returns-2
 returns-2 c =
@@ -27,7 +29,9 @@ returns-2 c =
     let start = low .before .before in
     let a = start .args in
     rw (test .if1 .left)
-    (two-fours (a .area .now) (a .to) (low .four .result) (top .four2 .result) false _ (rw (top .four2 .ensures, low .four .ensures) (low-first (a .b))) (start .pre) (first .put-four3 .ensures) (second .put-four4 .ensures))
+    (two-fours (a .area .now) (a .to) (low .four .result) (top .four2 .result) false _
+    (rw (top .four2 .ensures, low .four .ensures) (low-first (a .b))) (start .pre) (first .put-four3 .ensures)
+    (second .put-four4 .ensures))
 
 pub write-eight-spec : {M : Type 1} → statement M
 write-eight-spec =

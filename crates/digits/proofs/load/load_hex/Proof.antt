@@ -37,9 +37,10 @@ add-k c = omega (arith, inside (c .before .before .before .before .before))
 
 loop-again : tie.Need-loop-again Inv-loop μ-loop
 loop-again c =
-    let start = c .before .before .before .before .before .before .before .before .before in
+    let turn = c .before .before .before .before .before .before in
+    let start = turn .before .before .before in
     let a = start .args in
-    let l = c .before .before .before .before .before .before .loop in
+    let l = turn .loop in
     let call = c .before .before .write-hex in
     let grown =
     chars-turn true (a .high) (a .n) (a .bytes .now) (a .at) (l .k) (start .pre .1) (inside (c .before .before .before .before .before)) (omega arith) (omega arith) (omega arith)
@@ -59,4 +60,6 @@ returns c =
     grown-done (c .before .loop .inv .1) (omega arith) ∙ ap (storeAt (a .area .now) (a .to)) (shown-any true (a .high) u (a .n) bs)
 
 pub load-hex-spec : {M : Type 1} → statement M
-load-hex-spec = tie.close (tie.spec Inv-loop μ-loop loop-holds (λ c. omega arith) add-write-hex-2 shared-slice-read-write-hex (λ c. omega arith) (λ c κs. omega arith) (λ c. omega arith) add-k (λ c. omega arith) loop-again same-length returns)
+load-hex-spec =
+    tie.close (tie.spec Inv-loop μ-loop loop-holds (λ c. omega arith) add-write-hex-2 shared-slice-read-write-hex
+    (λ c. omega arith) (λ c κs. omega arith) (λ c. omega arith) add-k (λ c. omega arith) loop-again same-length returns)

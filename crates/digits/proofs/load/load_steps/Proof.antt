@@ -16,11 +16,12 @@ show-run-requires-2 c κs = (omega arith, omega arith, omega arith, omega arith,
 
 returns : tie.Need-returns
 returns c =
-    let start = c .before .before .before .before .before .before .before .before .before .before .before .before in
+    let at-show-run = c .before .before .before .before .before .before in
+    let start = at-show-run .before .before .before .before .before .before in
     let a = start .args in
-    let all = c .before .before .before .before .before .before .before .before .before .least in
+    let all = at-show-run .before .before .before .least in
     within-budget (showing (a .high) (a .bytes .now) (a .at) (a .to)) (a .n) (a .budget) (all .result) (all .ensures)
-    (λ bytes same. c .before .before .show-run2 .ensures bytes (c .before .before .before .before .before .before .show-run .ensures bytes same))
+    (λ bytes same. c .before .before .show-run2 .ensures bytes (at-show-run .show-run .ensures bytes same))
 
 pub load-steps-spec : {M : Type 1} → statement M
 load-steps-spec = tie.close (tie.spec (λ c. search needs) (λ c κs. search needs) (λ c κs. search needs) show-run-requires show-run-requires-2 (λ c. search needs) returns)

@@ -52,4 +52,6 @@ returns c =
     put-done (l .inv .2) (omega arith)
 
 pub store-hex-spec : {M : Type 1} → statement M
-store-hex-spec = tie.close (tie.spec Inv-loop μ-loop (λ c κs. search needs) loop-holds next-byte-requires (λ c. omega arith) slice-write-out (λ c. omega arith) (λ c. omega arith) (λ c. omega arith) loop-again same-length returns)
+store-hex-spec =
+    tie.close (tie.spec Inv-loop μ-loop (λ c κs. search needs) loop-holds next-byte-requires (λ c. omega arith)
+    slice-write-out (λ c. omega arith) (λ c. omega arith) (λ c. omega arith) loop-again same-length returns)

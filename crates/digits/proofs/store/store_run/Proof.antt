@@ -22,8 +22,21 @@ store-step-requires : tie.Need-store-step-requires Inv-loop μ-loop
 store-step-requires c κs =
     let start = c .before .before .before .before .before in
     let l = c .before .before .loop in
-    let inside = c .before .loop-test .taken in
-    (omega arith, omega arith, omega arith, omega arith, start .pre .4, omega arith, λ e. omega (arith, start .pre .7 e), λ e. omega (arith, start .pre .8 e (omega arith)), λ e. omega (arith, start .pre .9 e))
+    let inside = c .before .loop-test .taken in (
+      omega arith,
+      omega arith,
+      omega arith,
+      omega arith,
+      start .pre .4,
+      omega arith,
+      λ e. omega (
+        arith,
+        start .pre .7
+            e,
+      ),
+      λ e. omega (arith, start .pre .8 e (omega arith)),
+      λ e. omega (arith, start .pre .9 e),
+    )
 
 loop-again : tie.Need-loop-again Inv-loop μ-loop
 loop-again c =

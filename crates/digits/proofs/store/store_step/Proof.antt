@@ -46,7 +46,9 @@ sub-j : tie.Need-sub-j
 sub-j c = omega (arith, c .before .before .before .before .pre .7 (c .if2 .left))
 
 add-bit-requires : tie.Need-add-bit-requires
-add-bit-requires c κs = omega (arith, c .before .before .before .before .before .before .pre .7 (c .before .before .if2 .left))
+add-bit-requires c κs =
+    let start = c .before .before .before .before .before .before in
+    omega (arith, start .pre .7 (c .before .before .if2 .left))
 
 returns-3 : tie.Need-returns-3
 returns-3 c =

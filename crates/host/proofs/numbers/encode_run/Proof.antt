@@ -31,7 +31,9 @@ same-length c = c .before .loop .inv .1 .long
 returns : tie.Need-returns Inv-loop μ-loop
 returns c =
     let start = c .before .before .before .before in
-    encoded (part (start .args .numbers .now) (start .args .from) (start .args .n)) (c .before .loop .inv .1) ((omega arith) ∙ sym (length-part (start .args .n) (start .args .from) (start .args .numbers .now) (start .pre .1)))
+    encoded (part (start .args .numbers .now) (start .args .from) (start .args .n)) (c .before .loop .inv .1)
+    ((omega arith) ∙ sym (length-part (start .args .n) (start .args .from) (start .args .numbers .now)
+    (start .pre .1)))
 
 pub encode-run-spec : {M : Type 1} → statement M
 encode-run-spec =

@@ -11,13 +11,21 @@ returns c =
     (replied .0, replied .1, (left-back _ _ _ h, left-back _ _ _ h, left-back _ _ _ h))
 
 encode-requires : tie.Need-encode-requires
-encode-requires c κs = c .before .before .before .before .before .before .before .before .before .before .before .pre .1 (c .before .before .if1 .left) .first
+encode-requires c κs =
+    let start = c .before .before .before .before .before .before .before .before .before .before .before in
+    start .pre .1 (c .before .before .if1 .left) .first
 
 encode-requires-2 : tie.Need-encode-requires-2
-encode-requires-2 c κs = c .before .before .before .before .before .before .before .before .before .before .before .before .before .before .before .pre .1 (c .before .before .before .before .before .before .if1 .left) .second
+encode-requires-2 c κs =
+    let at-if1 = c .before .before .before .before .before .before in
+    let start = at-if1 .before .before .before .before .before .before .before .before .before in
+    start .pre .1 (at-if1 .if1 .left) .second
 
 encode-run-requires : tie.Need-encode-run-requires
-encode-run-requires c κs = c .before .before .before .before .before .before .before .before .before .before .before .before .before .before .before .before .before .before .before .pre .1 (c .before .before .before .before .before .before .before .before .before .before .if1 .left) .findings
+encode-run-requires c κs =
+    let at-if1 = c .before .before .before .before .before .before .before .before .before .before in
+    let start = at-if1 .before .before .before .before .before .before .before .before .before in
+    start .pre .1 (at-if1 .if1 .left) .findings
 
 returns-2 : tie.Need-returns-2
 returns-2 c =

@@ -20,7 +20,9 @@ use Rattle.host_record.proofs.pack.pack.Tie as tie
 returns : tie.Need-returns
 returns c = pack-unwritten _ _ _ _ _ (sym (c .before .reply-fits .ensures) ∙ not-true _ (c .if1 .taken))
 
-sized : (c : tie.Else1) → eqb (length (c .before .before .before .before .before .before .before .args .reply .now)) replySize ≡ true
+sized : (c : tie.Else1)
+    → let start = c .before .before .before .before .before .before .before in
+    eqb (length (start .args .reply .now)) replySize ≡ true
 sized c = sym (c .before .reply-fits .ensures) ∙ not-false _ (c .if1 .left)
 
 reply-with-requires : tie.Need-reply-with-requires
@@ -33,9 +35,12 @@ returns-2 : tie.Need-returns-2
 returns-2 c =
     let replied = c .before .before in
     let tested = replied .before .before .before in
-    pack-refused _ _ _ _ _ (sized (tested .before .before)) (sym (tested .before .slots-fit .ensures) ∙ not-true _ (tested .if2 .taken)) (replied .before .refused .ensures) (replied .reply-with .ensures)
+    pack-refused _ _ _ _ _ (sized (tested .before .before)) (sym (tested .before .slots-fit .ensures)
+    ∙ not-true _ (tested .if2 .taken)) (replied .before .refused .ensures) (replied .reply-with .ensures)
 
-served : (c : tie.Else2) → Fit (length (c .before .before .before .before .before .before .before .before .before .args .slots .now))
+served : (c : tie.Else2)
+    → let start = c .before .before .before .before .before .before .before .before .before in
+    Fit (length (start .args .slots .now))
 served c = fit _ (sym (c .before .slots-fit .ensures) ∙ not-false _ (c .if2 .left))
 
 array-borrow-prefix-room : tie.Need-array-borrow-prefix-room
@@ -50,7 +55,9 @@ pack-short-requires c κs =
     (room-for _ (served (tested .before .before)) (array-borrow-prefix-room (c .before)), room-whole _ (served (tested .before .before)) (array-borrow-prefix-room (c .before)))
 
 reply-with-requires-2 : tie.Need-reply-with-requires-2
-reply-with-requires-2 c κs = eqb-true _ _ (sized (c .before .before .before .before .before .before .before .before .before .before .before))
+reply-with-requires-2 c κs =
+    let earlier = c .before .before .before .before .before .before .before .before .before .before .before in
+    eqb-true _ _ (sized earlier)
 
 same-length-2 : tie.Need-same-length-2
 same-length-2 c = c .before .before .before .before .before .before .out .given
@@ -77,7 +84,9 @@ pack-long-requires c κs =
     (room-for _ (served (tested .before .before)) (array-borrow-prefix-room-2 (c .before)), room-whole _ (served (tested .before .before)) (array-borrow-prefix-room-2 (c .before)))
 
 reply-with-requires-3 : tie.Need-reply-with-requires-3
-reply-with-requires-3 c κs = eqb-true _ _ (sized (c .before .before .before .before .before .before .before .before .before .before .before))
+reply-with-requires-3 c κs =
+    let earlier = c .before .before .before .before .before .before .before .before .before .before .before in
+    eqb-true _ _ (sized earlier)
 
 same-length-4 : tie.Need-same-length-4
 same-length-4 c = c .before .before .before .before .before .before .out2 .given

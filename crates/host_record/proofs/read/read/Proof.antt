@@ -20,7 +20,9 @@ use Rattle.host_record.proofs.read.read.Tie as tie
 returns : tie.Need-returns
 returns c = read-unwritten _ _ _ _ _ _ (sym (c .before .long-reply-fits .ensures) ∙ not-true _ (c .if1 .taken))
 
-sized : (c : tie.Else1) → eqb (length (c .before .before .before .before .before .before .before .args .reply .now)) longReplySize ≡ true
+sized : (c : tie.Else1)
+    → let start = c .before .before .before .before .before .before .before in
+    eqb (length (start .args .reply .now)) longReplySize ≡ true
 sized c = sym (c .before .long-reply-fits .ensures) ∙ not-false _ (c .if1 .left)
 
 reply-long-requires : tie.Need-reply-long-requires
@@ -33,9 +35,12 @@ returns-2 : tie.Need-returns-2
 returns-2 c =
     let replied = c .before .before in
     let tested = replied .before .before .before in
-    read-refused _ _ _ _ _ _ (sized (tested .before .before)) (sym (tested .before .slots-fit .ensures) ∙ not-true _ (tested .if2 .taken)) (replied .before .refused .ensures) (replied .reply-long .ensures)
+    read-refused _ _ _ _ _ _ (sized (tested .before .before)) (sym (tested .before .slots-fit .ensures)
+    ∙ not-true _ (tested .if2 .taken)) (replied .before .refused .ensures) (replied .reply-long .ensures)
 
-served : (c : tie.Else2) → Fit (length (c .before .before .before .before .before .before .before .before .before .args .slots .now))
+served : (c : tie.Else2)
+    → let start = c .before .before .before .before .before .before .before .before .before in
+    Fit (length (start .args .slots .now))
 served c = fit _ (sym (c .before .slots-fit .ensures) ∙ not-false _ (c .if2 .left))
 
 array-borrow-prefix-room : tie.Need-array-borrow-prefix-room

@@ -13,7 +13,9 @@ returns c =
     (replied .0, replied .1, left-back _ _ _ (c .before .before .before .before .if1 .taken))
 
 encode-requires : tie.Need-encode-requires
-encode-requires c κs = (search needs, c .before .before .before .before .before .before .before .before .pre .2 (c .before .before .if1 .left))
+encode-requires c κs =
+    let start = c .before .before .before .before .before .before .before .before in
+    (search needs, start .pre .2 (c .before .before .if1 .left))
 
 same-length-2 : tie.Need-same-length-2
 same-length-2 c = c .before .before .before .before .before .slots .given

@@ -29,7 +29,8 @@ returns c =
     let called = back .before .before .before .before .before .before .before .before in
     let known = called .before .before .before .before .before .before in
     let start = known .before .before .before in
-    read-replied _ _ (start .args .slots .now) _ _ (start .args .room .now) (start .pre .1) (called .read .ensures) (back .read-back .ensures) (all-below (start .args .slots .now) (λ i. known .slice-known .given i .fits))
+    read-replied _ _ (start .args .slots .now) _ _ (start .args .room .now) (start .pre .1) (called .read .ensures)
+    (back .read-back .ensures) (all-below (start .args .slots .now) (λ i. known .slice-known .given i .fits))
 
 pub read-long-spec : {M : Type 1} → statement M
 read-long-spec =

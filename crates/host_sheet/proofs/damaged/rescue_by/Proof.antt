@@ -30,7 +30,9 @@ returns-2 c =
     let called = tested .before .before .before .before .before .before in
     let known = called .before .before .before .before .before .before in
     let start = known .before .before in
-    rescue-set _ _ (start .args .slots .now) _ _ (start .args .room .now) (start .pre .1) (called .rescue .ensures) (replied .reply-with2 .ensures) (tested .if1 .left) (all-below (start .args .slots .now) (λ i. known .slice-known .given i .fits)) (encoded .encode .ensures)
+    rescue-set _ _ (start .args .slots .now) _ _ (start .args .room .now) (start .pre .1) (called .rescue .ensures)
+    (replied .reply-with2 .ensures) (tested .if1 .left) (all-below (start .args .slots .now)
+    (λ i. known .slice-known .given i .fits)) (encoded .encode .ensures)
 
 pub rescue-by-spec : {M : Type 1} → statement M
 rescue-by-spec =

@@ -30,7 +30,9 @@ returns-2 c =
     let called = tested .before .before .before .before .before .before in
     let known = called .before .before .before .before .before .before in
     let start = known .before .before in
-    read-set _ (start .args .slots .now) _ _ (start .args .room .now) (start .pre .1) (called .read .ensures) (replied .reply-with2 .ensures) (tested .if1 .left) (all-below (start .args .slots .now) (λ i. known .slice-known .given i .fits)) (encoded .encode .ensures)
+    read-set _ (start .args .slots .now) _ _ (start .args .room .now) (start .pre .1) (called .read .ensures)
+    (replied .reply-with2 .ensures) (tested .if1 .left) (all-below (start .args .slots .now)
+    (λ i. known .slice-known .given i .fits)) (encoded .encode .ensures)
 
 pub read-by-spec : {M : Type 1} → statement M
 read-by-spec =

@@ -25,7 +25,9 @@ load-item-requires c κs =
     (start .pre .0, omega (arith, loop .inv .1 .long), omega (arith, next-run (start .args .w) (c .before .loop-test .taken)))
 
 add-from : tie.Need-add-from Inv-loop μ-loop
-add-from c = omega (arith, next-run (c .before .before .before .before .before .before .before .before .args .w) (c .before .before .before .before .loop-test .taken))
+add-from c =
+    let start = c .before .before .before .before .before .before .before .before in
+    omega (arith, next-run (start .args .w) (c .before .before .before .before .loop-test .taken))
 
 loop-again : tie.Need-loop-again Inv-loop μ-loop
 loop-again c =

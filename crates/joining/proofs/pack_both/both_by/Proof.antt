@@ -67,7 +67,8 @@ returns-3 c =
     let second = tested .before .before .before in
     let branch = second .before .before .before in
     let call = branch .before .before .before in
-    both-packed (lent (start call)) _ (start call .pre) _ _ (call .pack .ensures) (branch .if1 .left) _ _ (second .pack2 .ensures) (tested .if2 .left) _ (c .accepted .ensures) _ (copied .copy .ensures)
+    both-packed (lent (start call)) _ (start call .pre) _ _ (call .pack .ensures) (branch .if1 .left) _ _
+    (second .pack2 .ensures) (tested .if2 .left) _ (c .accepted .ensures) _ (copied .copy .ensures)
 
 pub both-by-spec : {M : Type 1} → statement M
 both-by-spec =

@@ -50,22 +50,26 @@ same-length-2 c = c .before .before .before .before .before .before .loop .inv .
 returns-2 : tie.Need-returns-2 Inv-loop μ-loop
 returns-2 c =
     let f = c .before .before .before in
-    reading-bad _ _ _ _ _ _ _ (past (f .before .before)) (f .before .before .before .before .before .before .pre) _ _ (f .before .if1 .left) (subst (FoundAs _ _ _) (c .before .s .given .1) (f .read-field .ensures))
+    let start = f .before .before .before .before .before .before in
+    reading-bad _ _ _ _ _ _ _ (past (f .before .before)) (start .pre) _ _ (f .before .if1 .left) (subst (FoundAs _ _ _) (c .before .s .given .1) (f .read-field .ensures))
 
 loop-again : tie.Need-loop-again Inv-loop μ-loop
 loop-again c =
     let f = c .before .before .before in
-    reading-more _ _ _ _ _ _ _ (past (f .before .before)) (f .before .before .before .before .before .before .pre) _ _ _ (f .before .if1 .left) (subst (FoundAs _ _ _) (c .before .s2 .given .1) (f .read-field .ensures))
+    let start = f .before .before .before .before .before .before in
+    reading-more _ _ _ _ _ _ _ (past (f .before .before)) (start .pre) _ _ _ (f .before .if1 .left) (subst (FoundAs _ _ _) (c .before .s2 .given .1) (f .read-field .ensures))
 
 -- after the field the places and counts are still within the text
 bounds : (c : tie.After-known-told2 Inv-loop μ-loop)
-    → (c .before .before .before .before .before .before .loop .n < length (c .before .before .before .before .before .before .loop .codes))
-    × (c .before .before .before .before .before .before .loop .slots + c .before .s2 .given .0 .1 .1 .0 ≤ maxLayout)
-    × (c .before .before .before .before .before .spaces-end .result + 1 + c .before .s2 .given .0 .1 .0 ≤ length (c .before .before .before .before .before .before .before .before .before .args .text .now))
+    → let turn = c .before .before .before .before .before .before in
+    (turn .loop .n < length (turn .loop .codes))
+    × (turn .loop .slots + c .before .s2 .given .0 .1 .1 .0 ≤ maxLayout)
+    × (c .before .before .before .before .before .spaces-end .result + 1 + c .before .s2 .given .0 .1 .0 ≤ length (turn .before .before .before .args .text .now))
 bounds c =
+    let turn = c .before .before .before .before .before .before in
     let r = loop-again c in
-    let fits = c .before .before .before .before .before .before .before .before .before .pre in
-    (omega (arith, fits, r .few, r .within, c .before .before .before .before .before .before .loop .inv .long), omega (arith, fits, r .few, r .within, r .less), r .within)
+    let fits = turn .before .before .before .pre in
+    (omega (arith, fits, r .few, r .within, turn .loop .inv .long), omega (arith, fits, r .few, r .within, r .less), r .within)
 
 mul-codes : tie.Need-mul-codes Inv-loop μ-loop
 mul-codes c = omega (arith, bounds c)

@@ -8,14 +8,16 @@ use Rattle.lossless.proofs.pack_again.read_and_pack.Tie as tie
 
 returns : tie.Need-returns
 returns c =
-    promised _ _ (then-refused _ _ _ _ (ap leftOf (c .before .before .before .before .before .before .read .ensures)) (c .if1 .taken))
+    let at-read = c .before .before .before .before .before .before in
+    promised _ _ (then-refused _ _ _ _ (ap leftOf (at-read .read .ensures)) (c .if1 .taken))
 
 returns-2 : tie.Need-returns-2
 returns-2 c =
     let pack = c .before .before in
     let branch = pack .before .before .before .before in
+    let at-read = branch .before .before .before .before .before .before in
     promised _ _
-    (then-packed _ _ _ _ (ap leftOf (branch .before .before .before .before .before .before .read .ensures)) (branch .if1 .left) _ _ (pack .pack .ensures))
+    (then-packed _ _ _ _ (ap leftOf (at-read .read .ensures)) (branch .if1 .left) _ _ (pack .pack .ensures))
 
 pub read-and-pack-spec : {M : Type 1} → statement M
 read-and-pack-spec =

@@ -16,22 +16,34 @@ use Rattle.pack_check.proofs.arguments.check.Tie as tie
 set : (c : tie.Else1) → eqb (c .before .before .before .args .a .kind) 0 ≡ false
 set c = ne-eqb _ _ (c .if1 .left)
 
-inside : (c : tie.Else2) → (leb (c .before .before .before .before .before .args .a .kind) maxKind && insideArea (c .before .before .before .before .before .args .area .now) (c .before .before .before .before .before .args .a)) ≡ true
+inside : (c : tie.Else2) → (leb (c .before .before .before .before .before .args .a .kind) maxKind
+    && insideArea (c .before .before .before .before .before .args .area .now)
+    (c .before .before .before .before .before .args .a)) ≡ true
 inside c = sym (c .before .is-inside .ensures) ∙ not-false _ (c .if2 .left)
 
-kind : (c : tie.Else3) → kindFits (c .before .before .before .before .before .before .before .args .s) (c .before .before .before .before .before .before .before .args .a .kind) ≡ true
+kind : (c : tie.Else3)
+    → let start = c .before .before .before .before .before .before .before in
+    kindFits (start .args .s) (start .args .a .kind) ≡ true
 kind c = sym (c .before .kind-fits .ensures) ∙ not-false _ (c .if3 .left)
 
-amounts : (c : tie.Else4) → amountFits (c .before .before .before .before .before .before .before .before .before .args .s) (c .before .before .before .before .before .before .before .before .before .args .n) (c .before .before .before .before .before .before .before .before .before .args .a .len) ≡ true
+amounts : (c : tie.Else4)
+    → let start = c .before .before .before .before .before .before .before .before .before in
+    amountFits (start .args .s) (start .args .n) (start .args .a .len) ≡ true
 amounts c = sym (c .before .amount-fits .ensures) ∙ not-false _ (c .if4 .left)
 
-digits : (c : tie.After-digits-fit) → c .digits-fit .result ≡ digitsFit (c .before .before .before .before .before .before .before .before .before .before .before .args .s) (amount (c .before .before .before .before .before .before .before .before .before .before .before .args .n) (c .before .before .before .before .before .before .before .before .before .before .before .args .a .len)) (shown (c .before .before .before .before .before .before .before .before .before .before .before .args .area .now) (c .before .before .before .before .before .before .before .before .before .before .before .args .a) .items)
+digits : (c : tie.After-digits-fit)
+    → let start = c .before .before .before .before .before .before .before .before .before .before .before in
+    c .digits-fit .result ≡ digitsFit (start .args .s) (amount (start .args .n) (start .args .a .len)) (shown (start .args .area .now) (start .args .a) .items)
 digits c = c .digits-fit .ensures ∙ rw (c .before .amount .ensures)
 
-fits : (c : tie.Else5) → digitsFit (c .before .before .before .before .before .before .before .before .before .before .before .before .args .s) (amount (c .before .before .before .before .before .before .before .before .before .before .before .before .args .n) (c .before .before .before .before .before .before .before .before .before .before .before .before .args .a .len)) (shown (c .before .before .before .before .before .before .before .before .before .before .before .before .args .area .now) (c .before .before .before .before .before .before .before .before .before .before .before .before .args .a) .items) ≡ true
+fits : (c : tie.Else5)
+    → let start = c .before .before .before .before .before .before .before .before .before .before .before .before in
+    digitsFit (start .args .s) (amount (start .args .n) (start .args .a .len)) (shown (start .args .area .now) (start .args .a) .items) ≡ true
 fits c = sym (digits (c .before)) ∙ not-false _ (c .if5 .left)
 
-reals : (c : tie.After-reals-fit) → c .reals-fit .result ≡ realsFit (c .before .before .before .before .before .before .before .before .before .before .before .before .before .before .args .s) (amount (c .before .before .before .before .before .before .before .before .before .before .before .before .before .before .args .n) (c .before .before .before .before .before .before .before .before .before .before .before .before .before .before .args .a .len)) (shown (c .before .before .before .before .before .before .before .before .before .before .before .before .before .before .args .area .now) (c .before .before .before .before .before .before .before .before .before .before .before .before .before .before .args .a) .items)
+reals : (c : tie.After-reals-fit)
+    → let start = c .before .before .before .before .before .before .before .before .before .before .before .before .before .before in
+    c .reals-fit .result ≡ realsFit (start .args .s) (amount (start .args .n) (start .args .a .len)) (shown (start .args .area .now) (start .args .a) .items)
 reals c = c .reals-fit .ensures ∙ rw (c .before .amount2 .ensures)
 
 returns : tie.Need-returns

@@ -13,7 +13,14 @@ is-string : (c : tie.After-known-told) → eqb (c .before .before .before .befor
 is-string c = rw (c .before .s .given .1) at (c .before .before .before .before .pre .0)
 
 all-digits-requires : tie.Need-all-digits-requires
-all-digits-requires c κs = omega (arith, c .least .ensures, string-inside (c .before .before .before .before .before .args .area .now) (c .before .before .before .before .before .args .a) (c .before .before .before .before .before .pre .1) (is-string (c .before)))
+all-digits-requires c κs =
+    omega (
+      arith,
+      c .least .ensures,
+      string-inside (c .before .before .before .before .before .args .area .now)
+          (c .before .before .before .before .before .args .a) (c .before .before .before .before .before .pre .1)
+          (is-string (c .before)),
+    )
 
 returns : tie.Need-returns
 unfolding digitsFit

@@ -25,7 +25,9 @@ shared-slice-read-code : tie.Need-shared-slice-read-code Inv-loop μ-loop
 shared-slice-read-code c = omega (arith, c .before .before .before .before .before .before .before .pre)
 
 -- the code that is read has 32 bits
-told : (c : tie.After-slots-in Inv-loop μ-loop) → SlotsIn (getD (c .before .before .before .before .before .before .before .before .args .codes .now) (c .before .before .before .loop .i) 0) (c .slots-in .result)
+told : (c : tie.After-slots-in Inv-loop μ-loop)
+    → let start = c .before .before .before .before .before .before .before .before in
+    SlotsIn (getD (start .args .codes .now) (c .before .before .before .loop .i) 0) (c .slots-in .result)
 told c = code-told _ _ (c .before .shared-slice-known4 .given _ .fits) (c .slots-in .ensures)
 
 step-requires : tie.Need-step-requires Inv-loop μ-loop
@@ -37,21 +39,28 @@ returns : tie.Need-returns Inv-loop μ-loop
 returns c =
     let s = c .before .before .before in
     let l = s .before .before .before .before in
-    measuring-stop _ _ _ _ (l .before .before .before .before .before .pre) _ _ _ (l .loop .inv) (s .before .before .before .loop-test .taken) _ (told (s .before) .field) _ _ (sym (c .before .t .given .1) ∙ s .step .ensures)
+    measuring-stop _ _ _ _ (l .before .before .before .before .before .pre) _ _ _ (l .loop .inv)
+    (s .before .before .before .loop-test .taken) _ (told (s .before) .field) _ _ (sym (c .before .t .given .1)
+    ∙ s .step .ensures)
 
 loop-again : tie.Need-loop-again Inv-loop μ-loop
 loop-again c =
     let s = c .before .before .before in
     let w = told (s .before) in
     let l = s .before .before .before .before in
-    measuring-next _ _ _ _ (l .before .before .before .before .before .pre) _ _ _ (l .loop .inv) (s .before .before .before .loop-test .taken) _ (w .field) _ (sym (c .before .t2 .given .1) ∙ s .step .ensures)
+    measuring-next _ _ _ _ (l .before .before .before .before .before .pre) _ _ _ (l .loop .inv)
+    (s .before .before .before .loop-test .taken) _ (w .field) _ (sym (c .before .t2 .given .1) ∙ s .step .ensures)
     (λ j. l .before .before .before .shared-slice-known2 .given j .fits) _ (w .taken)
 
 add-k : tie.Need-add-k Inv-loop μ-loop
-add-k c = omega (arith, loop-again c .standing .slots, c .before .before .before .before .before .before .before .before .before .before .before .before .pre)
+add-k c =
+    let start = c .before .before .before .before .before .before .before .before .before .before .before .before in
+    omega (arith, loop-again c .standing .slots, start .pre)
 
 returns-2 : tie.Need-returns-2 Inv-loop μ-loop
-returns-2 c = measuring-done _ _ _ _ (c .before .before .before .before .before .before .pre) _ _ _ (c .before .loop .inv) (c .loop-test .left)
+returns-2 c =
+    let start = c .before .before .before .before .before .before in
+    measuring-done _ _ _ _ (start .pre) _ _ _ (c .before .loop .inv) (c .loop-test .left)
 
 pub measure-spec : {M : Type 1} → statement M
 measure-spec =

@@ -14,7 +14,9 @@ use Rattle.pack_check.proofs.measuring.step.Statement.{statement}
 use Rattle.pack_check.proofs.measuring.step.Tie as tie
 
 ready : (c : tie.Then1)
-    → StepReady (c .before .before .before .args .slots .now) (c .before .before .before .args .k) (c .before .before .before .args .c) (Data (shapeNumbered (c .before .before .before .args .code % flagUnit))) (countFrom (c .before .before .before .args .code / countUnit))
+    → StepReady (c .before .before .before .args .slots .now) (c .before .before .before .args .k)
+    (c .before .before .before .args .c) (Data (shapeNumbered (c .before .before .before .args .code % flagUnit)))
+    (countFrom (c .before .before .before .args .code / countUnit))
 ready c = ready-data _ _ _ _ (c .before .before .before .pre) (c .if1 .taken)
 
 items : (c : tie.After-amount) → c .amount .result < itemsLimit
@@ -46,7 +48,9 @@ returns c =
     let t = q .before .before in
     let n = t .before .before in
     let a = n .before in
-    quick-next _ _ _ _ _ (a .before .if1 .taken) _ (a .slot-at .ensures .same) _ (n .count-from .ensures) _ (t .try-argument .ensures (n .count-from .result) (t .before .amount .ensures)) (q .q .given .0 .0) (q .q .given .1) _ (c .store .ensures)
+    quick-next _ _ _ _ _ (a .before .if1 .taken) _ (a .slot-at .ensures .same) _ (n .count-from .ensures) _
+    (t .try-argument .ensures (n .count-from .result) (t .before .amount .ensures)) (q .q .given .0 .0)
+    (q .q .given .1) _ (c .store .ensures)
 
 step-exactly-requires : tie.Need-step-exactly-requires
 step-exactly-requires c κs = rw (c .field-of .ensures .same) (c .before .before .before .before .pre)

@@ -33,10 +33,20 @@ bytes-for-requires c κs =
 store-requires : tie.Need-store-requires
 store-requires c κs =
     let m = c .before in
+    let at-role = m .before .before .before .before .before .before in
     let a = m .before .before .before .before .slot-at in
     let r = ready (m .before .before .before .before .before) in
-    let start = m .before .before .before .before .before .before .before .before .before .before in
-    omega (arith, c .bytes-for .ensures, m .amount .ensures, a .ensures .len, amount-small (start .args .n) (a .result .len) (r .countFits), bytes-small (m .before .before .before .before .before .before .role .given .0 .0) (m .amount .result) (r .roleFits), r .near)
+    let start = at-role .before .before .before .before in
+    omega (
+      arith,
+      c .bytes-for .ensures,
+      m .amount .ensures,
+      a .ensures .len,
+      amount-small (start .args .n)
+          (a .result .len) (r .countFits),
+      bytes-small (at-role .role .given .0 .0) (m .amount .result) (r .roleFits),
+      r .near,
+    )
 
 returns : tie.Need-returns
 returns c =

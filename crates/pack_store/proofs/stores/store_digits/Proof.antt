@@ -11,7 +11,9 @@ store-hex-requires : tie.Need-store-hex-requires
 store-hex-requires c κs = digits-asks _ _ _ _ _ _ _ (rw (c .before .if1 .taken) at (c .before .before .before .before .pre))
 
 bytes-for-requires : tie.Need-bytes-for-requires
-bytes-for-requires c κs = (omega (arith, digits-asks _ _ _ _ _ _ _ (c .before .before .before .before .before .before .before .pre) .0), tt)
+bytes-for-requires c κs =
+    let start = c .before .before .before .before .before .before .before in
+    (omega (arith, digits-asks _ _ _ _ _ _ _ (start .pre) .0), tt)
 
 returns : tie.Need-returns
 returns c =
@@ -24,7 +26,9 @@ store-binary-requires : tie.Need-store-binary-requires
 store-binary-requires c κs = digits-asks _ _ _ _ _ _ _ (rw (c .before .if1 .left) at (c .before .before .before .before .pre))
 
 bytes-for-requires-2 : tie.Need-bytes-for-requires-2
-bytes-for-requires-2 c κs = (omega (arith, digits-asks _ _ _ _ _ _ _ (c .before .before .before .before .before .before .before .pre) .0), tt)
+bytes-for-requires-2 c κs =
+    let start = c .before .before .before .before .before .before .before in
+    (omega (arith, digits-asks _ _ _ _ _ _ _ (start .pre) .0), tt)
 
 returns-2 : tie.Need-returns-2
 returns-2 c =

@@ -24,7 +24,13 @@ digits c =
 last : (c : tie.Else1) → c .before .before .before .before .args .d ≡ lastData
 last c =
     let r = c .before .match .rest in
-    le-antisymm (c .before .before .before .before .pre .0) (past (past (past (past (past (past (past (past (past (past (past (c .if1 .left) (r .0 .0 .0 .0 .0 .0 .0 .0 .0 .0 .1)) (r .0 .0 .0 .0 .0 .0 .0 .0 .0 .1)) (r .0 .0 .0 .0 .0 .0 .0 .0 .1)) (r .0 .0 .0 .0 .0 .0 .0 .1)) (r .0 .0 .0 .0 .0 .0 .1)) (r .0 .0 .0 .0 .0 .1)) (r .0 .0 .0 .0 .1)) (r .0 .0 .0 .1)) (r .0 .0 .1)) (r .0 .1)) (r .1))
+    le-antisymm (c .before .before .before .before .pre .0)
+    (past (past (past
+    (past (past (past
+    (past (past (past (past (past (c .if1 .left) (r .0 .0 .0 .0 .0 .0 .0 .0 .0 .0 .1))
+    (r .0 .0 .0 .0 .0 .0 .0 .0 .0 .1)) (r .0 .0 .0 .0 .0 .0 .0 .0 .1)) (r .0 .0 .0 .0 .0 .0 .0 .1))
+    (r .0 .0 .0 .0 .0 .0 .1)) (r .0 .0 .0 .0 .0 .1)) (r .0 .0 .0 .0 .1)) (r .0 .0 .0 .1)) (r .0 .0 .1)) (r .0 .1))
+    (r .1))
 
 store-text-requires : tie.Need-store-text-requires
 unfolding shapeNumbered typeNumbered

@@ -17,19 +17,31 @@ use Rattle.pack_store.proofs.writing.put.Statement.{statement}
 use Rattle.pack_store.proofs.writing.put.Tie as tie
 
 as-data : (c : tie.Then1)
-    → Puttable (c .before .before .before .before .args .area .now) (c .before .before .before .before .args .slots .now) (c .before .before .before .before .args .k) (c .before .before .before .before .args .c) (Data (shapeNumbered (c .before .before .before .before .args .code % flagUnit))) (countFrom (c .before .before .before .before .args .code / countUnit)) (length (c .before .before .before .before .args .out .now))
+    → Puttable (c .before .before .before .before .args .area .now)
+    (c .before .before .before .before .args .slots .now) (c .before .before .before .before .args .k)
+    (c .before .before .before .before .args .c) (Data (shapeNumbered (c .before .before .before .before .args .code
+    % flagUnit))) (countFrom (c .before .before .before .before .args .code / countUnit))
+    (length (c .before .before .before .before .args .out .now))
 as-data c = puttable-data _ _ _ _ _ _ (c .before .before .before .before .pre) (c .if1 .taken)
 
-asked : (c : tie.After-amount) → c .amount .result ≡ amount (countFrom (c .before .before .before .before .before .before .before .args .code / countUnit)) (c .before .before .slot-at .result .len)
+asked : (c : tie.After-amount)
+    → let start = c .before .before .before .before .before .before .before in
+    c .amount .result ≡ amount (countFrom (start .args .code / countUnit)) (c .before .before .slot-at .result .len)
 asked c = c .amount .ensures ∙ rw (c .before .count-from .ensures)
 
 stored-value : (c : tie.After-amount)
-    → Storable (c .before .before .before .before .before .before .before .args .area .now) (shapeNumbered (c .before .before .before .before .before .before .before .args .code % flagUnit)) (c .amount .result) (c .before .before .slot-at .result) (c .before .before .before .before .before .before .before .args .c .at) (length (c .before .before .before .before .before .before .before .args .out .now))
+    → let start = c .before .before .before .before .before .before .before in
+    Storable (start .args .area .now) (shapeNumbered (start .args .code % flagUnit)) (c .amount .result) (c .before .before .slot-at .result) (start .args .c .at) (length (start .args .out .now))
 stored-value c = storable _ _ _ _ _ _ _ (as-data (c .before .before .before)) _ (c .before .before .slot-at .ensures .same) _ (asked c)
 
 as-move : (c : tie.After-known-told)
-    → Puttable (c .before .before .before .before .before .before .before .before .args .area .now) (c .before .before .before .before .before .before .before .before .args .slots .now) (c .before .before .before .before .before .before .before .before .args .k) (c .before .before .before .before .before .before .before .before .args .c) (Move (c .before .role .given .0 .0)) (c .before .before .before .field-of .result .count) (length (c .before .before .before .before .before .before .before .before .args .out .now))
-as-move c = rw (← c .before .before .before .field-of .ensures .same, c .before .role .given .1) at (c .before .before .before .before .before .before .before .before .pre)
+    → let start = c .before .before .before .before .before .before .before .before in
+    Puttable (start .args .area .now) (start .args .slots .now) (start .args .k) (start .args .c)
+    (Move (c .before .role .given .0 .0)) (c .before .before .before .field-of .result .count)
+    (length (start .args .out .now))
+as-move c =
+    let start = c .before .before .before .before .before .before .before .before in
+    rw (← c .before .before .before .field-of .ensures .same, c .before .role .given .1) at (start .pre)
 
 slot-at-requires : tie.Need-slot-at-requires
 slot-at-requires c κs = omega (arith, as-data c .ready .slot)
@@ -44,10 +56,11 @@ store-requires c κs =
 
 returns : tie.Need-returns
 returns c =
+    let at-slot-at = c .before .before .before .before .before .before .before in
     let v = c .before .before .before .store-value in
-    let i = c .before .before .before .before .before .before .before .before in
+    let i = at-slot-at .before in
     rw (code-shape _ (i .if1 .taken), code-count)
-    (put-data _ _ _ _ _ _ _ (as-data i) _ (c .before .before .before .before .before .before .before .slot-at .ensures .same) _ (asked (c .before .before .before .before .before)) _ (v .ensures .0) _ (c .store .ensures) _ _ (v .ensures .1))
+    (put-data _ _ _ _ _ _ _ (as-data i) _ (at-slot-at .slot-at .ensures .same) _ (asked (c .before .before .before .before .before)) _ (v .ensures .0) _ (c .store .ensures) _ _ (v .ensures .1))
 
 returns-2 : tie.Need-returns-2
 returns-2 c = absurd (no-value _ _ _ (c .before .before .field-of .ensures .same) (c .before .before .before .if1 .left) (c .enum-told .given .1))
@@ -58,8 +71,9 @@ put-move-requires c κs = movable _ _ _ _ _ _ _ (as-move (c .before))
 returns-3 : tie.Need-returns-3
 unfolding put
 returns-3 c =
+    let at-field-of = c .before .before .before .before .before .before .before in
     let m = c .before .before in
-    rw (← c .before .before .before .before .before .before .before .field-of .ensures .same, c .before .before .before .before .before .role .given .1) (m .put-move .ensures)
+    rw (← at-field-of .field-of .ensures .same, c .before .before .before .before .before .role .given .1) (m .put-move .ensures)
 
 pub put-spec : {M : Type 1} → statement M
 put-spec =

@@ -20,7 +20,8 @@ as-goto : (c : tie.After-enum-told3) → Movable (c .before .before .before .arg
 as-goto c = rw (c .enum-told3 .given .1) at (c .before .before .before .pre)
 
 -- the end after `@`
-reached : (c : tie.After-goto) → c .goto .result .end ≡ max (c .before .before .before .before .args .c .end) (gotoIn (c .before .before .before .before .args .c .end) (c .before .before .before .before .args .n))
+reached : (c : tie.After-goto) → c .goto .result .end ≡ max (c .before .before .before .before .args .c .end)
+    (gotoIn (c .before .before .before .before .args .c .end) (c .before .before .before .before .args .n))
 reached c = ap (λ (x : Cursor). x .end) (c .goto .ensures)
 
 fill-requires : tie.Need-fill-requires

@@ -16,7 +16,8 @@ slot-number : (c : tie.After-known-told) → c .before .m .given .0 .1 .0 ≤ 64
 slot-number c = rw (c .before .m .given .1) at (c .before .before .before .measure .ensures .small)
 
 at-length : (c : tie.After-known-told2)
-    → Length (c .before .m2 .given .0 .0) ≡ measuredOf (argumentsChecked (c .before .before .before .before .before .before .before .before .args .area .now) 0 (slotsOf (c .before .before .before .before .before .before .before .before .args .slots .now)) (decoded (c .before .before .before .before .before .before .before .before .args .n) (c .before .before .before .before .before .before .before .before .args .codes .now)) origin)
+    → let start = c .before .before .before .before .before .before .before .before in
+    Length (c .before .m2 .given .0 .0) ≡ measuredOf (argumentsChecked (start .args .area .now) 0 (slotsOf (start .args .slots .now)) (decoded (start .args .n) (start .args .codes .now)) origin)
 at-length c = sym (c .before .m2 .given .1) ∙ c .before .before .before .measure .ensures .same
 
 cast-refused : tie.Need-cast-refused

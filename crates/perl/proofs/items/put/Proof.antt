@@ -18,10 +18,11 @@ returns c =
 
 returns-2 : tie.Need-returns-2
 returns-2 c =
-    let l = c .before .before .before .before .before .before .before .before .before in
+    let at-put-letter = c .before .before .before .before .before .before in
+    let l = at-put-letter .before .before .before in
     let s = l .before .before .before in
     put-whole (s .args .out .now) (s .args .text .now) (s .args .to) (s .args .letter) (s .args .flagged) (s .args .start) (s .args .n) _ (l .letter-size .ensures) (s .pre .0) (s .pre .2)
-    (c .before .before .before .before .before .before .before .before .if1 .left) (c .before .before .before .before .before .before .put-letter .ensures) (c .before .before .copy .ensures)
+    (at-put-letter .before .before .if1 .left) (at-put-letter .put-letter .ensures) (c .before .before .copy .ensures)
 
 pub put-spec : {M : Type 1} → statement M
 put-spec =

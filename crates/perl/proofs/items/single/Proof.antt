@@ -19,7 +19,8 @@ returns-2 : tie.Need-returns-2
 returns-2 c =
     let k = c .before .before .before .before .before .before .before in
     let s = k .before .before .before .before .before .before in
-    letter-written (s .args .text .now) _ _ _ _ _ _ (sym (k .before .before .letter-of .ensures) ∙ k .l .given .1) _ (c .before .before .before .before .before .number .ensures .1) (c .before .before .put .ensures)
+    letter-written (s .args .text .now) _ _ _ _ _ _ (sym (k .before .before .letter-of .ensures) ∙ k .l .given .1) _
+    (c .before .before .before .before .before .number .ensures .1) (c .before .before .put .ensures)
 
 pub single-spec : {M : Type 1} → statement M
 single-spec =

@@ -42,7 +42,18 @@ sequence-below t =
 
 -- what `item` knows of those that it calls, at the measure t
 abbrev item-calls : ℕ → item-lts.Claims
-item-calls t = (single-reads.Asked, single-reads.Learnt, sequence-below t, sequence.Post, number-reads.Asked, number-reads.Learnt, repeat-of-reads.Asked, repeat-of-reads.Learnt, again-reads.Asked, again-reads.Learnt)
+item-calls t = (
+  single-reads.Asked,
+  single-reads.Learnt,
+  sequence-below t,
+  sequence.Post,
+  number-reads.Asked,
+  number-reads.Learnt,
+  repeat-of-reads.Asked,
+  repeat-of-reads.Learnt,
+  again-reads.Asked,
+  again-reads.Learnt,
+)
 
 -- what `sequence` knows of those that it calls, at the measure t
 abbrev sequence-calls : ℕ → sequence-lts.Claims
@@ -70,7 +81,9 @@ item-add-sequence-2 : (t : ℕ) → item-lts.Need-add-sequence-2 (item-calls t) 
 item-add-sequence-2 t c = search needs
 
 item-sequence-requires : (t : ℕ) → item-lts.Need-sequence-requires (item-calls t) (item-at t) item.Post
-item-sequence-requires t c κs = let p = c .before .before .before .before .before .before .pre .1 in (omega arith, (omega arith, p .1, p .2, p .3))
+item-sequence-requires t c κs =
+    let start = c .before .before .before .before .before .before in
+    let p = start .pre .1 in (omega arith, (omega arith, p .1, p .2, p .3))
 
 item-enum-known-inside : (t : ℕ) → item-lts.Need-enum-known-inside (item-calls t) (item-at t) item.Post
 item-enum-known-inside t c = search needs
@@ -94,7 +107,9 @@ item-again-requires : (t : ℕ) → item-lts.Need-again-requires (item-calls t) 
 item-again-requires t c κs =
     let i = c .before .before .before .before .before .before .before .before in
     let s = i .before .before .before .before .before .before .before in
-    let h = group-bounds _ _ _ (i .before .before .before .if1 .left) (i .before .before .if2 .left) (s .pre .1 .0) _ _ _ _ (i .sequence .ensures) _ _ (c .before .before .before .before .inside2 .given .1) (s .pre .1 .3) in
+    let h = group-bounds _ _ _ (i .before .before .before .if1 .left) (i .before .before .if2 .left)
+    (s .pre .1 .0) _ _ _ _ (i .sequence .ensures) _ _ (c .before .before .before .before .inside2 .given .1)
+    (s .pre .1 .3) in
     let n = repeats _ _ _ (c .before .before .number .ensures .0) (c .before .repeat-of .ensures) in
     (h .1, h .2, n .0, n .1, i .sequence .ensures .long ∙ s .pre .1 .2)
 
@@ -104,15 +119,21 @@ item-same-length-2 t c = search needs
 item-returns-3 : (t : ℕ) → item-lts.Need-returns-3 (item-calls t) (item-at t) item.Post
 item-returns-3 t c =
     let i = c .before .before .before .before .before in
-    group-stray _ _ _ (i .before .before .before .if1 .left) (i .before .before .if2 .left) (i .before .before .before .before .before .before .before .pre .1 .0) _ _ _ _ (i .sequence .ensures) _ (c .before .inside .given .1)
+    let start = i .before .before .before .before .before .before .before in
+    group-stray _ _ _ (i .before .before .before .if1 .left) (i .before .before .if2 .left) (start .pre .1 .0) _ _ _ _ (i .sequence .ensures) _ (c .before .inside .given .1)
 
 item-same-length-3 : (t : ℕ) → item-lts.Need-same-length-3 (item-calls t) (item-at t) item.Post
 item-same-length-3 t c = search needs
 
 item-returns-4 : (t : ℕ) → item-lts.Need-returns-4 (item-calls t) (item-at t) item.Post
 item-returns-4 t c =
-    let i = c .before .before .before .before .before .before .before .before .before .before .before in
-    group-written _ _ _ (i .before .before .before .if1 .left) (i .before .before .if2 .left) (i .before .before .before .before .before .before .before .pre .1 .0) _ _ _ _ (i .sequence .ensures) _ _ (c .before .before .before .before .before .before .before .inside2 .given .1) _ _ _ _ _ (c .before .before .before .before .before .number .ensures) (c .before .before .before .before .repeat-of .ensures) (c .before .before .again .ensures)
+    let at-inside2 = c .before .before .before .before .before .before .before in
+    let i = at-inside2 .before .before .before .before in
+    let start = i .before .before .before .before .before .before .before in
+    group-written _ _ _ (i .before .before .before .if1 .left) (i .before .before .if2 .left) (start .pre .1 .0) _ _ _ _
+    (i .sequence .ensures) _ _ (at-inside2 .inside2 .given .1) _ _ _ _ _
+    (c .before .before .before .before .before .number .ensures)
+    (c .before .before .before .before .repeat-of .ensures) (c .before .before .again .ensures)
 
 abbrev sequence-Inv-loop : sequence-lts.InvT-loop
 sequence-Inv-loop text at depth out₀ to i₀ end₀ filled₀ out i end filled = Turn depth text at to out₀ i end filled out
@@ -139,19 +160,28 @@ sequence-same-length : (t : ℕ) → sequence-lts.Need-same-length (sequence-cal
 sequence-same-length t c = c .before .before .before .before .before .loop .inv .stored .long
 
 sequence-returns : (t : ℕ) → sequence-lts.Need-returns (sequence-calls t) (sequence-at t) sequence.Post sequence-Inv-loop sequence-μ-loop
-sequence-returns t c = ends-unopened _ _ _ _ _ _ _ _ _ (c .before .before .before .before .before .loop .inv) (c .before .before .before .before .loop-test .taken) (c .before .before .if1 .left) (c .before .if2 .taken) (c .if3 .taken)
+sequence-returns t c =
+    ends-unopened _ _ _ _ _ _ _ _ _ (c .before .before .before .before .before .loop .inv)
+    (c .before .before .before .before .loop-test .taken) (c .before .before .if1 .left) (c .before .if2 .taken)
+    (c .if3 .taken)
 
 sequence-same-length-2 : (t : ℕ) → sequence-lts.Need-same-length-2 (sequence-calls t) (sequence-at t) sequence.Post sequence-Inv-loop sequence-μ-loop
 sequence-same-length-2 t c = c .before .before .before .before .before .before .loop .inv .stored .long
 
 sequence-returns-2 : (t : ℕ) → sequence-lts.Need-returns-2 (sequence-calls t) (sequence-at t) sequence.Post sequence-Inv-loop sequence-μ-loop
-sequence-returns-2 t c = ends-close _ _ _ _ _ _ _ _ _ (c .before .before .before .before .before .before .loop .inv) (c .before .before .before .before .before .loop-test .taken) (c .before .before .before .if1 .left) (c .before .before .if2 .taken) (c .before .if3 .left) (c .if4 .taken)
+sequence-returns-2 t c =
+    let turn = c .before .before .before .before .before .before in
+    ends-close _ _ _ _ _ _ _ _ _ (turn .loop .inv) (c .before .before .before .before .before .loop-test .taken)
+    (c .before .before .before .if1 .left) (c .before .before .if2 .taken) (c .before .if3 .left) (c .if4 .taken)
 
 sequence-same-length-3 : (t : ℕ) → sequence-lts.Need-same-length-3 (sequence-calls t) (sequence-at t) sequence.Post sequence-Inv-loop sequence-μ-loop
 sequence-same-length-3 t c = c .before .before .before .before .before .before .loop .inv .stored .long
 
 sequence-returns-3 : (t : ℕ) → sequence-lts.Need-returns-3 (sequence-calls t) (sequence-at t) sequence.Post sequence-Inv-loop sequence-μ-loop
-sequence-returns-3 t c = ends-empty _ _ _ _ _ _ _ _ _ (c .before .before .before .before .before .before .loop .inv) (c .before .before .before .before .before .loop-test .taken) (c .before .before .before .if1 .left) (c .before .before .if2 .taken) (c .before .if3 .left) (c .if4 .left)
+sequence-returns-3 t c =
+    let turn = c .before .before .before .before .before .before in
+    ends-empty _ _ _ _ _ _ _ _ _ (turn .loop .inv) (c .before .before .before .before .before .loop-test .taken)
+    (c .before .before .before .if1 .left) (c .before .before .if2 .taken) (c .before .if3 .left) (c .if4 .left)
 
 sequence-item-requires : (t : ℕ) → sequence-lts.Need-item-requires (sequence-calls t) (sequence-at t) sequence.Post sequence-Inv-loop sequence-μ-loop
 sequence-item-requires t c κs =
@@ -168,7 +198,10 @@ sequence-same-length-4 t c = let i = c .before .before .before .before .before i
 sequence-returns-4 : (t : ℕ) → sequence-lts.Need-returns-4 (sequence-calls t) (sequence-at t) sequence.Post sequence-Inv-loop sequence-μ-loop
 sequence-returns-4 t c =
     let i = c .before .before .before .before .before in
-    ends-bad _ _ _ _ _ _ _ _ _ (i .before .before .before .before .before .before .loop .inv) (i .before .before .before .before .before .loop-test .taken) (i .before .before .before .if1 .left) (i .before .before .if2 .left) _ _ (i .item .ensures) _ (c .before .found .given .1)
+    let turn = i .before .before .before .before .before .before in
+    ends-bad _ _ _ _ _ _ _ _ _ (turn .loop .inv) (i .before .before .before .before .before .loop-test .taken)
+    (i .before .before .before .if1 .left) (i .before .before .if2 .left) _ _ (i .item .ensures) _
+    (c .before .found .given .1)
 
 sequence-enum-known-found-2 : (t : ℕ) → sequence-lts.Need-enum-known-found-2 (sequence-calls t) (sequence-at t) sequence.Post sequence-Inv-loop sequence-μ-loop
 sequence-enum-known-found-2 t c = search needs
@@ -176,12 +209,21 @@ sequence-enum-known-found-2 t c = search needs
 sequence-loop-less-2 : (t : ℕ) → sequence-lts.Need-loop-less-2 (sequence-calls t) (sequence-at t) sequence.Post sequence-Inv-loop sequence-μ-loop
 sequence-loop-less-2 t c =
     let i = c .before .before .before .before .before in
-    omega (arith, item-after _ _ _ _ _ _ _ _ _ (i .before .before .before .before .before .before .loop .inv) (i .before .before .before .before .before .loop-test .taken) (i .before .before .before .if1 .left) (i .before .before .if2 .left) _ _ (i .item .ensures) _ _ (c .before .found2 .given .1))
+    let turn = i .before .before .before .before .before .before in
+    omega (
+      arith,
+      item-after _ _ _ _ _ _ _ _ _ (turn .loop .inv)
+          (i .before .before .before .before .before .loop-test .taken) (i .before .before .before .if1 .left)
+          (i .before .before .if2 .left) _ _ (i .item .ensures) _ _ (c .before .found2 .given .1),
+    )
 
 sequence-loop-again-2 : (t : ℕ) → sequence-lts.Need-loop-again-2 (sequence-calls t) (sequence-at t) sequence.Post sequence-Inv-loop sequence-μ-loop
 sequence-loop-again-2 t c =
     let i = c .before .before .before .before .before in
-    turn-item _ _ _ _ _ _ _ _ _ (i .before .before .before .before .before .before .loop .inv) (i .before .before .before .before .before .loop-test .taken) (i .before .before .before .if1 .left) (i .before .before .if2 .left) _ _ (i .item .ensures) _ _ (c .before .found2 .given .1) (i .before .before .before .before .before .before .before .before .before .pre .1 .2)
+    let turn = i .before .before .before .before .before .before in
+    turn-item _ _ _ _ _ _ _ _ _ (turn .loop .inv) (i .before .before .before .before .before .loop-test .taken)
+    (i .before .before .before .if1 .left) (i .before .before .if2 .left) _ _ (i .item .ensures) _ _
+    (c .before .found2 .given .1) (turn .before .before .before .pre .1 .2)
 
 sequence-same-length-5 : (t : ℕ) → sequence-lts.Need-same-length-5 (sequence-calls t) (sequence-at t) sequence.Post sequence-Inv-loop sequence-μ-loop
 sequence-same-length-5 t c = c .before .before .loop .inv .stored .long

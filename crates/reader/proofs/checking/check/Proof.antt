@@ -13,7 +13,9 @@ use Rattle.layout.specs.Layout.{maxLayout}
 use Rattle.reader.proofs.checking.check.Statement.{statement}
 use Rattle.reader.proofs.checking.check.Tie as tie
 
-sized : (c : tie.Else1) → Fit (length (c .before .before .before .before .before .before .args .layout .now)) (length (c .before .before .before .before .before .before .args .slots .now)) (length (c .before .before .before .before .before .before .args .bytes .now)) (length (c .before .before .before .before .before .before .args .area .now)) (c .before .before .before .before .before .before .args .mark)
+sized : (c : tie.Else1)
+    → let start = c .before .before .before .before .before .before in
+    Fit (length (start .args .layout .now)) (length (start .args .slots .now)) (length (start .args .bytes .now)) (length (start .args .area .now)) (start .args .mark)
 sized c = fit (sym (c .before .sizes-fit .ensures) ∙ not-false _ (c .if1 .left))
 
 returns : tie.Need-returns
@@ -23,7 +25,9 @@ parse-requires : tie.Need-parse-requires
 parse-requires c κs = (sized (c .before) .text, le-refl maxLayout)
 
 cast-refused : tie.Need-cast-refused
-cast-refused c = omega (arith, sized (c .before .before .before .before .before .before) .text, refused-inside false _ _ _ (parsed-refused _ _ _ _ _ (c .before .before .before .before .parse .ensures) (c .before .p .given .1)))
+cast-refused c =
+    let earlier = c .before .before .before .before .before .before in
+    omega (arith, sized earlier .text, refused-inside false _ _ _ (parsed-refused _ _ _ _ _ (c .before .before .before .before .parse .ensures) (c .before .p .given .1)))
 
 sub-fits : tie.Need-sub-fits
 sub-fits c = omega (arith, sized (c .before .before .before .before .before .before .before) .start)
@@ -35,10 +39,16 @@ fits-requires c κs =
     (l .few, l .room, k .whole, k .table)
 
 returns-2 : tie.Need-returns-2
-returns-2 c = check-refused _ _ _ _ _ (parse-refuses _ _ _ _ _ (sized (c .before .before .before .before .before .before .before)) (parsed-refused _ _ _ _ _ (c .before .before .before .before .before .parse .ensures) (c .before .before .p .given .1))) (c .refused2 .ensures)
+returns-2 c =
+    let earlier = c .before .before .before .before .before .before .before in
+    check-refused _ _ _ _ _ (parse-refuses _ _ _ _ _ (sized earlier) (parsed-refused _ _ _ _ _
+    (c .before .before .before .before .before .parse .ensures) (c .before .before .p .given .1)))
+    (c .refused2 .ensures)
 
 returns-3 : tie.Need-returns-3
-returns-3 c = check-fits _ _ _ _ _ (sized (c .before .before .before .before .before .before .before .before)) (parsed-fields _ _ _ _ _ (c .before .before .before .before .before .before .parse .ensures) (c .before .before .before .p2 .given .1)) (c .fits2 .ensures)
+returns-3 c =
+    let at-parse = c .before .before .before .before .before .before in
+    check-fits _ _ _ _ _ (sized (at-parse .before .before)) (parsed-fields _ _ _ _ _ (at-parse .parse .ensures) (c .before .before .before .p2 .given .1)) (c .fits2 .ensures)
 
 pub check-spec : {M : Type 1} → statement M
 check-spec =

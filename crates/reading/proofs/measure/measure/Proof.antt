@@ -43,9 +43,12 @@ bytes-numbered-requires c κs = (omega (arith, c .items .ensures .1), c .before 
 
 returns : tie.Need-returns Inv-loop μ-loop
 returns c =
-    let l = c .before .before .before .before .before .before .before in
+    let at-loop-test = c .before .before .before .before .before .before in
+    let l = at-loop-test .before in
     let m = l .loop .inv .1 in
-    measured-done m (ran-short _ _ (l .before .before .before .before .pre .0) (m .ran) (c .before .before .before .before .before .before .loop-test .taken) (c .before .before .before .before .if1 .left) (c .before .before .items .ensures .0) (c .before .bytes-numbered .ensures) (c .if2 .taken))
+    measured-done m (ran-short _ _ (l .before .before .before .before .pre .0) (m .ran) (at-loop-test .loop-test .taken)
+    (c .before .before .before .before .if1 .left) (c .before .before .items .ensures .0)
+    (c .before .bytes-numbered .ensures) (c .if2 .taken))
 
 load-requires : tie.Need-load-requires Inv-loop μ-loop
 load-requires c κs =
@@ -55,18 +58,32 @@ load-requires c κs =
 
 size-of-requires : tie.Need-size-of-requires Inv-loop μ-loop
 size-of-requires c κs =
-    let l = c .before .before .before .before .before .before .before .before in
-    (c .before .before .before .before .before .if1 .left, found-inside _ _ (l .before .before .before .before .pre .0) (l .loop .inv .1 .ran) (c .before .before .before .before .before .before .before .loop-test .taken) (c .before .before .before .before .before .if1 .left) (c .before .before .before .items .ensures .0) (c .before .before .bytes-numbered .ensures) (c .before .if2 .left) (l .before .before .before .before .pre .2))
+    let at-loop-test = c .before .before .before .before .before .before .before in
+    let l = at-loop-test .before in (
+      c .before .before .before .before .before .if1 .left,
+      found-inside _ _ (l .before .before .before .before .pre .0)
+          (l .loop .inv .1 .ran) (at-loop-test .loop-test .taken) (c .before .before .before .before .before .if1 .left)
+          (c .before .before .before .items .ensures .0) (c .before .before .bytes-numbered .ensures)
+          (c .before .if2 .left) (l .before .before .before .before .pre .2),
+    )
 
 add-size : tie.Need-add-size Inv-loop μ-loop
-add-size c = omega (arith, c .before .before .before .before .before .before .before .before .before .loop .inv .1 .small, c .size-of .ensures .small)
+add-size c =
+    let turn = c .before .before .before .before .before .before .before .before .before in
+    omega (arith, turn .loop .inv .1 .small, c .size-of .ensures .small)
 
 loop-again-2 : tie.Need-loop-again-2 Inv-loop μ-loop
 loop-again-2 c =
-    let l = c .before .before .before .before .before .before .before .before .before in
+    let at-if1 = c .before .before .before .before .before .before in
+    let l = at-if1 .before .before .before in
     let m = l .loop .inv .1 in
-    let z = c .size-of .ensures in
-    (omega arith, measured-more m _ (z .size _) (z .small) (ran-found _ _ (l .before .before .before .before .pre .0) (m .ran) (c .before .before .before .before .before .before .before .before .loop-test .taken) (c .before .before .before .before .before .before .if1 .left) (c .before .before .before .before .items .ensures .0) (c .before .before .before .bytes-numbered .ensures) (c .before .before .if2 .left) (c .before .load .ensures)))
+    let z = c .size-of .ensures in (
+      omega arith,
+      measured-more m _ (z .size _) (z .small) (ran-found _ _ (l .before .before .before .before .pre .0)
+          (m .ran) (at-if1 .before .before .loop-test .taken) (at-if1 .if1 .left)
+          (c .before .before .before .before .items .ensures .0) (c .before .before .before .bytes-numbered .ensures)
+          (c .before .before .if2 .left) (c .before .load .ensures)),
+    )
 
 returns-2 : tie.Need-returns-2 Inv-loop μ-loop
 returns-2 c =

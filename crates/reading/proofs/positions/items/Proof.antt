@@ -7,7 +7,15 @@ use Rattle.reading.proofs.positions.items.Statement.{statement}
 use Rattle.reading.proofs.positions.items.Tie as tie
 
 returns : tie.Need-returns
-returns c = (rw (c .before .if1 .taken) (c .items-in .ensures), omega (arith, c .items-in .ensures, items-in-small (shapeNumbered (c .before .before .args .d)) (c .before .before .args .left) (c .before .before .pre .0)))
+returns c = (
+  rw (c .before .if1 .taken) (c .items-in .ensures),
+  omega (
+    arith,
+    c .items-in .ensures,
+    items-in-small
+        (shapeNumbered (c .before .before .args .d)) (c .before .before .args .left) (c .before .before .pre .0),
+  ),
+)
 
 returns-2 : tie.Need-returns-2
 returns-2 c = (rw (c .if2 .taken), omega arith)

@@ -5,7 +5,9 @@ use Rattle.reading.proofs.put.put.Statement.{statement}
 use Rattle.reading.proofs.put.put.Tie as tie
 
 returns : tie.Need-returns
-returns c = put-as (c .before .before .before .before .before .before .before .load .ensures) (c .before .before .before .set-slot .ensures)
+returns c =
+    let at-load = c .before .before .before .before .before .before .before in
+    put-as (at-load .load .ensures) (c .before .before .before .set-slot .ensures)
 
 pub put-spec : {M : Type 1} → statement M
 put-spec =

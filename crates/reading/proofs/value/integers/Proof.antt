@@ -5,7 +5,9 @@ use Rattle.reading.proofs.value.integers.Statement.{statement}
 use Rattle.reading.proofs.value.integers.Tie as tie
 
 returns : tie.Need-returns
-returns c = loaded-integers _ (c .before .before .before .before .before .before .before .pre .0) (c .integer-kind .ensures) (c .before .before .before .load .ensures)
+returns c =
+    let start = c .before .before .before .before .before .before .before in
+    loaded-integers _ (start .pre .0) (c .integer-kind .ensures) (c .before .before .before .load .ensures)
 
 pub integers-spec : {M : Type 1} → statement M
 integers-spec =

@@ -13,7 +13,9 @@ copy-requires c κs =
     (rw (size-text (s .pre .0) x .size false) (s .pre .1), omega (arith, s .pre .0 .within, x .short))
 
 returns : tie.Need-returns
-returns c = λ u. loaded-text u (c .before .before .before .before .before .before .before .pre .0) (c .before .before .before .before .text-len .ensures) (c .before .before .copy .ensures)
+returns c =
+    let start = c .before .before .before .before .before .before .before in
+    λ u. loaded-text u (start .pre .0) (c .before .before .before .before .text-len .ensures) (c .before .before .copy .ensures)
 
 pub text-spec : {M : Type 1} → statement M
 text-spec = tie.close (tie.spec (λ c κs. search needs) copy-requires (λ c. search needs) returns)

@@ -21,10 +21,14 @@ set-slot-requires : tie.Need-set-slot-requires Inv-loop μ-loop
 set-slot-requires c κs = (clearing-fits (c .before .before .loop .inv) (c .before .before .before .before .pre) (c .before .loop-test .taken), omega arith, omega arith, omega arith)
 
 loop-again : tie.Need-loop-again Inv-loop μ-loop
-loop-again c = clearing-more (c .before .before .before .before .before .loop .inv) (c .before .before .before .before .before .before .before .pre) (c .before .before .before .before .loop-test .taken) _ (c .before .before .set-slot .ensures)
+loop-again c =
+    let start = c .before .before .before .before .before .before .before in
+    clearing-more (c .before .before .before .before .before .loop .inv) (start .pre) (c .before .before .before .before .loop-test .taken) _ (c .before .before .set-slot .ensures)
 
 add-i : tie.Need-add-i Inv-loop μ-loop
-add-i c = omega (arith, clearing-fits (c .before .before .before .before .before .loop .inv) (c .before .before .before .before .before .before .before .pre) (c .before .before .before .before .loop-test .taken))
+add-i c =
+    let start = c .before .before .before .before .before .before .before in
+    omega (arith, clearing-fits (c .before .before .before .before .before .loop .inv) (start .pre) (c .before .before .before .before .loop-test .taken))
 
 same-length : tie.Need-same-length Inv-loop μ-loop
 same-length c = c .before .loop .inv .wrote .long

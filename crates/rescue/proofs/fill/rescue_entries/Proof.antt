@@ -12,7 +12,9 @@ sub-if1 : tie.Need-sub-if1
 sub-if1 c = bounds (c .before .before .before .before .pre .0) .start
 
 returns : tie.Need-returns
-returns c = rw (c .refused .ensures) (no-room (c .before .before .before .before .before .before .before .pre .0) (c .before .before .before .before .before .before .before .pre .1) (c .before .before .before .measure .ensures) (c .before .if1 .taken))
+returns c =
+    let start = c .before .before .before .before .before .before .before in
+    rw (c .refused .ensures) (no-room (start .pre .0) (start .pre .1) (c .before .before .before .measure .ensures) (c .before .if1 .taken))
 
 fill-requires : tie.Need-fill-requires
 fill-requires c κs =
@@ -21,23 +23,36 @@ fill-requires c κs =
     ((p .2, p .3, all-found (p .0) (p .1) found), has-room (p .0) (p .1) found (c .before .before .if1 .left))
 
 sub-clear : tie.Need-sub-clear
-sub-clear c = omega (arith, kept-few (c .before .before .before .before .before .before .before .before .before .before .before .before .before .before .before .pre .0) (c .before .before .before .before .before .before .before .before .before .before .before .before .before .before .before .pre .1) (c .before .before .before .before .before .before .before .before .before .before .before .measure .ensures))
+sub-clear c =
+    let at-measure = c .before .before .before .before .before .before .before .before .before .before .before in
+    omega (arith, kept-few (at-measure .before .before .before .before .pre .0) (at-measure .before .before .before .before .pre .1) (at-measure .measure .ensures))
 
 clear-requires : tie.Need-clear-requires
-clear-requires c κs = rest-clearable (c .before .before .before .before .before .before .before .before .before .before .before .before .before .before .before .pre .0) (c .before .before .before .before .before .before .before .before .before .before .before .before .before .before .before .pre .1) (c .before .before .before .before .before .before .before .before .before .before .before .measure .ensures) (c .before .before .before .before .before .before .before .before .before .if1 .left) (c .before .before .before .before .before .before .fill .ensures)
+clear-requires c κs =
+    let at-fill = c .before .before .before .before .before .before in
+    let start = at-fill .before .before .before .before .before .before .before .before .before in
+    rest-clearable (start .pre .0) (start .pre .1) (at-fill .before .before .before .before .before .measure .ensures) (at-fill .before .before .before .if1 .left) (at-fill .fill .ensures)
 
 sub-saved : tie.Need-sub-saved
-sub-saved c = omega (arith, kept-few (c .before .before .before .before .before .before .before .before .before .before .before .before .before .before .before .before .before .before .before .pre .0) (c .before .before .before .before .before .before .before .before .before .before .before .before .before .before .before .before .before .before .before .pre .1) (c .before .before .before .before .before .before .before .before .before .before .before .before .before .before .before .measure .ensures))
+sub-saved c =
+    let at-measure = c .before .before .before .before .before .before .before .before .before .before .before .before .before .before .before in
+    omega (arith, kept-few (at-measure .before .before .before .before .pre .0) (at-measure .before .before .before .before .pre .1) (at-measure .measure .ensures))
 
 saved-requires : tie.Need-saved-requires
 saved-requires c κs =
-    let few = legs-few (c .before .before .before .before .before .before .before .before .before .before .before .before .before .before .before .before .before .before .before .before .pre .0) in
-    let kept = kept-few (c .before .before .before .before .before .before .before .before .before .before .before .before .before .before .before .before .before .before .before .before .pre .0) (c .before .before .before .before .before .before .before .before .before .before .before .before .before .before .before .before .before .before .before .before .pre .1) (c .before .before .before .before .before .before .before .before .before .before .before .before .before .before .before .before .measure .ensures) in
-    let size = bounds (c .before .before .before .before .before .before .before .before .before .before .before .before .before .before .before .before .before .before .before .before .pre .0) .lengths .size in
+    let at-measure = c .before .before .before .before .before .before .before .before .before .before .before .before .before .before .before .before in
+    let few = legs-few (at-measure .before .before .before .before .pre .0) in
+    let kept = kept-few (at-measure .before .before .before .before .pre .0) (at-measure .before .before .before .before .pre .1) (at-measure .measure .ensures) in
+    let size = bounds (at-measure .before .before .before .before .pre .0) .lengths .size in
     (omega (arith, few, kept), omega (arith, few), omega (arith, size))
 
 returns-2 : tie.Need-returns-2
-returns-2 c = all-done (c .before .before .before .before .before .before .before .before .before .before .before .before .before .before .before .before .before .before .before .before .before .pre .0) (c .before .before .before .before .before .before .before .before .before .before .before .before .before .before .before .before .before .before .before .before .before .pre .1) (c .before .before .before .before .before .before .before .before .before .before .before .before .before .before .before .before .before .measure .ensures) (c .before .before .before .before .before .before .before .before .before .before .before .before .before .before .before .if1 .left) (c .before .before .before .before .before .before .before .before .before .before .before .before .fill .ensures) (c .before .before .before .before .before .before .before .before .before .before .before .before .before .before .before .before .before .before .before .before .before .pre .3) (c .before .before .before .before .before .clear .ensures) (c .saved .ensures)
+returns-2 c =
+    let at-fill = c .before .before .before .before .before .before .before .before .before .before .before .before in
+    let start = at-fill .before .before .before .before .before .before .before .before .before in
+    all-done (start .pre .0) (start .pre .1) (at-fill .before .before .before .before .before .measure .ensures)
+    (at-fill .before .before .before .if1 .left) (at-fill .fill .ensures) (start .pre .3)
+    (c .before .before .before .before .before .clear .ensures) (c .saved .ensures)
 
 pub rescue-entries-spec : {M : Type 1} → statement M
 rescue-entries-spec =

@@ -14,7 +14,9 @@ saved-requires c κs =
     (omega arith, omega (arith, legs-few o), omega (arith, bounds o .lengths .size))
 
 returns : tie.Need-returns
-returns c = nothing-done (c .before .before .before .before .before .before .before .before .pre .0) (c .before .before .before .before .before .before .before .before .pre .1) (c .before .before .before .clear .ensures) (c .saved .ensures)
+returns c =
+    let start = c .before .before .before .before .before .before .before .before in
+    nothing-done (start .pre .0) (start .pre .1) (c .before .before .before .clear .ensures) (c .saved .ensures)
 
 pub rescue-nothing-spec : {M : Type 1} → statement M
 rescue-nothing-spec = tie.close (tie.spec clear-requires saved-requires (λ c. search needs) returns)

@@ -24,7 +24,9 @@ entry-due-requires : tie.Need-entry-due-requires Inv-loop μ-loop
 entry-due-requires c κs = (c .before .before .pre .0, c .loop .inv .walk .within)
 
 length-at-requires : tie.Need-length-at-requires Inv-loop μ-loop
-length-at-requires c κs = let t = measuring-there (c .before .before .loop .inv) (sym (c .before .entry-due .ensures) ∙ c .if1 .taken) in (c .before .before .before .before .pre .0, omega (arith, t .inside))
+length-at-requires c κs =
+    let t = measuring-there (c .before .before .loop .inv) (sym (c .before .entry-due .ensures) ∙ c .if1 .taken) in
+    (c .before .before .before .before .pre .0, omega (arith, t .inside))
 
 loop-again : tie.Need-loop-again Inv-loop μ-loop
 loop-again c = measuring-more (c .before .before .before .loop .inv) _ (sym (c .before .before .entry-due .ensures) ∙ c .before .if1 .taken) (c .length-at .ensures)
@@ -33,7 +35,16 @@ add-entries : tie.Need-add-entries Inv-loop μ-loop
 add-entries c = omega (arith, loop-again c .small, loop-again c .walk .within, c .before .before .before .before .before .pre)
 
 sub-values : tie.Need-sub-values Inv-loop μ-loop
-sub-values c = let t = measuring-there (c .before .before .before .loop .inv) (sym (c .before .before .entry-due .ensures) ∙ c .before .if1 .taken) in omega (arith, t .some, t .inside, c .length-at .ensures, c .before .before .before .loop .inv .small, c .before .before .before .before .before .pre)
+sub-values c =
+    let t = measuring-there (c .before .before .before .loop .inv) (sym (c .before .before .entry-due .ensures)
+    ∙ c .before .if1 .taken) in omega (
+      arith,
+      t .some,
+      t .inside,
+      c .length-at .ensures,
+      c .before .before .before .loop .inv .small,
+      c .before .before .before .before .before .pre,
+    )
 
 add-values : tie.Need-add-values Inv-loop μ-loop
 add-values c = omega (arith, loop-again c .small, loop-again c .walk .within, c .before .before .before .before .before .pre)
@@ -45,7 +56,17 @@ add-at-3 : tie.Need-add-at-3 Inv-loop μ-loop
 add-at-3 c = omega (arith, loop-again c .small, loop-again c .walk .within, c .before .before .before .before .before .pre)
 
 loop-less : tie.Need-loop-less Inv-loop μ-loop
-loop-less c = let t = measuring-there (c .before .before .before .loop .inv) (sym (c .before .before .entry-due .ensures) ∙ c .before .if1 .taken) in omega (arith, t .some, c .length-at .ensures, loop-again c .small, loop-again c .walk .within, c .before .before .before .before .before .pre)
+loop-less c =
+    let t = measuring-there (c .before .before .before .loop .inv) (sym (c .before .before .entry-due .ensures)
+    ∙ c .before .if1 .taken) in omega (
+      arith,
+      t .some,
+      c .length-at .ensures,
+      loop-again c .small,
+      loop-again
+          c .walk .within,
+      c .before .before .before .before .before .pre,
+    )
 
 returns : tie.Need-returns Inv-loop μ-loop
 returns c = measuring-done (c .before .before .loop .inv) (sym (c .before .entry-due .ensures) ∙ c .if1 .left) refl

@@ -27,26 +27,39 @@ put-requires c κs =
 
 loop-again : tie.Need-loop-again Inv-loop μ-loop
 loop-again c =
-    let s = c .before .before .before .before .before .before .before .before .before .before .before .before in
-    rw (add-one (s .args .w)) (filling-more (s .pre .0 .2) (s .pre .1) (c .before .before .before .before .before .before .before .before .loop .inv) (c .before .before .before .before .before .before .before .loop-test .taken) (c .before .before .before .before .put .ensures))
+    let at-loop-test = c .before .before .before .before .before .before .before in
+    let s = at-loop-test .before .before .before .before .before in
+    rw (add-one (s .args .w)) (filling-more (s .pre .0 .2) (s .pre .1) (at-loop-test .before .loop .inv) (at-loop-test .loop-test .taken) (c .before .before .before .before .put .ensures))
 
 add-set : tie.Need-add-set Inv-loop μ-loop
-add-set c = let p = c .before .before .before .before .before .before .before .before .before .before .before .before .pre in omega (arith, filling-bounds (p .0 .2) (p .1) (loop-again c), loop-again c .walk .within)
+add-set c =
+    let start = c .before .before .before .before .before .before .before .before .before .before .before .before in
+    let p = start .pre in omega (arith, filling-bounds (p .0 .2) (p .1) (loop-again c), loop-again c .walk .within)
 
 add-place : tie.Need-add-place Inv-loop μ-loop
-add-place c = let p = c .before .before .before .before .before .before .before .before .before .before .before .before .pre in omega (arith, filling-bounds (p .0 .2) (p .1) (loop-again c), loop-again c .walk .within)
+add-place c =
+    let start = c .before .before .before .before .before .before .before .before .before .before .before .before in
+    let p = start .pre in omega (arith, filling-bounds (p .0 .2) (p .1) (loop-again c), loop-again c .walk .within)
 
 add-at-2 : tie.Need-add-at-2 Inv-loop μ-loop
-add-at-2 c = let p = c .before .before .before .before .before .before .before .before .before .before .before .before .pre in omega (arith, filling-bounds (p .0 .2) (p .1) (loop-again c), loop-again c .walk .within)
+add-at-2 c =
+    let start = c .before .before .before .before .before .before .before .before .before .before .before .before in
+    let p = start .pre in omega (arith, filling-bounds (p .0 .2) (p .1) (loop-again c), loop-again c .walk .within)
 
 add-at-3 : tie.Need-add-at-3 Inv-loop μ-loop
-add-at-3 c = let p = c .before .before .before .before .before .before .before .before .before .before .before .before .pre in omega (arith, filling-bounds (p .0 .2) (p .1) (loop-again c), loop-again c .walk .within)
+add-at-3 c =
+    let start = c .before .before .before .before .before .before .before .before .before .before .before .before in
+    let p = start .pre in omega (arith, filling-bounds (p .0 .2) (p .1) (loop-again c), loop-again c .walk .within)
 
 add-at-4 : tie.Need-add-at-4 Inv-loop μ-loop
-add-at-4 c = let p = c .before .before .before .before .before .before .before .before .before .before .before .before .pre in omega (arith, filling-bounds (p .0 .2) (p .1) (loop-again c), loop-again c .walk .within)
+add-at-4 c =
+    let start = c .before .before .before .before .before .before .before .before .before .before .before .before in
+    let p = start .pre in omega (arith, filling-bounds (p .0 .2) (p .1) (loop-again c), loop-again c .walk .within)
 
 loop-less : tie.Need-loop-less Inv-loop μ-loop
-loop-less c = let p = c .before .before .before .before .before .before .before .before .before .before .before .before .pre in omega (arith, filling-bounds (p .0 .2) (p .1) (loop-again c), loop-again c .walk .within)
+loop-less c =
+    let start = c .before .before .before .before .before .before .before .before .before .before .before .before in
+    let p = start .pre in omega (arith, filling-bounds (p .0 .2) (p .1) (loop-again c), loop-again c .walk .within)
 
 answer-requires : tie.Need-answer-requires Inv-loop μ-loop
 answer-requires c κs = let p = c .before .before .before .before .before .pre in filling-bounds (p .0 .2) (p .1) (c .before .loop .inv)
@@ -58,7 +71,9 @@ same-length-2 : tie.Need-same-length-2 Inv-loop μ-loop
 same-length-2 c = c .before .before .loop .inv .room
 
 returns : tie.Need-returns Inv-loop μ-loop
-returns c = let p = c .before .before .before .before .before .before .pre in filling-done (p .0 .2) (p .1) (c .before .before .loop .inv) (c .before .loop-test .left) (c .answer .ensures)
+returns c =
+    let start = c .before .before .before .before .before .before in
+    let p = start .pre in filling-done (p .0 .2) (p .1) (c .before .before .loop .inv) (c .before .loop-test .left) (c .answer .ensures)
 
 pub fill-spec : {M : Type 1} → statement M
 fill-spec =

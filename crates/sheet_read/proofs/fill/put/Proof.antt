@@ -18,10 +18,14 @@ sub-size : tie.Need-sub-size
 sub-size c = let s = c .before .before .before .before in let t = there (s .args .w) (s .args .sheet .now) (s .args .at) (s .pre .0 .2) (s .pre .0 .1) in omega (arith, t .some, c .length-at .ensures)
 
 shared-slice-read-kind : tie.Need-shared-slice-read-kind
-shared-slice-read-kind c = let s = c .before .before .before .before .before in let t = there (s .args .w) (s .args .sheet .now) (s .args .at) (s .pre .0 .2) (s .pre .0 .1) in omega (arith, t .inside, t .some)
+shared-slice-read-kind c =
+    let s = c .before .before .before .before .before in let t = there (s .args .w) (s .args .sheet .now) (s .args .at)
+    (s .pre .0 .2) (s .pre .0 .1) in omega (arith, t .inside, t .some)
 
 cast-set-slot : tie.Need-cast-set-slot
-cast-set-slot c = let s = c .before .before .before .before .before .before in omega (arith, c .before .shared-slice-known2 .given (s .args .at + s .args .w))
+cast-set-slot c =
+    let earlier = c .before .before .before .before .before .before in
+    let s = earlier in omega (arith, c .before .shared-slice-known2 .given (s .args .at + s .args .w))
 
 set-slot-requires : tie.Need-set-slot-requires
 set-slot-requires c κs =
@@ -29,17 +33,41 @@ set-slot-requires c κs =
     let t = there (s .args .w) (s .args .sheet .now) (s .args .at) (s .pre .0 .2) (s .pre .0 .1) in
     let kind = getD (s .args .sheet .now) (s .args .at + s .args .w) 0 in
     let size = c .before .before .before .before .length-at .result - 1 in
-    let room = s .pre .1 in
-    (room .row, omega (arith, c .before .start-of .ensures, start-small kind (s .args .to) maxArea (omega (arith, room .room, room .limit))), omega (arith, c .items-of .ensures, items-small kind size, t .long, c .before .before .before .before .length-at .ensures, room .room, room .limit), omega arith)
+    let room = s .pre .1 in (
+      room .row,
+      omega (
+        arith,
+        c .before .start-of .ensures,
+        start-small kind (s .args .to) maxArea
+            (omega (arith, room .room, room .limit)),
+      ),
+      omega (
+        arith,
+        c .items-of .ensures,
+        items-small kind size,
+        t .long,
+        c .before .before .before .before .length-at .ensures,
+        room .room,
+        room .limit,
+      ),
+      omega arith,
+    )
 
 copy-requires : tie.Need-copy-requires
 copy-requires c κs =
-    let s = c .before .before .before .before .before .before .before .before .before .before .before .before in
+    let at-length-at = c .before .before .before .before .before .before .before .before in
+    let s = at-length-at .before .before .before .before in
     let t = there (s .args .w) (s .args .sheet .now) (s .args .at) (s .pre .0 .2) (s .pre .0 .1) in
-    (omega (arith, s .pre .1 .room, t .long, c .before .before .before .before .before .before .before .before .length-at .ensures), omega (arith, t .inside, t .some, c .before .before .before .before .before .before .before .before .length-at .ensures))
+    (omega (arith, s .pre .1 .room, t .long, at-length-at .length-at .ensures), omega (arith, t .inside, t .some, at-length-at .length-at .ensures))
 
 returns : tie.Need-returns
-returns c = let s = c .before .before .before .before .before .before .before .before .before .before .before .before .before .before .before in let t = there (s .args .w) (s .args .sheet .now) (s .args .at) (s .pre .0 .2) (s .pre .0 .1) in put-as t refl (ap (λ n. n - 1) (c .before .before .before .before .before .before .before .before .before .before .before .length-at .ensures)) (c .before .before .before .before .before .before .before .before .start-of .ensures) (c .before .before .before .before .before .before .before .items-of .ensures) (c .before .before .before .before .before .before .set-slot .ensures) (rw (add-one (s .args .w)) at (c .before .before .copy .ensures))
+returns c =
+    let at-set-slot = c .before .before .before .before .before .before in
+    let earlier = at-set-slot .before .before .before .before .before .before .before .before .before in
+    let s = earlier in let t = there (s .args .w) (s .args .sheet .now) (s .args .at) (s .pre .0 .2) (s .pre .0 .1) in
+    put-as t refl (ap (λ n. n - 1) (at-set-slot .before .before .before .before .before .length-at .ensures))
+    (at-set-slot .before .before .start-of .ensures) (at-set-slot .before .items-of .ensures)
+    (at-set-slot .set-slot .ensures) (rw (add-one (s .args .w)) at (c .before .before .copy .ensures))
 
 pub put-spec : {M : Type 1} → statement M
 put-spec =

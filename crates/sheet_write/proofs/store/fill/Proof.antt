@@ -17,10 +17,18 @@ put-body-requires c κs =
     record { fits = s .pre .0 .fits; room = omega (arith, long, s .pre .0 .room); small = omega (arith, long, s .pre .0 .small) }
 
 same-length : tie.Need-same-length
-same-length c = c .before .before .put-body .kept .1 .1 .0 ∙ c .before .before .before .before .before .before .put-number .kept .0 ∙ length-set (c .before .before .before .before .before .before .before .before .before .before .before .args .out .now) 0 (c .before .before .before .before .before .before .before .before .before .before .before .args .v)
+same-length c =
+    let at-put-number = c .before .before .before .before .before .before in
+    c .before .before .put-body .kept .1 .1 .0 ∙ at-put-number .put-number .kept .0
+    ∙ length-set (at-put-number .before .before .before .before .before .args .out .now) 0
+    (at-put-number .before .before .before .before .before .args .v)
 
 returns : tie.Need-returns
-returns c = let s = c .before .before .before .before .before .before .before .before .before .before .before in sheet-stored (s .args .v) (s .args .w) (s .args .slots .now) (s .args .area .now) (s .args .out .now) _ _ _ (omega (arith, s .pre .1)) (s .pre .0 .room) (c .before .before .before .before .before .before .put-number .ensures) (c .before .before .put-body .ensures)
+returns c =
+    let at-put-number = c .before .before .before .before .before .before in
+    let s = at-put-number .before .before .before .before .before in sheet-stored (s .args .v) (s .args .w)
+    (s .args .slots .now) (s .args .area .now) (s .args .out .now) _ _ _ (omega (arith, s .pre .1))
+    (s .pre .0 .room) (at-put-number .put-number .ensures) (c .before .before .put-body .ensures)
 
 pub fill-spec : {M : Type 1} → statement M
 fill-spec =

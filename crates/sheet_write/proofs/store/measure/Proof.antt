@@ -23,7 +23,9 @@ returns : tie.Need-returns Inv-loop μ-loop
 returns c =
     let s = c .before .before .before .before .before .before .before in
     let l = c .before .before .before .before .loop in
-    sizing-bad 2 (s .args .area .now) (s .args .slots .now) (l .k) (l .size) (l .inv) (c .before .before .before .loop-test .taken) _ (c .before .before .slot-at .ensures) (s .pre .0) (sym (c .before .slot-fits .ensures) ∙ not-true _ (c .if1 .taken))
+    sizing-bad 2 (s .args .area .now) (s .args .slots .now) (l .k) (l .size) (l .inv)
+    (c .before .before .before .loop-test .taken) _ (c .before .before .slot-at .ensures) (s .pre .0)
+    (sym (c .before .slot-fits .ensures) ∙ not-true _ (c .if1 .taken))
 
 value-size-requires : tie.Need-value-size-requires Inv-loop μ-loop
 value-size-requires c κs = c .before .before .slot-at .ensures .len
@@ -37,10 +39,14 @@ loop-again c =
     sizing-more 2 (s .args .area .now) (s .args .slots .now) (l .k) (l .size) (l .inv) (c .before .before .before .before .loop-test .taken) _ slot fits (s .pre .1) _ (c .value-size .ensures)
 
 add-size : tie.Need-add-size Inv-loop μ-loop
-add-size c = omega (arith, loop-again c .small, loop-again c .within, c .before .before .before .before .before .before .before .before .pre .0)
+add-size c =
+    let start = c .before .before .before .before .before .before .before .before in
+    omega (arith, loop-again c .small, loop-again c .within, start .pre .0)
 
 add-size-2 : tie.Need-add-size-2 Inv-loop μ-loop
-add-size-2 c = omega (arith, loop-again c .small, loop-again c .within, c .before .before .before .before .before .before .before .before .pre .0)
+add-size-2 c =
+    let start = c .before .before .before .before .before .before .before .before in
+    omega (arith, loop-again c .small, loop-again c .within, start .pre .0)
 
 returns-2 : tie.Need-returns-2 Inv-loop μ-loop
 returns-2 c =

@@ -20,13 +20,17 @@ loop-holds c = rw add-one (storing-none _ _ _ _ (c .before .before .before .pre 
 
 put-entry-requires : tie.Need-put-entry-requires Inv-loop μ-loop
 put-entry-requires c κs =
+    let start = c .before .before .before .before .before .before .before in
     let l = c .before .before .before .loop in
-    (storing-room _ _ _ _ _ (l .k) (l .at) (c .before .before .before .before .before .before .before .pre) (l .inv) (c .before .before .loop-test .taken) _ (c .before .slot-at .ensures), c .before .slot-at .ensures .len)
+    (storing-room _ _ _ _ _ (l .k) (l .at) (start .pre) (l .inv) (c .before .before .loop-test .taken) _ (c .before .slot-at .ensures), c .before .slot-at .ensures .len)
 
 loop-again : tie.Need-loop-again Inv-loop μ-loop
 loop-again c =
-    let l = c .before .before .before .before .before .before .loop in
-    storing-more _ _ _ _ _ (l .k) (l .at) (c .before .before .before .before .before .before .before .before .before .before .pre) (l .inv) (c .before .before .before .before .before .loop-test .taken) _ (c .before .before .before .before .slot-at .ensures) _ _ (c .before .before .put-entry .ensures)
+    let turn = c .before .before .before .before .before .before in
+    let l = turn .loop in
+    storing-more _ _ _ _ _ (l .k) (l .at) (turn .before .before .before .before .pre) (l .inv)
+    (c .before .before .before .before .before .loop-test .taken) _
+    (c .before .before .before .before .slot-at .ensures) _ _ (c .before .before .put-entry .ensures)
 
 same-length : tie.Need-same-length Inv-loop μ-loop
 same-length c = c .before .loop .inv .wrote .long

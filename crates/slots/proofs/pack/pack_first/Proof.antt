@@ -10,7 +10,9 @@ returns : tie.Need-returns
 returns c = rw (c .refused .ensures) (pack-many _ _ _ _ _ (c .before .if1 .taken))
 
 slice-aggregate-pack : tie.Need-slice-aggregate-pack
-slice-aggregate-pack c = first-part (c .before .before .before .before .before .before .args .numbers .now) (c .before .before .before .before .before .before .args .count) (c .before .if1 .left) (search needs)
+slice-aggregate-pack c =
+    let start = c .before .before .before .before .before .before in
+    first-part (start .args .numbers .now) (start .args .count) (c .before .if1 .left) (search needs)
 
 returns-2 : tie.Need-returns-2
 returns-2 c = c .before .before .pack .ensures ∙ pack-few _ _ _ _ _ (c .before .before .before .before .before .if1 .left)

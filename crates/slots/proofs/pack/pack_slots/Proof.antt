@@ -122,7 +122,9 @@ module _ {M : Type 1} (𝓤 : URA M) (H : Heap 𝓤) (A : Atoms 𝓤) (W : Given
   abbrev Fine : Answer × List ℕ → Type 0
   Fine p = (_≡_ {A = Packed} (record { answer = p .0; output = p .1 }) (packFirst (t .now) (scratch ys) n (a .now) (o .now))) × (length (p .1) ≡ length (o .now))
 
-  exits : (p : Answer × List ℕ) (v : Val) → Fine p → ent 𝓤 (⋆ 𝓤 H A (‵ (Ans .own (p .0) (v ∷ [])) ∷ ‵ (finally u8 (o .name) (p .1)) ∷ ‵ (flft κ₃ q₃) ∷ ‵ (flft κ₂ q₂) ∷ ‵ (flft κ₁ q₁) ∷ ‵ (flft κ₀ q₀) ∷ [])) (Post v)
+  exits : (p : Answer × List ℕ) (v : Val) → Fine p
+      → ent 𝓤 (⋆ 𝓤 H A (‵ (Ans .own (p .0) (v ∷ [])) ∷ ‵ (finally u8 (o .name) (p .1)) ∷ ‵ (flft κ₃ q₃) ∷ ‵ (flft κ₂ q₂)
+      ∷ ‵ (flft κ₁ q₁) ∷ ‵ (flft κ₀ q₀) ∷ [])) (Post v)
   exits p v f =
       qed W (‵ (Ans .own (p .0) (v ∷ [])) ∷ ‵ (finally u8 (o .name) (p .1)) ∷ ‵ (flft κ₃ q₃) ∷ ‵ (flft κ₂ q₂) ∷ ‵ (flft κ₁ q₁) ∷ ‵ (flft κ₀ q₀) ∷ []) ∵
       suffices ! _ (ends-at 𝓤 H A ps.ended stayed (ps.clauses 𝓤 H A mem run) W bound v (p .0) (tt, (tt, (tt, (p .1, tt)))) (tt, (tt, (tt, (f .1, tt))))) $ says ! (f .0 ∙ pack-loaded (t .now) (zeros maxNumbers) (a .now) (o .now) ys) $
@@ -149,7 +151,8 @@ module _ {M : Type 1} (𝓤 : URA M) (H : Heap 𝓤) (A : Atoms 𝓤) (W : Given
     abbrev to-pack : PackFirst 𝓤 H A mem run .Ghost
     to-pack = ((κs, (q₀, (fullShare, (q₂, (q₃, tt)))), tt, args, (vt ∷ [], (sliceVal (l, 0) maxNumbers ∷ [], (vint w64 n ∷ [], (va ∷ [], (vo ∷ [], tt)))))), tt)
 
-    asked-pack : ent 𝓤 (⋆ 𝓤 H A (‵ (flft κ₀ q₀) ∷ ‵ (flft (μ ∷ []) fullShare) ∷ ‵ (flft κ₂ q₂) ∷ ‵ (flft κ₃ q₃) ∷ ‵ Own-t ∷ ‵ (See-a maxNumbers) ∷ ‵ Own-a ∷ ‵ Own-o ∷ [])) (PackFirst 𝓤 H A mem run .pre to-pack)
+    asked-pack : ent 𝓤 (⋆ 𝓤 H A (‵ (flft κ₀ q₀) ∷ ‵ (flft (μ ∷ []) fullShare) ∷ ‵ (flft κ₂ q₂) ∷ ‵ (flft κ₃ q₃) ∷ ‵
+        Own-t ∷ ‵ (See-a maxNumbers) ∷ ‵ Own-a ∷ ‵ Own-o ∷ [])) (PackFirst 𝓤 H A mem run .pre to-pack)
     asked-pack =
         qed W (‵ (flft κ₀ q₀) ∷ ‵ (flft (μ ∷ []) fullShare) ∷ ‵ (flft κ₂ q₂) ∷ ‵ (flft κ₃ q₃) ∷ ‵ Own-t ∷ ‵ (See-a maxNumbers) ∷ ‵ Own-a ∷ ‵ Own-o ∷ []) ∵ says ! (subst (λ (k : ℕ). maxNumbers ≤ k) (sym (scratch-long ys)) (lit≤ tt)) $
         nothing ! $ move ! (4 ∷ 0 ∷ []) $ join ! $ move ! (3 ∷ 0 ∷ []) $ join ! $ move ! (2 ∷ 0 ∷ []) $ join ! $ move ! (1 ∷ 0 ∷ []) $ join ! $ frame ! $
@@ -175,7 +178,9 @@ module _ {M : Type 1} (𝓤 : URA M) (H : Heap 𝓤) (A : Atoms 𝓤) (W : Given
   module _ (𝓣 : Tables 𝓤 H) (known-load : Triple 𝓤 (𝓣 .C #slots·load) (Load 𝓤 H A mem run)) (known-pack : Triple 𝓤 (𝓣 .C #slots·pack·pack-first) (PackFirst 𝓤 H A mem run)) where
     walk : ent 𝓤 (onEntry 𝓤 H A ps.signature (κ₀, (κ₁, (κ₂, (κ₃, tt)))) (q₀, (q₁, (q₂, (q₃, tt)))) (t, (x, (a, (o, tt)))) at) (WpFn 𝓤 H (𝓣 .C) (𝓣 .Λ) code.function (vt ∷ vs ∷ va ∷ vo ∷ []) Post)
     walk =
-        qed W ((‵ (flft κ₀ q₀) ⊛ (‵ (flft κ₁ q₁) ⊛ (‵ (flft κ₂ q₂) ⊛ (‵ (flft κ₃ q₃) ⊛ ‵ ftrue)))) ∷ ‵ (owns (ShrSlice (named 0) κ₀ u8 ∷ ShrSlice (named 1) κ₁ R ∷ ShrSlice (named 2) κ₂ u8 ∷ MutSlice (named 3) κ₃ u8 ∷ []) (t, (x, (a, (o, tt)))) at) ∷ []) ∵
+        qed W ((‵ (flft κ₀ q₀) ⊛ (‵ (flft κ₁ q₁) ⊛ (‵ (flft κ₂ q₂) ⊛ (‵ (flft κ₃ q₃) ⊛ ‵ ftrue)))) ∷ ‵
+        (owns (ShrSlice (named 0) κ₀ u8 ∷ ShrSlice (named 1) κ₁ R ∷ ShrSlice (named 2) κ₂ u8 ∷ MutSlice (named 3) κ₃
+        u8 ∷ []) (t, (x, (a, (o, tt)))) at) ∷ []) ∵
         enter ! (𝓣 .C) (𝓣 .Λ) code.function (vt ∷ vs ∷ va ∷ vo ∷ []) _ $
         alloc1 ! (λ l₀. alloc1 ! (λ l₁. alloc1 ! (λ l₂. alloc1 ! (λ l₃. alloc1 ! (λ l₄. alloc1 ! (λ l₅. alloc1 ! (λ l₆. alloc1 ! (λ l₇. alloc1 ! (λ l₈. alloc1 ! (λ l₉. alloc1 ! (λ l₁₀. alloc1 ! (λ l₁₁. alloc1 ! (λ l₁₂. alloc0 ! $ params1 ! $
         pass1 ! (init ! 22 refl (tt, (tt, (record { fits = gt .0 }, tt)))) $ pass1 ! (init ! 20 refl (tt, (tt, (record { fits = gn .0 }, tt)))) $ pass1 ! (init ! 18 refl (tt, (tt, (record { fits = ga .0 }, tt)))) $ pass1 ! (init ! 16 refl (tt, (tt, (record { fits = go .0 }, tt)))) $ pass0 ! $
@@ -219,12 +224,24 @@ module _ {M : Type 1} (𝓤 : URA M) (H : Heap 𝓤) (A : Atoms 𝓤) (W : Given
   walks : Walks 𝓤 H A ps.ended stayed (WpFn 𝓤 H (𝓣 .C) (𝓣 .Λ) code.function) (ps.clauses 𝓤 H A mem run)
   walks = walked 𝓤 H A ps.ended stayed (ps.clauses 𝓤 H A mem run) (WpFn 𝓤 H (𝓣 .C) (𝓣 .Λ) code.function) (λ κs. (slice-vals, (slice-vals, (slice-vals, (slice-vals, tt)))))
       (λ κs. (shr-slice-tells (named 0) (κs .0) u8, (shr-slice-tells (named 1) (κs .1 .0) R, (shr-slice-tells (named 2) (κs .1 .1 .0) u8, (mut-slice-tells (named 3) (κs .1 .1 .1 .0) u8, tt)))))
-      (λ κs qs bounds a g are. via 𝓤 _ (fst∗ 𝓤 _ (emp 𝓤)) (walk 𝓤 H A W mem run (κs .0) (κs .1 .0) (κs .1 .1 .0) (κs .1 .1 .1 .0) (qs .0) (qs .1 .0) (qs .1 .1 .0) (qs .1 .1 .1 .0) (a .0) (a .1 .0) (a .1 .1 .0) (a .1 .1 .1 .0)
+      (λ κs qs bounds a g are. via 𝓤 _ (fst∗ 𝓤 _ (emp 𝓤)) (walk 𝓤 H A W mem run (κs .0) (κs .1 .0) (κs .1 .1 .0)
+      (κs .1 .1 .1 .0) (qs .0) (qs .1 .0) (qs .1 .1 .0) (qs .1 .1 .1 .0) (a .0) (a .1 .0) (a .1 .1 .0)
+      (a .1 .1 .1 .0)
       (are .0 .0 .1) (are .1 .0 .0 .1) (are .1 .1 .0 .0 .1) (are .1 .1 .1 .0 .0 .1) 𝓣 known-load known-pack))
 
   meets : Meets 𝓤 H A ps.signature (WpFn 𝓤 H (𝓣 .C) (𝓣 .Λ) code.function) (ps.spec 𝓤 H A mem run)
-  meets = walk-meets 𝓤 H A ps.ended stayed W
-      (goes-dropped 𝓤 H A W 4 (shrSlice 0 tt (λ _. u8)) yes (λ κs x f. refl), (goes-dropped 𝓤 H A W 4 (shrSlice 1 tt (λ _. R)) yes (λ κs x f. refl), (goes-dropped 𝓤 H A W 4 (shrSlice 2 tt (λ _. u8)) yes (λ κs x f. refl), (goes-gave-slice 𝓤 H A W 4 3 tt (plain (λ _. u8)), tt))))
+  meets = walk-meets 𝓤 H A ps.ended stayed W (
+    goes-dropped 𝓤 H A W 4 (shrSlice 0 tt (λ _. u8)) yes (λ κs x f. refl),
+    (
+      goes-dropped 𝓤 H A W 4
+          (shrSlice 1 tt (λ _. R)) yes (λ κs x f. refl),
+      (
+        goes-dropped 𝓤 H A W 4 (shrSlice 2 tt (λ _. u8)) yes
+            (λ κs x f. refl),
+        (goes-gave-slice 𝓤 H A W 4 3 tt (plain (λ _. u8)), tt),
+      ),
+    ),
+  )
       (ps.clauses 𝓤 H A mem run) (WpFn 𝓤 H (𝓣 .C) (𝓣 .Λ) code.function) (WpFn-mono 𝓤 H (W .laws) 𝓣 code.function) walks
 
 pub pack-slots-spec : {M : Type 1} → stated.statement M

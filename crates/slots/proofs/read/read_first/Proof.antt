@@ -13,13 +13,19 @@ returns : tie.Need-returns
 returns c = rw (c .refused .ensures) (read-many _ _ _ _ _ _ (c .before .if1 .taken))
 
 slice-aggregate-read : tie.Need-slice-aggregate-read
-slice-aggregate-read c = first-part (c .before .before .before .before .before .before .args .numbers .now) (c .before .before .before .before .before .before .args .count) (c .before .if1 .left) (search needs)
+slice-aggregate-read c =
+    let start = c .before .before .before .before .before .before in
+    first-part (start .args .numbers .now) (start .args .count) (c .before .if1 .left) (search needs)
 
-part-back : (c : tie.After-slice-known4) → length (c .before .before .before .before .read .last .1 .1 .0) ≡ length (take (c .before .before .before .before .before .before .before .before .before .before .before .before .args .count * slotWidth) (c .before .before .before .before .before .before .before .before .before .before .before .before .args .numbers .now))
+part-back : (c : tie.After-slice-known4)
+    → let start = c .before .before .before .before .before .before .before .before .before .before .before .before in
+    length (c .before .before .before .before .read .last .1 .1 .0) ≡ length (take (start .args .count * slotWidth) (start .args .numbers .now))
 part-back c = search needs
 
 returns-2 : tie.Need-returns-2
-returns-2 c = read-front _ _ _ (part-back c ∙ sym (slice-aggregate-read (c .before .before .before .before .before .before))) (c .before .before .before .before .read .ensures ∙ read-few _ _ _ _ _ _ (c .before .before .before .before .before .before .before .if1 .left))
+returns-2 c =
+    let earlier = c .before .before .before .before .before .before in
+    read-front _ _ _ (part-back c ∙ sym (slice-aggregate-read earlier)) (c .before .before .before .before .read .ensures ∙ read-few _ _ _ _ _ _ (earlier .before .if1 .left))
 
 pub read-first-spec : {M : Type 1} → statement M
 read-first-spec =

@@ -84,7 +84,17 @@ abbrev Ans : RattleType
 Ans = TA.the-row
 
 abbrev stayed : Stays (rs.ended .signature .params) (rs.ended .kept)
-stayed = (stay-dropped (shrSlice 0 tt (λ _. u8)) yes, (stay-dropped (shrSlice 1 tt (λ _. u8)) yes, (gave-slice (2 ∷ []) tt (plain (λ _. R)), (gave-slice (3 ∷ []) tt (plain (λ _. u8)), (stay-dropped (plain (λ _. usize)) yes, tt)))))
+stayed = (
+  stay-dropped (shrSlice 0 tt (λ _. u8)) yes,
+  (
+    stay-dropped (shrSlice 1 tt (λ _. u8)) yes,
+    (
+      gave-slice (2 ∷ []) tt
+          (plain (λ _. R)),
+      (gave-slice (3 ∷ []) tt (plain (λ _. u8)), (stay-dropped (plain (λ _. usize)) yes, tt)),
+    ),
+  ),
+)
 
 -- the contracts that the proof cites, beside `load`'s
 module _ {M : Type 1} (𝓤 : URA M) (H : Heap 𝓤) (A : Atoms 𝓤) (mem : Memory → SProp 𝓤) (run : Routine → Fun 𝓤) where
@@ -153,7 +163,10 @@ module _ {M : Type 1} (𝓤 : URA M) (H : Heap 𝓤) (A : Atoms 𝓤) (W : Given
   Left = ReadAnswer × List ℕ × List ℕ
 
   abbrev Fine : Left → Type 0
-  Fine p = (_≡_ {A = ReadAll} (record { answer = p .0; slots = take (n * slotWidth) (p .1); area = p .2 }) (readFirst (t .now) (y .now) (scratch ys) n (a .now) k)) × (length (p .1) ≡ length (scratch ys)) × (length (p .2) ≡ length (a .now))
+  Fine p =
+      (_≡_ {A = ReadAll} (record { answer = p .0; slots = take (n * slotWidth) (p .1); area = p .2 })
+      (readFirst (t .now) (y .now) (scratch ys) n (a .now) k)) × (length (p .1) ≡ length (scratch ys))
+      × (length (p .2) ≡ length (a .now))
 
   abbrev Saved : List ℕ → List SlotRecord → Type 0
   Saved ws zs = (zs ≡ slotsFrom (take (c * slotWidth) ws) ++ rest c ys) × (length zs ≡ n)
@@ -187,7 +200,8 @@ module _ {M : Type 1} (𝓤 : URA M) (H : Heap 𝓤) (A : Atoms 𝓤) (W : Given
     abbrev to-read : ReadFirst 𝓤 H A mem run .Ghost
     to-read = ((κs, (q₀, (q₁, (fullShare, (q₃, tt)))), tt, args, (vt ∷ [], (vy ∷ [], (sliceVal (l, 0) maxNumbers ∷ [], (vint w64 n ∷ [], (va ∷ [], (vint w64 k ∷ [], tt))))))), tt)
 
-    asked-read : ent 𝓤 (⋆ 𝓤 H A (‵ (flft κ₀ q₀) ∷ ‵ (flft κ₁ q₁) ∷ ‵ (flft (μ ∷ []) fullShare) ∷ ‵ (flft κ₃ q₃) ∷ ‵ Own-t ∷ ‵ Own-y ∷ ‵ (Own-n maxNumbers) ∷ ‵ Own-a ∷ [])) (ReadFirst 𝓤 H A mem run .pre to-read)
+    asked-read : ent 𝓤 (⋆ 𝓤 H A (‵ (flft κ₀ q₀) ∷ ‵ (flft κ₁ q₁) ∷ ‵ (flft (μ ∷ []) fullShare) ∷ ‵ (flft κ₃ q₃) ∷ ‵
+        Own-t ∷ ‵ Own-y ∷ ‵ (Own-n maxNumbers) ∷ ‵ Own-a ∷ [])) (ReadFirst 𝓤 H A mem run .pre to-read)
     asked-read =
         qed W (‵ (flft κ₀ q₀) ∷ ‵ (flft κ₁ q₁) ∷ ‵ (flft (μ ∷ []) fullShare) ∷ ‵ (flft κ₃ q₃) ∷ ‵ Own-t ∷ ‵ Own-y ∷ ‵ (Own-n maxNumbers) ∷ ‵ Own-a ∷ []) ∵ says ! (subst (λ (m : ℕ). maxNumbers ≤ m) (sym (scratch-long ys)) (lit≤ tt)) $
         nothing ! $ move ! (4 ∷ 0 ∷ []) $ join ! $ move ! (3 ∷ 0 ∷ []) $ join ! $ move ! (2 ∷ 0 ∷ []) $ join ! $ move ! (1 ∷ 0 ∷ []) $ join ! $ frame ! $
@@ -249,9 +263,13 @@ module _ {M : Type 1} (𝓤 : URA M) (H : Heap 𝓤) (A : Atoms 𝓤) (W : Given
         at-once ! $ show ! (Got-save u) (z .0) $ check ! (ap only is-unit, (e, as-many)) $ keep ! (3 ∷ 2 ∷ 0 ∷ []) $ done !)))))
 
   module _ (𝓣 : Tables 𝓤 H) (known-load : Triple 𝓤 (𝓣 .C #slots·load) (Load 𝓤 H A mem run)) (known-read : Triple 𝓤 (𝓣 .C #slots·read·read-first) (ReadFirst 𝓤 H A mem run)) (known-save : Triple 𝓤 (𝓣 .C #slots·save) (Save 𝓤 H A mem run)) where
-    walk : ent 𝓤 (onEntry 𝓤 H A rs.signature (κ₀, (κ₁, (κ₂, (κ₃, tt)))) (q₀, (q₁, (q₂, (q₃, tt)))) (t, (y, (xs γ, (a, (k, tt))))) at) (WpFn 𝓤 H (𝓣 .C) (𝓣 .Λ) code.function (vt ∷ vy ∷ vs ∷ va ∷ vint w64 k ∷ []) Post)
+    walk : ent 𝓤 (onEntry 𝓤 H A rs.signature (κ₀, (κ₁, (κ₂, (κ₃, tt)))) (q₀, (q₁, (q₂, (q₃, tt))))
+        (t, (y, (xs γ, (a, (k, tt))))) at) (WpFn 𝓤 H (𝓣 .C) (𝓣 .Λ) code.function (vt ∷ vy ∷ vs ∷ va ∷ vint w64 k ∷ [])
+        Post)
     walk =
-        qed W ((‵ (flft κ₀ q₀) ⊛ (‵ (flft κ₁ q₁) ⊛ (‵ (flft κ₂ q₂) ⊛ (‵ (flft κ₃ q₃) ⊛ ‵ ftrue)))) ∷ ‵ (owns (ShrSlice (named 0) κ₀ u8 ∷ ShrSlice (named 1) κ₁ u8 ∷ MutSlice (named 2) κ₂ R ∷ MutSlice (named 3) κ₃ u8 ∷ usize ∷ []) (t, (y, (xs γ, (a, (k, tt))))) at) ∷ []) ∵
+        qed W ((‵ (flft κ₀ q₀) ⊛ (‵ (flft κ₁ q₁) ⊛ (‵ (flft κ₂ q₂) ⊛ (‵ (flft κ₃ q₃) ⊛ ‵ ftrue)))) ∷ ‵
+        (owns (ShrSlice (named 0) κ₀ u8 ∷ ShrSlice (named 1) κ₁ u8 ∷ MutSlice (named 2) κ₂ R ∷ MutSlice (named 3) κ₃
+        u8 ∷ usize ∷ []) (t, (y, (xs γ, (a, (k, tt))))) at) ∷ []) ∵
         enter ! (𝓣 .C) (𝓣 .Λ) code.function (vt ∷ vy ∷ vs ∷ va ∷ vint w64 k ∷ []) _ $
         alloc1 ! (λ l₀. alloc1 ! (λ l₁. alloc1 ! (λ l₂. alloc1 ! (λ l₃. alloc1 ! (λ l₄. alloc1 ! (λ l₅. alloc1 ! (λ l₆. alloc1 ! (λ l₇. alloc1 ! (λ l₈. alloc1 ! (λ l₉. alloc1 ! (λ l₁₀. alloc1 ! (λ l₁₁. alloc1 ! (λ l₁₂. alloc1 ! (λ l₁₃. alloc1 ! (λ l₁₄. alloc1 ! (λ l₁₅. alloc1 ! (λ l₁₆. alloc1 ! (λ l₁₇. alloc1 ! (λ l₁₈. alloc1 ! (λ l₁₉. alloc1 ! (λ l₂₀. alloc1 ! (λ l₂₁. alloc1 ! (λ l₂₂. alloc0 ! $ params1 ! $
         pass1 ! (init ! 42 refl (tt, (tt, (record { fits = gt .0 }, tt)))) $ pass1 ! (init ! 40 refl (tt, (tt, (record { fits = gy .0 }, tt)))) $ pass1 ! (init ! 38 refl (tt, (tt, (record { fits = gn .0 }, tt)))) $ pass1 ! (init ! 36 refl (tt, (tt, (record { fits = ga .0 }, tt)))) $ pass1 ! (init ! 34 refl (tt, record { fits = gk })) $ pass0 ! $
@@ -316,14 +334,40 @@ module _ {M : Type 1} (𝓤 : URA M) (H : Heap 𝓤) (A : Atoms 𝓤) (W : Given
 module _ {M : Type 1} (𝓤 : URA M) (H : Heap 𝓤) (A : Atoms 𝓤) (W : Given 𝓤 H A) (mem : Memory → SProp 𝓤) (run : Routine → Fun 𝓤) (𝓣 : Tables 𝓤 H) (known-load : Triple 𝓤 (𝓣 .C #slots·load) (Load 𝓤 H A mem run)) (known-read : Triple 𝓤 (𝓣 .C #slots·read·read-first) (ReadFirst 𝓤 H A mem run)) (known-save : Triple 𝓤 (𝓣 .C #slots·save) (Save 𝓤 H A mem run)) where
   walks : Walks 𝓤 H A rs.ended stayed (WpFn 𝓤 H (𝓣 .C) (𝓣 .Λ) code.function) (rs.clauses 𝓤 H A mem run)
   walks = walked 𝓤 H A rs.ended stayed (rs.clauses 𝓤 H A mem run) (WpFn 𝓤 H (𝓣 .C) (𝓣 .Λ) code.function) (λ κs. (slice-vals, (slice-vals, (slice-vals, (slice-vals, (uint-vals w64, tt))))))
-      (λ κs. (shr-slice-tells (named 0) (κs .0) u8, (shr-slice-tells (named 1) (κs .1 .0) u8, (mut-slice-tells (named 2) (κs .1 .1 .0) R, (mut-slice-tells (named 3) (κs .1 .1 .1 .0) u8, (uint-tells w64, tt))))))
+      (λ κs. (
+        shr-slice-tells (named 0) (κs .0) u8,
+        (
+          shr-slice-tells (named 1) (κs .1 .0) u8,
+          (
+            mut-slice-tells (named 2)
+                (κs .1 .1 .0) R,
+            (mut-slice-tells (named 3) (κs .1 .1 .1 .0) u8, (uint-tells w64, tt)),
+          ),
+        ),
+      ))
       (λ κs qs bounds a g are. via 𝓤 _ (fst∗ 𝓤 _ (emp 𝓤)) (walk 𝓤 H A W mem run (κs .0) (κs .1 .0) (κs .1 .1 .0) (κs .1 .1 .1 .0) (qs .0) (qs .1 .0) (qs .1 .1 .0) (qs .1 .1 .1 .0)
       (a .0) (a .1 .0) (a .1 .1 .0 .ptr .0) (a .1 .1 .0 .ptr .1) (a .1 .1 .0 .name) (a .1 .1 .0 .now) (a .1 .1 .1 .0) (a .1 .1 .1 .1 .0)
       (are .0 .0 .1) (are .1 .0 .0 .1) (are .1 .1 .0 .0 .1) (are .1 .1 .1 .0 .0 .1) (are .1 .1 .1 .1 .0 .1) 𝓣 known-load known-read known-save))
 
   meets : Meets 𝓤 H A rs.signature (WpFn 𝓤 H (𝓣 .C) (𝓣 .Λ) code.function) (rs.spec 𝓤 H A mem run)
-  meets = walk-meets 𝓤 H A rs.ended stayed W
-      (goes-dropped 𝓤 H A W 4 (shrSlice 0 tt (λ _. u8)) yes (λ κs x f. refl), (goes-dropped 𝓤 H A W 4 (shrSlice 1 tt (λ _. u8)) yes (λ κs x f. refl), (goes-gave-slice 𝓤 H A W 4 2 tt (plain (λ _. R)), (goes-gave-slice 𝓤 H A W 4 3 tt (plain (λ _. u8)), (goes-dropped 𝓤 H A W 4 (plain (λ _. usize)) yes (λ κs x f. refl), tt)))))
+  meets = walk-meets 𝓤 H A rs.ended stayed W (
+    goes-dropped 𝓤 H A W 4 (shrSlice 0 tt (λ _. u8)) yes (λ κs x f. refl),
+    (
+      goes-dropped 𝓤 H A W 4
+          (shrSlice 1 tt (λ _. u8)) yes (λ κs x f. refl),
+      (
+        goes-gave-slice 𝓤 H A W 4 2 tt (plain (λ _. R)),
+        (
+          goes-gave-slice 𝓤 H A W 4 3 tt (plain (λ _. u8)),
+          (
+            goes-dropped 𝓤 H A W 4 (plain (λ _. usize)) yes
+                (λ κs x f. refl),
+            tt,
+          ),
+        ),
+      ),
+    ),
+  )
       (rs.clauses 𝓤 H A mem run) (WpFn 𝓤 H (𝓣 .C) (𝓣 .Λ) code.function) (WpFn-mono 𝓤 H (W .laws) 𝓣 code.function) walks
 
 pub read-slots-spec : {M : Type 1} → stated.statement M

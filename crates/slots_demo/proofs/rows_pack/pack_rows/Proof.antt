@@ -80,7 +80,23 @@ lawful : {M : Type 1} (𝓤 : URA M) (H : Heap 𝓤) (A : Atoms 𝓤) → Given 
 lawful 𝓤 H A W = LL.lawful T.the-type T′.the-laws 𝓤 H A W
 
 abbrev stayed : Stays (pt.ended .signature .params) (pt.ended .kept)
-stayed = (stay-dropped (shrSlice 0 tt (λ _. u8)) yes, (stay-dropped (plain (λ _. Table)) yes, (stay-dropped (plain (λ _. usize)) yes, (stay-dropped (shrSlice 1 tt (λ _. u8)) yes, (gave-slice (2 ∷ []) tt (plain (λ _. u8)), tt)))))
+stayed = (
+  stay-dropped (shrSlice 0 tt (λ _. u8)) yes,
+  (
+    stay-dropped (plain (λ _. Table)) yes,
+    (
+      stay-dropped (plain (λ _. usize)) yes,
+      (
+        stay-dropped (shrSlice 1 tt (λ _. u8)) yes,
+        (
+          gave-slice (2 ∷ []) tt
+              (plain (λ _. u8)),
+          tt,
+        ),
+      ),
+    ),
+  ),
+)
 
 abbrev PackSlots : {M : Type 1} (𝓤 : URA M) (H : Heap 𝓤) (A : Atoms 𝓤) (mem : Memory → SProp 𝓤) (run : Routine → Fun 𝓤) → Contract 𝓤
 PackSlots 𝓤 H A mem run = tripleOf 𝓤 H A ps.signature (ps.spec 𝓤 H A mem run)
@@ -187,7 +203,9 @@ module _ {M : Type 1} (𝓤 : URA M) (H : Heap 𝓤) (A : Atoms 𝓤) (W : Given
   module _ (𝓣 : Tables 𝓤 H) (known : Triple 𝓤 (𝓣 .C #slots·pack·pack-slots) (PackSlots 𝓤 H A mem run)) where
     walk : ent 𝓤 (onEntry 𝓤 H A pt.signature (κ₀, (κ₁, (κ₂, tt))) (q₀, (q₁, (q₂, tt))) (t, (xs, (n, (a, (o, tt))))) at) (WpFn 𝓤 H (𝓣 .C) (𝓣 .Λ) code.function (vt ∷ v ∷ vint w64 n ∷ va ∷ vo ∷ []) Post)
     walk =
-        qed W ((‵ (flft κ₀ q₀) ⊛ (‵ (flft κ₁ q₁) ⊛ (‵ (flft κ₂ q₂) ⊛ ‵ ftrue))) ∷ ‵ (owns (ShrSlice (named 0) κ₀ u8 ∷ Table ∷ usize ∷ ShrSlice (named 1) κ₁ u8 ∷ MutSlice (named 2) κ₂ u8 ∷ []) (t, (xs, (n, (a, (o, tt))))) at) ∷ []) ∵
+        qed W ((‵ (flft κ₀ q₀) ⊛ (‵ (flft κ₁ q₁) ⊛ (‵ (flft κ₂ q₂) ⊛ ‵ ftrue))) ∷ ‵
+        (owns (ShrSlice (named 0) κ₀ u8 ∷ Table ∷ usize ∷ ShrSlice (named 1) κ₁ u8 ∷ MutSlice (named 2) κ₂ u8 ∷ [])
+        (t, (xs, (n, (a, (o, tt))))) at) ∷ []) ∵
         enter ! (𝓣 .C) (𝓣 .Λ) code.function (vt ∷ v ∷ vint w64 n ∷ va ∷ vo ∷ []) _ $
         alloc1 ! (λ l₀. alloc1 ! (λ l₁. alloc1 ! (λ l₂. alloc1 ! (λ l₃. alloc1 ! (λ l₄. alloc1 ! (λ l₅. alloc1 ! (λ l₆. alloc1 ! (λ l₇. alloc1 ! (λ l₈. alloc1 ! (λ l₉. alloc1 ! (λ l₁₀. alloc0 ! $ params1 ! $
         pass1 ! (init ! 18 refl (tt, (tt, (record { fits = gt .0 }, tt)))) $ pass1 ! (init ! 16 refl (array-lawful 𝓤 H A W R (lawful 𝓤 H A W) tableRows .typed xs (v ∷ []) is .0)) $ pass1 ! (init ! 14 refl (tt, record { fits = rows-fit n most .0 })) $ pass1 ! (init ! 12 refl (tt, (tt, (record { fits = ga .0 }, tt)))) $ pass1 ! (init ! 10 refl (tt, (tt, (record { fits = go .0 }, tt)))) $ pass0 ! $
@@ -218,14 +236,43 @@ module _ {M : Type 1} (𝓤 : URA M) (H : Heap 𝓤) (A : Atoms 𝓤) (W : Given
 module _ {M : Type 1} (𝓤 : URA M) (H : Heap 𝓤) (A : Atoms 𝓤) (W : Given 𝓤 H A) (mem : Memory → SProp 𝓤) (run : Routine → Fun 𝓤) (𝓣 : Tables 𝓤 H) (known : Triple 𝓤 (𝓣 .C #slots·pack·pack-slots) (PackSlots 𝓤 H A mem run)) where
   walks : Walks 𝓤 H A pt.ended stayed (WpFn 𝓤 H (𝓣 .C) (𝓣 .Λ) code.function) (pt.clauses 𝓤 H A mem run)
   walks = walked 𝓤 H A pt.ended stayed (pt.clauses 𝓤 H A mem run) (WpFn 𝓤 H (𝓣 .C) (𝓣 .Λ) code.function) (λ κs. (slice-vals, (spelled, (uint-vals w64, (slice-vals, (slice-vals, tt))))))
-      (λ κs. (shr-slice-tells (named 0) (κs .0) u8, (array-tells R (LL.vals T.the-type T′.the-laws) (LL.tells T.the-type T′.the-laws) tableRows, (uint-tells w64, (shr-slice-tells (named 1) (κs .1 .0) u8, (mut-slice-tells (named 2) (κs .1 .1 .0) u8, tt))))))
+      (λ κs. (
+        shr-slice-tells (named 0) (κs .0) u8,
+        (
+          array-tells R (LL.vals T.the-type T′.the-laws)
+              (LL.tells T.the-type T′.the-laws) tableRows,
+          (
+            uint-tells w64,
+            (
+              shr-slice-tells (named 1) (κs .1 .0) u8,
+              (mut-slice-tells (named 2) (κs .1 .1 .0) u8, tt),
+            ),
+          ),
+        ),
+      ))
       (λ κs qs bounds a g are. needs 𝓤 (a .1 .1 .0 ≤ tableRows) _ (λ p.
       walk 𝓤 H A W mem run (κs .0) (κs .1 .0) (κs .1 .1 .0) (qs .0) (qs .1 .0) (qs .1 .1 .0) (a .0) (a .1 .0) (a .1 .1 .0) (a .1 .1 .1 .0) (a .1 .1 .1 .1 .0)
       (are .0 .0 .1) (are .1 .0) p (are .1 .1 .1 .0 .0 .1) (are .1 .1 .1 .1 .0 .0 .1) 𝓣 known))
 
   meets : Meets 𝓤 H A pt.signature (WpFn 𝓤 H (𝓣 .C) (𝓣 .Λ) code.function) (pt.spec 𝓤 H A mem run)
-  meets = walk-meets 𝓤 H A pt.ended stayed W
-      (goes-dropped 𝓤 H A W 3 (shrSlice 0 tt (λ _. u8)) yes (λ κs x f. refl), (goes-dropped 𝓤 H A W 3 (plain (λ _. Table)) yes (λ κs x f. refl), (goes-dropped 𝓤 H A W 3 (plain (λ _. usize)) yes (λ κs x f. refl), (goes-dropped 𝓤 H A W 3 (shrSlice 1 tt (λ _. u8)) yes (λ κs x f. refl), (goes-gave-slice 𝓤 H A W 3 2 tt (plain (λ _. u8)), tt)))))
+  meets = walk-meets 𝓤 H A pt.ended stayed W (
+    goes-dropped 𝓤 H A W 3 (shrSlice 0 tt (λ _. u8)) yes (λ κs x f. refl),
+    (
+      goes-dropped 𝓤 H A W 3
+          (plain (λ _. Table)) yes (λ κs x f. refl),
+      (
+        goes-dropped 𝓤 H A W 3 (plain (λ _. usize)) yes (λ κs x f. refl),
+        (
+          goes-dropped 𝓤 H A W 3 (shrSlice 1 tt (λ _. u8)) yes (λ κs x f. refl),
+          (
+            goes-gave-slice 𝓤 H A W 3 2 tt
+                (plain (λ _. u8)),
+            tt,
+          ),
+        ),
+      ),
+    ),
+  )
       (pt.clauses 𝓤 H A mem run) (WpFn 𝓤 H (𝓣 .C) (𝓣 .Λ) code.function) (WpFn-mono 𝓤 H (W .laws) 𝓣 code.function) walks
 
 pub pack-rows-spec : {M : Type 1} → stated.statement M

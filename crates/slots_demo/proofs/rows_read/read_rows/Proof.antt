@@ -92,7 +92,23 @@ abbrev Out : RattleType
 Out = TO.the-row
 
 abbrev stayed : Stays (rt.ended .signature .params) (rt.ended .kept)
-stayed = (stay-dropped (shrSlice 0 tt (λ _. u8)) yes, (stay-dropped (shrSlice 1 tt (λ _. u8)) yes, (stay-dropped (plain (λ _. Table)) yes, (stay-dropped (plain (λ _. usize)) yes, (gave-slice (2 ∷ []) tt (plain (λ _. u8)), (stay-dropped (plain (λ _. usize)) yes, tt))))))
+stayed = (
+  stay-dropped (shrSlice 0 tt (λ _. u8)) yes,
+  (
+    stay-dropped (shrSlice 1 tt (λ _. u8)) yes,
+    (
+      stay-dropped (plain (λ _. Table)) yes,
+      (
+        stay-dropped (plain (λ _. usize)) yes,
+        (
+          gave-slice (2 ∷ []) tt
+              (plain (λ _. u8)),
+          (stay-dropped (plain (λ _. usize)) yes, tt),
+        ),
+      ),
+    ),
+  ),
+)
 
 -- the contracts that the proof cites
 module _ {M : Type 1} (𝓤 : URA M) (H : Heap 𝓤) (A : Atoms 𝓤) (mem : Memory → SProp 𝓤) (run : Routine → Fun 𝓤) where
@@ -153,7 +169,9 @@ module _ {M : Type 1} (𝓤 : URA M) (H : Heap 𝓤) (A : Atoms 𝓤) (W : Given
   still-all : (p : Left) → Fine p → length (p .1) ≡ tableRows
   still-all p f = f .1 ∙ all
 
-  exits : (p : Left) (m : Outcome) (u : Val) → Fine p → m ≡ record { answer = p .0; slots = p .1 } → ent 𝓤 (⋆ 𝓤 H A (‵ (Out .own m (u ∷ [])) ∷ ‵ (finally u8 (a .name) (p .2)) ∷ ‵ (flft κ₂ q₂) ∷ ‵ (flft κ₁ q₁) ∷ ‵ (flft κ₀ q₀) ∷ [])) (Post u)
+  exits : (p : Left) (m : Outcome) (u : Val) → Fine p → m ≡ record { answer = p .0; slots = p .1 }
+      → ent 𝓤 (⋆ 𝓤 H A (‵ (Out .own m (u ∷ [])) ∷ ‵ (finally u8 (a .name) (p .2)) ∷ ‵ (flft κ₂ q₂) ∷ ‵ (flft κ₁ q₁) ∷ ‵
+      (flft κ₀ q₀) ∷ [])) (Post u)
   exits p m u f e =
       qed W (‵ (Out .own m (u ∷ [])) ∷ ‵ (finally u8 (a .name) (p .2)) ∷ ‵ (flft κ₂ q₂) ∷ ‵ (flft κ₁ q₁) ∷ ‵ (flft κ₀ q₀) ∷ []) ∵
       suffices ! _ (ends-at 𝓤 H A rt.ended stayed (rt.clauses 𝓤 H A mem run) W bound u m (tt, (tt, (tt, (tt, (p .2, (tt, tt)))))) (tt, (tt, (tt, (tt, (f .2, (tt, tt))))))) $
@@ -227,9 +245,12 @@ module _ {M : Type 1} (𝓤 : URA M) (H : Heap 𝓤) (A : Atoms 𝓤) (W : Given
     said-tg m = exE 𝓤 _ (λ ws. snd∗ 𝓤 (sem 𝓤 H A (lasts tg.ended tt (r, (zs, tt)) ws)) (fact 𝓤 (Is-both m)))
 
   module _ (𝓣 : Tables 𝓤 H) (known-read : Triple 𝓤 (𝓣 .C #slots·read·read-slots) (ReadRun 𝓤 H A mem run)) (known-tg : Triple 𝓤 (𝓣 .C #slots-demo·rows-read·together) (Together 𝓤 H A mem run)) where
-    walk : ent 𝓤 (onEntry 𝓤 H A rt.signature (κ₀, (κ₁, (κ₂, tt))) (q₀, (q₁, (q₂, tt))) (t, (y, (xs, (n, (a, (k, tt)))))) at) (WpFn 𝓤 H (𝓣 .C) (𝓣 .Λ) code.function (vt ∷ vy ∷ v ∷ vint w64 n ∷ va ∷ vint w64 k ∷ []) Post)
+    walk : ent 𝓤 (onEntry 𝓤 H A rt.signature (κ₀, (κ₁, (κ₂, tt))) (q₀, (q₁, (q₂, tt))) (t, (y, (xs, (n, (a, (k, tt))))))
+        at) (WpFn 𝓤 H (𝓣 .C) (𝓣 .Λ) code.function (vt ∷ vy ∷ v ∷ vint w64 n ∷ va ∷ vint w64 k ∷ []) Post)
     walk =
-        qed W ((‵ (flft κ₀ q₀) ⊛ (‵ (flft κ₁ q₁) ⊛ (‵ (flft κ₂ q₂) ⊛ ‵ ftrue))) ∷ ‵ (owns (ShrSlice (named 0) κ₀ u8 ∷ ShrSlice (named 1) κ₁ u8 ∷ Table ∷ usize ∷ MutSlice (named 2) κ₂ u8 ∷ usize ∷ []) (t, (y, (xs, (n, (a, (k, tt)))))) at) ∷ []) ∵
+        qed W ((‵ (flft κ₀ q₀) ⊛ (‵ (flft κ₁ q₁) ⊛ (‵ (flft κ₂ q₂) ⊛ ‵ ftrue))) ∷ ‵
+        (owns (ShrSlice (named 0) κ₀ u8 ∷ ShrSlice (named 1) κ₁ u8 ∷ Table ∷ usize ∷ MutSlice (named 2) κ₂ u8
+        ∷ usize ∷ []) (t, (y, (xs, (n, (a, (k, tt)))))) at) ∷ []) ∵
         enter ! (𝓣 .C) (𝓣 .Λ) code.function (vt ∷ vy ∷ v ∷ vint w64 n ∷ va ∷ vint w64 k ∷ []) _ $
         alloc1 ! (λ l₀. alloc1 ! (λ l₁. alloc1 ! (λ l₂. alloc1 ! (λ l₃. alloc1 ! (λ l₄. alloc1 ! (λ l₅. alloc1 ! (λ l₆. alloc1 ! (λ l₇. alloc1 ! (λ l₈. alloc1 ! (λ l₉. alloc1 ! (λ l₁₀. alloc1 ! (λ l₁₁. alloc1 ! (λ l₁₂. alloc1 ! (λ l₁₃. alloc0 ! $ params1 ! $
         pass1 ! (init ! 24 refl (tt, (tt, (record { fits = gt .0 }, tt)))) $ pass1 ! (init ! 22 refl (tt, (tt, (record { fits = gy .0 }, tt)))) $ pass1 ! (init ! 20 refl (array-lawful 𝓤 H A W R (lawful 𝓤 H A W) tableRows .typed xs (v ∷ []) is .0)) $ pass1 ! (init ! 18 refl (tt, record { fits = rows-fit n most .0 })) $ pass1 ! (init ! 16 refl (tt, (tt, (record { fits = ga .0 }, tt)))) $ pass1 ! (init ! 14 refl (tt, record { fits = gk })) $ pass0 ! $
@@ -270,15 +291,43 @@ module _ {M : Type 1} (𝓤 : URA M) (H : Heap 𝓤) (A : Atoms 𝓤) (W : Given
 
 module _ {M : Type 1} (𝓤 : URA M) (H : Heap 𝓤) (A : Atoms 𝓤) (W : Given 𝓤 H A) (mem : Memory → SProp 𝓤) (run : Routine → Fun 𝓤) (𝓣 : Tables 𝓤 H) (known-read : Triple 𝓤 (𝓣 .C #slots·read·read-slots) (ReadRun 𝓤 H A mem run)) (known-tg : Triple 𝓤 (𝓣 .C #slots-demo·rows-read·together) (Together 𝓤 H A mem run)) where
   walks : Walks 𝓤 H A rt.ended stayed (WpFn 𝓤 H (𝓣 .C) (𝓣 .Λ) code.function) (rt.clauses 𝓤 H A mem run)
-  walks = walked 𝓤 H A rt.ended stayed (rt.clauses 𝓤 H A mem run) (WpFn 𝓤 H (𝓣 .C) (𝓣 .Λ) code.function) (λ κs. (slice-vals, (slice-vals, (spelled, (uint-vals w64, (slice-vals, (uint-vals w64, tt)))))))
-      (λ κs. (shr-slice-tells (named 0) (κs .0) u8, (shr-slice-tells (named 1) (κs .1 .0) u8, (array-tells R (LL.vals T.the-type T′.the-laws) (LL.tells T.the-type T′.the-laws) tableRows, (uint-tells w64, (mut-slice-tells (named 2) (κs .1 .1 .0) u8, (uint-tells w64, tt)))))))
+  walks =
+      walked 𝓤 H A rt.ended stayed (rt.clauses 𝓤 H A mem run) (WpFn 𝓤 H (𝓣 .C) (𝓣 .Λ) code.function)
+      (λ κs. (slice-vals, (slice-vals, (spelled, (uint-vals w64, (slice-vals, (uint-vals w64, tt)))))))
+      (λ κs. (
+        shr-slice-tells (named 0) (κs .0) u8,
+        (
+          shr-slice-tells (named 1) (κs .1 .0) u8,
+          (
+            array-tells R (LL.vals T.the-type T′.the-laws) (LL.tells T.the-type T′.the-laws) tableRows,
+            (uint-tells w64, (mut-slice-tells (named 2) (κs .1 .1 .0) u8, (uint-tells w64, tt))),
+          ),
+        ),
+      ))
       (λ κs qs bounds a g are. needs 𝓤 (a .1 .1 .1 .0 ≤ tableRows) _ (λ p.
       walk 𝓤 H A W mem run (κs .0) (κs .1 .0) (κs .1 .1 .0) (qs .0) (qs .1 .0) (qs .1 .1 .0) (a .0) (a .1 .0) (a .1 .1 .0) (a .1 .1 .1 .0) (a .1 .1 .1 .1 .0) (a .1 .1 .1 .1 .1 .0)
       (are .0 .0 .1) (are .1 .0 .0 .1) (are .1 .1 .0) p (are .1 .1 .1 .1 .0 .0 .1) (are .1 .1 .1 .1 .1 .0 .1) 𝓣 known-read known-tg))
 
   meets : Meets 𝓤 H A rt.signature (WpFn 𝓤 H (𝓣 .C) (𝓣 .Λ) code.function) (rt.spec 𝓤 H A mem run)
-  meets = walk-meets 𝓤 H A rt.ended stayed W
-      (goes-dropped 𝓤 H A W 3 (shrSlice 0 tt (λ _. u8)) yes (λ κs x f. refl), (goes-dropped 𝓤 H A W 3 (shrSlice 1 tt (λ _. u8)) yes (λ κs x f. refl), (goes-dropped 𝓤 H A W 3 (plain (λ _. Table)) yes (λ κs x f. refl), (goes-dropped 𝓤 H A W 3 (plain (λ _. usize)) yes (λ κs x f. refl), (goes-gave-slice 𝓤 H A W 3 2 tt (plain (λ _. u8)), (goes-dropped 𝓤 H A W 3 (plain (λ _. usize)) yes (λ κs x f. refl), tt))))))
+  meets = walk-meets 𝓤 H A rt.ended stayed W (
+    goes-dropped 𝓤 H A W 3 (shrSlice 0 tt (λ _. u8)) yes (λ κs x f. refl),
+    (
+      goes-dropped 𝓤 H A W 3
+          (shrSlice 1 tt (λ _. u8)) yes (λ κs x f. refl),
+      (
+        goes-dropped 𝓤 H A W 3 (plain (λ _. Table)) yes
+            (λ κs x f. refl),
+        (
+          goes-dropped 𝓤 H A W 3 (plain (λ _. usize)) yes (λ κs x f. refl),
+          (
+            goes-gave-slice 𝓤 H A W
+                3 2 tt (plain (λ _. u8)),
+            (goes-dropped 𝓤 H A W 3 (plain (λ _. usize)) yes (λ κs x f. refl), tt),
+          ),
+        ),
+      ),
+    ),
+  )
       (rt.clauses 𝓤 H A mem run) (WpFn 𝓤 H (𝓣 .C) (𝓣 .Λ) code.function) (WpFn-mono 𝓤 H (W .laws) 𝓣 code.function) walks
 
 pub read-rows-spec : {M : Type 1} → stated.statement M
