@@ -1,13 +1,15 @@
 // Comparing two copies of a record for a C host.
 ghost use mathlib.Core.Path.{_≡_};
+ghost use mathlib.Core.Bool.{true};
 ghost use Prim.Native.Nat.{_*_, _/_, _%_, min};
 ghost use lib.ListN.{length};
 ghost use Rattle.record.specs.Table.{slotWidth, maxSlots};
 ghost use Rattle.host.specs.Numbers.{numberSize};
 ghost use Rattle.host.specs.Host.{replySize};
+ghost use Rattle.host.specs.inside.Small.{slotBytesFit};
 ghost use Rattle.compare.specs.Difference.{reportWidth};
 ghost use Rattle.host_compare.specs.Calls.{CompareServed, HostCompares};
-ghost use Rattle.host_compare.specs.inside.Steps.{SecondRefused};
+ghost use Rattle.host_compare.specs.inside.Steps.{SecondRefused, Few};
 use layout::Refusal;
 use reader::checking;
 use record::Answer;
@@ -15,8 +17,13 @@ use record::Answer;
 // What a comparing leaves, written back as bytes.
 mod report;
 
-// The numbers of a report that has a finding for every slot.
+// The numbers of a report that has a finding for every slot, and for each of eight.
 const MAX_REPORT: usize = compare::report::REPORT_WIDTH * record::MAX_SLOTS;
+
+const FEW_FINDINGS: usize = compare::report::REPORT_WIDTH * 8;
+
+// The bytes of eight slots.
+const FEW_BYTES: usize = host::FEW_NUMBERS * host::numbers::NUMBER_SIZE;
 
 // The second table is cut or too long: the answer to the first reading's refusals, and else 1.
 fn refuse_second(layout: &[u8], first: &[u8], slots: &[u32], area: &[u8], reply: &mut [u8]) -> u32
@@ -78,6 +85,62 @@ fn compare_by(
     )
 }
 
+// Whether the small arrays do for slots of `first` and `second` bytes and a report of `report` bytes. The second table
+// is then served.
+fn is_few(first: usize, second: usize, report: usize) -> bool
+    ensures { λ r. ⌜ (r ≡ true → Few first second report) ⌝ }
+{
+    if FEW_BYTES < first {
+        return false;
+    }
+    if FEW_BYTES < second {
+        return false;
+    }
+    if !host::slots_fit(second) {
+        return false;
+    }
+    report / host::numbers::NUMBER_SIZE <= FEW_FINDINGS
+}
+
+// Compares, where small arrays do for the numbers: clearing the large ones costs more than a small record.
+fn compare_few(
+    layout: &[u8],
+    first: &[u8],
+    second: &[u8],
+    first_slots: &mut [u8],
+    first_area: &mut [u8],
+    second_slots: &mut [u8],
+    second_area: &mut [u8],
+    report: &mut [u8],
+    reply: &mut [u8],
+) -> u32
+    requires { ⌜ (length (now reply) ≡ replySize) × (slotBytesFit (length (now «first_slots»)) ≡ true)
+        × Few (length (now «first_slots»)) (length (now «second_slots»)) (length (now report)) ⌝ }
+    ensures { λ r. ⌜ CompareServed layout first second «first_slots» «first_area» «second_slots» «second_area» report
+        reply r ⌝ }
+{
+    let n = first_slots.len() / host::numbers::NUMBER_SIZE;
+    let m = second_slots.len() / host::numbers::NUMBER_SIZE;
+    let k = record::least(report.len() / host::numbers::NUMBER_SIZE, MAX_REPORT);
+    let mut first_room: [u32; host::FEW_NUMBERS] = [0; host::FEW_NUMBERS];
+    let mut second_room: [u32; host::FEW_NUMBERS] = [0; host::FEW_NUMBERS];
+    let mut findings: [u32; FEW_FINDINGS] = [0; FEW_FINDINGS];
+    compare_by(
+        layout,
+        first,
+        second,
+        first_slots,
+        first_area,
+        second_slots,
+        second_area,
+        report,
+        reply,
+        &mut first_room[..n],
+        &mut second_room[..m],
+        &mut findings[..k],
+    )
+}
+
 // Reads two copies of a record by their layout, each into its own table and area, and says for each value field what
 // differs.
 pub fn compare(
@@ -99,6 +162,19 @@ pub fn compare(
     }
     if !host::slots_fit(first_slots.len()) {
         return host::reply_with(reply, Answer::refused(Refusal::BadSize, 0));
+    }
+    if is_few(first_slots.len(), second_slots.len(), report.len()) {
+        return compare_few(
+            layout,
+            first,
+            second,
+            first_slots,
+            first_area,
+            second_slots,
+            second_area,
+            report,
+            reply,
+        );
     }
     let n = first_slots.len() / host::numbers::NUMBER_SIZE;
     let mut first_room: [u32; record::MAX_NUMBERS] = [0; record::MAX_NUMBERS];

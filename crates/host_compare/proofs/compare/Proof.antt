@@ -43,23 +43,65 @@ first-fits : (c : tie.Else2)
     Fit (length (start .args .first-slots .now))
 first-fits c = fit _ (sym (c .before .slots-fit .ensures) ∙ not-false _ (c .if2 .left))
 
+compare-few-requires : tie.Need-compare-few-requires
+compare-few-requires c κs =
+    let tested = c .before .before .before .before .before .before in
+    let first = tested .before .before in
+    (sized (first .before .before), sym (first .before .slots-fit .ensures) ∙ not-false _ (first .if2 .left), tested .before .is-few .ensures (tested .if3 .taken))
+
+same-length-2 : tie.Need-same-length-2
+same-length-2 c =
+    let at-first-slots = c .before .before .before .before .before .before .before .before .before .before .before in
+    at-first-slots .first-slots .given
+
+same-length-3 : tie.Need-same-length-3
+same-length-3 c = c .before .before .before .before .before .before .before .before .before .first-area .given
+
+same-length-4 : tie.Need-same-length-4
+same-length-4 c = c .before .before .before .before .before .before .before .second-slots .given
+
+same-length-5 : tie.Need-same-length-5
+same-length-5 c = c .before .before .before .before .before .second-area .given
+
+same-length-6 : tie.Need-same-length-6
+same-length-6 c = c .before .before .before .report .given
+
+same-length-7 : tie.Need-same-length-7
+same-length-7 c = c .before .reply2 .given
+
+returns-3 : tie.Need-returns-3
+returns-3 c =
+    let called = c .before .before .before .before .before .before .before .before .before .before .before .before in
+    let tested = called .before .before .before .before .before .before .before in
+    let first = tested .before .before in
+    let replying = first .before .before in
+    let a = replying .before .before .before .before .before .before .before .before .before .before .before .args in
+    let second : Fit (length (a .second-slots .now)) = fit _ (tested .before .is-few .ensures (tested .if3 .taken) .whole) in
+    let l = called .compare-few .last .1 .1 .1 in
+    served (a .layout .now) (a .first .now) (a .second .now) (a .first-slots .now) (a .first-area .now)
+    (a .second-slots .now) (a .second-area .now) (a .report .now) (a .reply .now) (sized replying)
+    (first-fits first) second
+    {r = called .compare-few .result} {fslots′ = l .0} {farea′ = l .1 .0} {sslots′ = l .1 .1 .0}
+    {sarea′ = l .1 .1 .1 .0} {report′ = l .1 .1 .1 .1 .0} {reply′ = l .1 .1 .1 .1 .1 .0}
+    (called .compare-few .ensures)
+
 array-share-prefix-first-room : tie.Need-array-share-prefix-first-room
-array-share-prefix-first-room c = let f = first-fits (c .before .before) in omega (arith, f .few)
+array-share-prefix-first-room c = let f = first-fits (c .before .before .before .before) in omega (arith, f .few)
 
 slice-aggregate-refuse-second : tie.Need-slice-aggregate-refuse-second
 slice-aggregate-refuse-second c = sym (length-take-le _ _ (array-share-prefix-first-room (c .before)))
 
 refuse-second-requires : tie.Need-refuse-second-requires
-refuse-second-requires c κs = sized (c .before .before .before .before .before .before .before)
+refuse-second-requires c κs = sized (c .before .before .before .before .before .before .before .before .before)
 
-same-length-3 : tie.Need-same-length-3
-same-length-3 c = c .before .reply2 .given
+same-length-9 : tie.Need-same-length-9
+same-length-9 c = c .before .reply3 .given
 
-returns-3 : tie.Need-returns-3
-returns-3 c =
+returns-4 : tie.Need-returns-4
+returns-4 c =
     let called = c .before .before in
     let tested = called .before .before .before .before in
-    let served = tested .before .before in
+    let served = tested .before .before .before .before in
     let replying = served .before .before in
     let a = replying .before .before .before .before .before .before .before .before .before .before .before .args in
     second-cut (a .layout .now) (a .first .now) (a .second .now) (a .first-slots .now) (a .first-area .now)
@@ -67,17 +109,17 @@ returns-3 c =
     (first-fits served) _
     {r = called .refuse-second .result} {reply′ = called .refuse-second .last .1 .1 .1 .1 .0}
     (length-take-le _ _ (array-share-prefix-first-room tested)) (sym (tested .before .slots-fit2 .ensures)
-    ∙ not-true _ (tested .if3 .taken))
+    ∙ not-true _ (tested .if4 .taken))
     (called .refuse-second .ensures)
 
-second-fits : (c : tie.Else3)
-    → let start = c .before .before .before .before .before .before .before .before .before .before .before .before .before .before .before in
+second-fits : (c : tie.Else4)
+    → let start = c .before .before .before .before .before .before .before .before .before .before .before .before .before .before .before .before .before in
     Fit (length (start .args .second-slots .now))
-second-fits c = fit _ (sym (c .before .slots-fit2 .ensures) ∙ not-false _ (c .if3 .left))
+second-fits c = fit _ (sym (c .before .slots-fit2 .ensures) ∙ not-false _ (c .if4 .left))
 
 array-borrow-prefix-first-room : tie.Need-array-borrow-prefix-first-room
 array-borrow-prefix-first-room c =
-    let earlier = c .before .before .before .before .before .before .before .before .before in
+    let earlier = c .before .before .before .before .before .before .before .before .before .before .before in
     let f = first-fits earlier in omega (arith, f .few)
 
 slice-aggregate-compare-by : tie.Need-slice-aggregate-compare-by
@@ -101,7 +143,7 @@ compare-by-requires : tie.Need-compare-by-requires
 compare-by-requires c κs =
     let counted = c .before .before .before .before .before .before .before .before .before in
     let left = counted .before in
-    let first = left .before .before in
+    let first = left .before .before .before .before in
     let room-2 = c .before .before in
     let room-1 = room-2 .before in (
       (sized (first .before .before), length-take-le _ _ (array-borrow-prefix-findings (c .before)) ∙ counted .least .ensures),
@@ -111,33 +153,35 @@ compare-by-requires c κs =
       ),
     )
 
-same-length-4 : tie.Need-same-length-4
-same-length-4 c =
-    let at-first-slots = c .before .before .before .before .before .before .before .before .before .before .before .before .before .before in
-    at-first-slots .first-slots .given
+same-length-10 : tie.Need-same-length-10
+same-length-10 c =
+    let at-first-slots2 = c .before .before .before .before .before .before .before .before .before .before .before .before .before .before in
+    at-first-slots2 .first-slots2 .given
 
-same-length-5 : tie.Need-same-length-5
-same-length-5 c =
-    let at-first-area = c .before .before .before .before .before .before .before .before .before .before .before .before in
-    at-first-area .first-area .given
+same-length-11 : tie.Need-same-length-11
+same-length-11 c =
+    let at-first-area2 = c .before .before .before .before .before .before .before .before .before .before .before .before in
+    at-first-area2 .first-area2 .given
 
-same-length-6 : tie.Need-same-length-6
-same-length-6 c = c .before .before .before .before .before .before .before .before .before .before .second-slots .given
+same-length-12 : tie.Need-same-length-12
+same-length-12 c =
+    let at-second-slots2 = c .before .before .before .before .before .before .before .before .before .before in
+    at-second-slots2 .second-slots2 .given
 
-same-length-7 : tie.Need-same-length-7
-same-length-7 c = c .before .before .before .before .before .before .before .before .second-area .given
+same-length-13 : tie.Need-same-length-13
+same-length-13 c = c .before .before .before .before .before .before .before .before .second-area2 .given
 
-same-length-8 : tie.Need-same-length-8
-same-length-8 c = c .before .before .before .before .before .before .report .given
+same-length-14 : tie.Need-same-length-14
+same-length-14 c = c .before .before .before .before .before .before .report2 .given
 
-same-length-9 : tie.Need-same-length-9
-same-length-9 c = c .before .before .before .before .reply3 .given
+same-length-15 : tie.Need-same-length-15
+same-length-15 c = c .before .before .before .before .reply4 .given
 
-returns-4 : tie.Need-returns-4
-returns-4 c =
+returns-5 : tie.Need-returns-5
+returns-5 c =
     let called = c .before .before .before .before .before .before .before .before .before .before .before .before .before .before .before in
     let left = called .before .before .before .before .before .before .before .before .before .before .before in
-    let first = left .before .before in
+    let first = left .before .before .before .before in
     let replying = first .before .before in
     let a = replying .before .before .before .before .before .before .before .before .before .before .before .args in
     let l = called .compare-by .last .1 .1 .1 in
@@ -159,12 +203,21 @@ compare-spec =
     same-length
     returns-2
     (λ c κs. search needs)
+    compare-few-requires
+    same-length-2
+    same-length-3
+    same-length-4
+    same-length-5
+    same-length-6
+    same-length-7
+    returns-3
+    (λ c κs. search needs)
     array-share-prefix-first-room
     slice-aggregate-refuse-second
     refuse-second-requires
     (λ c. search needs)
-    same-length-3
-    returns-3
+    same-length-9
+    returns-4
     (λ c κs. search needs)
     array-borrow-prefix-first-room
     slice-aggregate-compare-by
@@ -173,10 +226,10 @@ compare-spec =
     array-borrow-prefix-findings
     slice-aggregate-compare-by-3
     compare-by-requires
-    same-length-4
-    same-length-5
-    same-length-6
-    same-length-7
-    same-length-8
-    same-length-9
-    returns-4)
+    same-length-10
+    same-length-11
+    same-length-12
+    same-length-13
+    same-length-14
+    same-length-15
+    returns-5)

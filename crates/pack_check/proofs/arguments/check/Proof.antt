@@ -42,7 +42,8 @@ fits : (c : tie.Else5)
 fits c = sym (digits (c .before)) ∙ not-false _ (c .if5 .left)
 
 reals : (c : tie.After-reals-fit)
-    → let start = c .before .before .before .before .before .before .before .before .before .before .before .before .before .before in
+    → let earlier = c .before .before .before .before .before .before .before .before .before .before .before .before .before .before in
+    let start = earlier in
     c .reals-fit .result ≡ realsFit (start .args .s) (amount (start .args .n) (start .args .a .len)) (shown (start .args .area .now) (start .args .a) .items)
 reals c = c .reals-fit .ensures ∙ rw (c .before .amount2 .ensures)
 
