@@ -10,8 +10,7 @@ use Rattle.compare.proofs.compare_codes.Statement.{statement}
 use Rattle.compare.proofs.compare_codes.Tie as tie
 
 second-sized : (c : tie.Else2)
-    → let earlier = c .before .before .before .before .before .before .before .before .before .before .before .before .before .before in
-    let start = earlier in
+    → let start = c .before .before .before .before .before .before .before .before .before .before .before .before .before .before in
     Fit (length (start .args .layout .now)) (length (start .args .second-slots .now)) (length (start .args .second .now)) (length (start .args .second-area .now)) 0
 second-sized c = fit (sym (c .before .sizes-fit .ensures) ∙ not-false _ (c .if2 .left))
 

@@ -42,8 +42,7 @@ fits : (c : tie.Else5)
 fits c = sym (digits (c .before)) ∙ not-false _ (c .if5 .left)
 
 reals : (c : tie.After-reals-fit)
-    → let earlier = c .before .before .before .before .before .before .before .before .before .before .before .before .before .before in
-    let start = earlier in
+    → let start = c .before .before .before .before .before .before .before .before .before .before .before .before .before .before in
     c .reals-fit .result ≡ realsFit (start .args .s) (amount (start .args .n) (start .args .a .len)) (shown (start .args .area .now) (start .args .a) .items)
 reals c = c .reals-fit .ensures ∙ rw (c .before .amount2 .ensures)
 
