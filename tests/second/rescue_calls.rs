@@ -44,7 +44,7 @@ fn saved(call: &Call, values: &[Value], dropped: usize) -> After {
     let numbers = [0, values.len(), cleared, dropped].map(|n| n as u32);
     let mut after = call.answered(numbers);
     after.slots[..slots.len()].copy_from_slice(&slots);
-    after.slots[slots.len()..][..blank.len()].copy_from_slice(&blank);
+    after.slots[slots.len()..][..cleared_slots.len()].copy_from_slice(&cleared_slots);
     after.area[call.mark..][..area.len()].copy_from_slice(&area);
     after
 }
