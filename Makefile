@@ -60,7 +60,7 @@ all: $(ARCHIVE) $(PAGES)
 # rt waits for the slowest of the checks that it runs at a time, so four of them keep two cores busy (5 GB at most).
 $(ARCHIVE): $(CRATES)
 	@command -v rt >/dev/null || { echo "rt not found: install the Rattle kit, or put its bin folder on PATH"; exit 2; }
-	@echo "proving and building $(ARCHIVE) (about six minutes from nothing on two cores)"
+	@echo "proving and building $(ARCHIVE) (about five minutes from nothing on two cores)"
 	@RT_JOBS=$${RT_JOBS:-4} tools/progress target/staticlib.out rt check curlew
 	@rt staticlib curlew >> target/staticlib.out 2>&1 || { tail -n 40 target/staticlib.out; exit 1; }
 	@sha256sum $(ARCHIVE) > target/staticlib.sum
