@@ -1,13 +1,12 @@
 // Numbers as bytes, the highest byte first, of any width.
 ghost use Rattle.std.specs.Prelude.{◌≡◌, ◌+◌, ◌^◌, ◌≤◌, ◌<◌, length};
-ghost use Rattle.layout.specs.Lent.{before, after};
 ghost use Rattle.record.specs.Bytes.{store_at, number_bytes, number_at};
 ghost use Rattle.record.specs.Table.{integer_size};
 
 // The number that the w bytes from a place on make.
 pub fn number_at(bytes: &[u8], at: usize, w: usize) -> u64
     requires { (at + w ≤ length bytes.now) × (w ≤ integer_size) }
-    ensures { (result ≡ number_at w (before bytes) at) × (result < 256 ^ w) }
+    ensures { (result ≡ number_at w bytes.now at) × (result < 256 ^ w) }
 {
     let mut x: u64 = 0;
     let mut j: usize = 0;
@@ -21,7 +20,7 @@ pub fn number_at(bytes: &[u8], at: usize, w: usize) -> u64
 // Puts the eight bytes of a number at a place, the last one first. Written out like this they become one store.
 fn put_eight(out: &mut [u8], at: usize, x: u64)
     requires { at + integer_size ≤ length out.old }
-    ensures { after out ≡ store_at (before out) at (number_bytes integer_size x) }
+    ensures { out.new ≡ store_at out.old at (number_bytes integer_size x) }
 {
     out[at + 7] = (x % 256) as u8;
     let x6 = x / 256;
@@ -43,7 +42,7 @@ fn put_eight(out: &mut [u8], at: usize, x: u64)
 // Puts the w lowest bytes of a number at a place, the last one first.
 pub fn put_number(out: &mut [u8], at: usize, w: usize, x: u64)
     requires { at + w ≤ length out.old }
-    ensures { after out ≡ store_at (before out) at (number_bytes w x) }
+    ensures { out.new ≡ store_at out.old at (number_bytes w x) }
 {
     if w == record::INTEGER_SIZE {
         return put_eight(out, at, x);

@@ -1,6 +1,7 @@
 // Runs of bytes, copied and filled: loops with no branch inside. And four bytes as a number.
+#![tactic(auto)]
+
 ghost use Rattle.std.specs.Prelude.{◌≡◌, ◌+◌, ◌≤◌, ◌<◌, length, replicate};
-ghost use Rattle.layout.specs.Lent.{before, after};
 ghost use Rattle.record.specs.Bytes.{part, store_at, digits, ordered};
 ghost use Rattle.record.specs.Table.{max_record};
 
@@ -10,7 +11,7 @@ pub mod big_endian;
 // Copies n bytes, one after the other.
 fn copy_each(out: &mut [u8], at: usize, from: &[u8], start: usize, n: usize)
     requires { (at + n ≤ length out.old) × (start + n ≤ length from.now) }
-    ensures { after out ≡ store_at (before out) at (part (before from) start n) }
+    ensures { out.new ≡ store_at out.old at (part from.now start n) }
 {
     let mut j = 0;
     while j < n {
@@ -23,7 +24,7 @@ fn copy_each(out: &mut [u8], at: usize, from: &[u8], start: usize, n: usize)
 // compiler makes one call of C's memmove, and leaves the block out.
 pub fn copy_block(out: &mut [u8], at: usize, from: &[u8], start: usize, n: usize)
     requires { (n ≤ max_record) × (at + n ≤ length out.old) × (start + n ≤ length from.now) }
-    ensures { after out ≡ store_at (before out) at (part (before from) start n) }
+    ensures { out.new ≡ store_at out.old at (part from.now start n) }
 {
     let mut block: [u8; record::MAX_RECORD] = [0; record::MAX_RECORD];
     copy_each(&mut block, 0, from, start, n);
@@ -33,7 +34,7 @@ pub fn copy_block(out: &mut [u8], at: usize, from: &[u8], start: usize, n: usize
 // Copies n bytes: at once, or a block at a time where there are more of them.
 pub fn copy(out: &mut [u8], at: usize, from: &[u8], start: usize, n: usize)
     requires { (at + n ≤ length out.old) × (start + n ≤ length from.now) }
-    ensures { after out ≡ store_at (before out) at (part (before from) start n) }
+    ensures { out.new ≡ store_at out.old at (part from.now start n) }
 {
     if n <= record::MAX_RECORD {
         return copy_block(out, at, from, start, n);
@@ -49,7 +50,7 @@ pub fn copy(out: &mut [u8], at: usize, from: &[u8], start: usize, n: usize)
 // Stores a byte n times.
 pub fn fill(out: &mut [u8], at: usize, n: usize, value: u8)
     requires { at + n ≤ length out.old }
-    ensures { after out ≡ store_at (before out) at (replicate n value) }
+    ensures { out.new ≡ store_at out.old at (replicate n value) }
 {
     let mut j = 0;
     while j < n {
@@ -68,7 +69,7 @@ pub fn wide(x: u8) -> usize
 // loads them at once.
 pub fn four_at(from: &[u8], at: usize, high: bool) -> usize
     requires { at + 4 ≤ length from.now }
-    ensures { (result < 4294967296) × (digits 256 4 result ≡ ordered high (part (before from) at 4)) }
+    ensures { (result < 4294967296) × (digits 256 4 result ≡ ordered high (part from.now at 4)) }
 {
     let a = wide(from[at]);
     let b = wide(from[at + 1]);

@@ -4,7 +4,6 @@ use Rattle.std.specs.Prelude.{ℕ, ◌*◌, ◌≡◌, false, List, ◌++◌, ma
 use Rattle.layout.specs.declared.Refusal.TheVariants.{NoRoom}
 use Rattle.layout.specs.Refusals.{Result, ok, refused, ◌>>=◌, demand}
 use Rattle.layout.specs.Layout.{fields_of, slot_count}
-use Rattle.layout.specs.Lent.{Lent, before, after}
 use Rattle.record.specs.declared.Answer.{Answer}
 use Rattle.record.specs.Table.{Value, area_bytes}
 use Rattle.record.specs.Packing.{accepted, refusal}
@@ -81,15 +80,15 @@ compare layout first second first_slots first_area second_slots second_area repo
     (compares layout first second first_slots first_area second_slots second_area report)
 
 -- what a call promises that answered r
-abbrev pub Compares : Lent → Lent → Lent → Lent → Lent → Lent → Lent → Lent → Answer → Type 0
-Compares layout first second first_slots first_area second_slots second_area report r =
+abbrev pub Compares : List ℕ → List ℕ → List ℕ → List ℕ → List ℕ → List ℕ → List ℕ → List ℕ → List ℕ → List ℕ → List ℕ → List ℕ → List ℕ → Answer → Type 0
+Compares layout first second first_slots first_slots' first_area first_area' second_slots second_slots' second_area second_area' report report' r =
     record {
       answer = r;
-      first_slots = after first_slots;
-      first_area = after first_area;
-      second_slots = after second_slots;
-      second_area = after second_area;
-      report = after report;
+      first_slots = first_slots';
+      first_area = first_area';
+      second_slots = second_slots';
+      second_area = second_area';
+      report = report';
     }
-    ≡ compare (before layout) (before first) (before second) (before first_slots) (before first_area)
-    (before second_slots) (before second_area) (before report)
+    ≡ compare layout first second first_slots first_area
+    second_slots second_area report

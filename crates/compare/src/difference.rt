@@ -1,6 +1,5 @@
 // Two values as bytes of their areas: whether they are the same, where they part, and how many of their bits differ.
 ghost use Rattle.std.specs.Prelude.{◌≡◌, ◌+◌, ◌*◌, ◌≤◌, true, ◌&&◌, length};
-ghost use Rattle.layout.specs.Lent.{before};
 ghost use Rattle.record.specs.Bytes.{part, digits};
 ghost use Rattle.record.specs.Table.{max_area};
 ghost use Rattle.compare.specs.Difference.{same_bytes, first_difference, differing, differing_bits, plain_finding, both_finding};
@@ -21,7 +20,7 @@ const BOTH_DIFFER: u32 = 4;
 const BLOCK: usize = 16;
 
 // A finding of the report: the verdict; for values that differ, where they part, and how many bits differ.
-#[derive(Drop)]
+#[derive(Clone, Copy)]
 pub struct Finding {
     pub verdict: u32,
     pub place: u32,
@@ -49,7 +48,7 @@ fn both(a: bool, b: bool) -> bool
 // exit it is done many bytes at a time.
 fn same_bytes(first: &[u8], at: usize, second: &[u8], to: usize, n: usize) -> bool
     requires { (at + n ≤ length first.now) × (to + n ≤ length second.now) }
-    ensures { result ≡ same_bytes (part (before first) at n) (part (before second) to n) }
+    ensures { result ≡ same_bytes (part first.now at n) (part second.now to n) }
 {
     let mut good = true;
     let mut i: usize = 0;
@@ -63,7 +62,7 @@ fn same_bytes(first: &[u8], at: usize, second: &[u8], to: usize, n: usize) -> bo
 // Whether n bytes of the first from the place `at` on are the m bytes of the second from `to` on.
 fn same(first: &[u8], at: usize, n: usize, second: &[u8], to: usize, m: usize) -> bool
     requires { (at + n ≤ length first.now) × (to + m ≤ length second.now) }
-    ensures { result ≡ same_bytes (part (before first) at n) (part (before second) to m) }
+    ensures { result ≡ same_bytes (part first.now at n) (part second.now to m) }
 {
     if n != m {
         return false;
@@ -74,7 +73,7 @@ fn same(first: &[u8], at: usize, n: usize, second: &[u8], to: usize, m: usize) -
 // The bytes at the front of both that are the same, in whole blocks.
 fn equal_blocks(first: &[u8], at: usize, second: &[u8], to: usize, n: usize) -> usize
     requires { (at + n ≤ length first.now) × (to + n ≤ length second.now) }
-    ensures { (result ≤ n) × (same_bytes (part (before first) at result) (part (before second) to result) ≡ true) }
+    ensures { (result ≤ n) × (same_bytes (part first.now at result) (part second.now to result) ≡ true) }
 {
     let mut i: usize = 0;
     while BLOCK <= n - i {
@@ -89,7 +88,7 @@ fn equal_blocks(first: &[u8], at: usize, second: &[u8], to: usize, n: usize) -> 
 // The first of n bytes at which the two part; n where none does.
 fn first_difference(first: &[u8], at: usize, second: &[u8], to: usize, n: usize) -> usize
     requires { (at + n ≤ length first.now) × (to + n ≤ length second.now) }
-    ensures { result ≡ first_difference (part (before first) at n) (part (before second) to n) }
+    ensures { result ≡ first_difference (part first.now at n) (part second.now to n) }
 {
     let mut i = equal_blocks(first, at, second, to, n);
     while i < n {
@@ -112,7 +111,7 @@ fn byte_bits(a: u8, b: u8) -> u32
 // are summed all at once.
 fn block_bits(first: &[u8], at: usize, second: &[u8], to: usize, n: usize) -> u8
     requires { (at + n ≤ length first.now) × (to + n ≤ length second.now) × (n ≤ 16) }
-    ensures { (result ≡ differing_bits (part (before first) at n) (part (before second) to n)) × (result ≤ 8 * n) }
+    ensures { (result ≡ differing_bits (part first.now at n) (part second.now to n)) × (result ≤ 8 * n) }
 {
     let mut sum: u8 = 0;
     let mut i: usize = 0;
@@ -126,7 +125,7 @@ fn block_bits(first: &[u8], at: usize, second: &[u8], to: usize, n: usize) -> u8
 // The bits that differ over n bytes of both.
 fn differing_bits(first: &[u8], at: usize, second: &[u8], to: usize, n: usize) -> u32
     requires { (at + n ≤ length first.now) × (to + n ≤ length second.now) × (n ≤ max_area) }
-    ensures { result ≡ differing_bits (part (before first) at n) (part (before second) to n) }
+    ensures { result ≡ differing_bits (part first.now at n) (part second.now to n) }
 {
     let mut sum: u32 = 0;
     let mut i: usize = 0;
@@ -150,7 +149,7 @@ pub fn both_finding(
     m: usize,
 ) -> Finding
     requires { (at + n ≤ length first.now) × (to + m ≤ length second.now) × (length first.now ≤ max_area) }
-    ensures { finding_numbers result ≡ both_finding (part (before first) at n) (part (before second) to m) }
+    ensures { finding_numbers result ≡ both_finding (part first.now at n) (part second.now to m) }
 {
     if same(first, at, n, second, to, m) {
         return plain_finding(BOTH_SAME);

@@ -29,7 +29,7 @@ fn compare_codes(
     report: &mut [u32],
 ) -> Answer
     requires { LayoutOpened n taken codes.now layout.now first.now first_slots.old first_area.old }
-    ensures { Compares layout first second first_slots first_area second_slots second_area report result }
+    ensures { Compares layout.now first.now second.now first_slots.old first_slots.new first_area.old first_area.new second_slots.old second_slots.new second_area.old second_area.new report.old report.new result }
 {
     let a = checking::fits(codes, n, taken, first, first_slots.len(), first_area.len());
     if a.number != 0 {
@@ -86,7 +86,7 @@ pub fn compare(
     second_area: &mut [u8],
     report: &mut [u32],
 ) -> Answer
-    ensures { Compares layout first second first_slots first_area second_slots second_area report result }
+    ensures { Compares layout.now first.now second.now first_slots.old first_slots.new first_area.old first_area.new second_slots.old second_slots.new second_area.old second_area.new report.old report.new result }
 {
     if !checking::sizes_fit(
         layout.len(),

@@ -1,6 +1,5 @@
 // The report of a comparison: a finding for each value field, by what the two readings left in their tables and areas.
 ghost use Rattle.std.specs.Prelude.{◌≡◌, ◌+◌, ◌*◌, ◌≤◌, length};
-ghost use Rattle.layout.specs.Lent.{before, after};
 ghost use Rattle.record.specs.Bytes.{store_at};
 ghost use Rattle.record.specs.Table.{slot_width};
 ghost use Rattle.compare.specs.Difference.{report_width};
@@ -15,7 +14,7 @@ use super::difference::Finding;
 pub const REPORT_WIDTH: usize = 3;
 
 // A value's bytes in the area: where they start, and how many there are.
-#[derive(Drop)]
+#[derive(Clone, Copy)]
 pub struct Span {
     pub start: usize,
     pub size: usize,
@@ -24,7 +23,7 @@ pub struct Span {
 // Where the value of slot i lies in the area.
 fn value_span(slots: &[u32], i: usize) -> Span
     requires { slot_width * i + slot_width ≤ length slots.now }
-    ensures { result ≡ span_at (before slots) i }
+    ensures { result ≡ span_at slots.now i }
 {
     let s = slot_table::slot_at(slots, i);
     Span {
@@ -45,7 +44,7 @@ fn field_finding(
 ) -> Finding
     requires { Shows first_slots.now first_area.now n × Shows second_slots.now second_area.now m }
     ensures { finding_numbers result
-        ≡ finding_at i (shown_lent first_slots first_area n) (shown_lent second_slots second_area m) }
+        ≡ finding_at i (shown_lent first_slots.now first_area.now n) (shown_lent second_slots.now second_area.now m) }
 {
     if i < n {
         if i < m {
@@ -70,7 +69,7 @@ fn field_finding(
 
 fn put_finding(report: &mut [u32], i: usize, r: Finding)
     requires { report_width * i + report_width ≤ length report.old }
-    ensures { after report ≡ store_at (before report) (report_width * i) (finding_numbers r) }
+    ensures { report.new ≡ store_at report.old (report_width * i) (finding_numbers r) }
 {
     let at = REPORT_WIDTH * i;
     report[at] = r.verdict;
@@ -91,9 +90,9 @@ pub fn write(
 )
     requires fields_in_bounds { report_width * fields ≤ length report.old }
     requires shows { Shows first_slots.now first_area.now n × Shows second_slots.now second_area.now m }
-    ensures { after report
-        ≡ store_at (before report) 0
-        (findings fields (shown_lent first_slots first_area n) (shown_lent second_slots second_area m)) }
+    ensures { report.new
+        ≡ store_at report.old 0
+        (findings fields (shown_lent first_slots.now first_area.now n) (shown_lent second_slots.now second_area.now m)) }
 {
     let mut i: usize = 0;
     while i < fields {

@@ -23,7 +23,7 @@ pub extern "C" fn curlew_pack(
     out: &mut [u8],
     reply: &mut [u8],
 ) -> u32
-    ensures { HostPacks layout slots area out reply result }
+    ensures { HostPacks layout.now slots.now area.now out.old out.new reply.old reply.new result }
 {
     host_record::pack::pack(layout, slots, area, out, reply)
 }
@@ -38,7 +38,7 @@ pub extern "C" fn curlew_read(
     mark: usize,
     reply: &mut [u8],
 ) -> u32
-    ensures { HostReads layout bytes slots area mark reply result }
+    ensures { HostReads layout.now bytes.now slots.old slots.new area.old area.new mark reply.old reply.new result }
 {
     host_record::read::read(layout, bytes, slots, area, mark, reply)
 }
@@ -46,7 +46,7 @@ pub extern "C" fn curlew_read(
 // Reads a layout once, into a plan for many records.
 #[unsafe(no_mangle)]
 pub extern "C" fn curlew_prepare(layout: &[u8], plan: &mut [u32], reply: &mut [u8]) -> u32
-    ensures { HostPrepares layout plan reply result }
+    ensures { HostPrepares layout.now plan.old plan.new reply.old reply.new result }
 {
     host_plans::prepare(layout, plan, reply)
 }
@@ -60,7 +60,7 @@ pub extern "C" fn curlew_pack_plan(
     out: &mut [u8],
     reply: &mut [u8],
 ) -> u32
-    ensures { HostPacksPlan plan slots area out reply result }
+    ensures { HostPacksPlan plan.now slots.now area.now out.old out.new reply.old reply.new result }
 {
     host_plans::pack(plan, slots, area, out, reply)
 }
@@ -75,7 +75,7 @@ pub extern "C" fn curlew_read_plan(
     mark: usize,
     reply: &mut [u8],
 ) -> u32
-    ensures { HostReadsPlan plan bytes slots area mark reply result }
+    ensures { HostReadsPlan plan.now bytes.now slots.old slots.new area.old area.new mark reply.old reply.new result }
 {
     host_plans::read(plan, bytes, slots, area, mark, reply)
 }
@@ -88,7 +88,7 @@ pub extern "C" fn curlew_sheet_write(
     sheet: &mut [u8],
     reply: &mut [u8],
 ) -> u32
-    ensures { HostWritesSheet slots area sheet reply result }
+    ensures { HostWritesSheet slots.now area.now sheet.old sheet.new reply.old reply.new result }
 {
     host_sheet::write::write(slots, area, sheet, reply)
 }
@@ -102,7 +102,7 @@ pub extern "C" fn curlew_sheet_read(
     mark: usize,
     reply: &mut [u8],
 ) -> u32
-    ensures { HostReadsSheet sheet slots area mark reply result }
+    ensures { HostReadsSheet sheet.now slots.old slots.new area.old area.new mark reply.old reply.new result }
 {
     host_sheet::read::read(sheet, slots, area, mark, reply)
 }
@@ -117,7 +117,7 @@ pub extern "C" fn curlew_sheet_rescue(
     mark: usize,
     reply: &mut [u8],
 ) -> u32
-    ensures { HostRescues sheet legs slots area mark reply result }
+    ensures { HostRescues sheet.now legs slots.old slots.new area.old area.new mark reply.old reply.new result }
 {
     host_sheet::damaged::rescue(sheet, legs, slots, area, mark, reply)
 }
@@ -136,8 +136,8 @@ pub extern "C" fn curlew_compare(
     report: &mut [u8],
     reply: &mut [u8],
 ) -> u32
-    ensures { HostCompares layout first second first_slots first_area second_slots second_area report
-        reply result }
+    ensures { HostCompares layout.now first.now second.now first_slots.old first_slots.new first_area.old first_area.new second_slots.old second_slots.new second_area.old second_area.new report.old report.new
+        reply.old reply.new result }
 {
     host_compare::compare(
         layout,
@@ -155,7 +155,7 @@ pub extern "C" fn curlew_compare(
 // The mean of the marked legs of a table, and how many of its slots are not set.
 #[unsafe(no_mangle)]
 pub extern "C" fn curlew_mean(slots: &[u8], area: &[u8], reply: &mut [u8]) -> u32
-    ensures { HostMeans slots area reply result }
+    ensures { HostMeans slots.now area.now reply.old reply.new result }
 {
     host_mean::mean(slots, area, reply)
 }
@@ -163,7 +163,7 @@ pub extern "C" fn curlew_mean(slots: &[u8], area: &[u8], reply: &mut [u8]) -> u3
 // Writes the layout that a Perl template stands for.
 #[unsafe(no_mangle)]
 pub extern "C" fn curlew_from_perl(template: &[u8], layout: &mut [u8], reply: &mut [u8]) -> u32
-    ensures { HostConverts template layout reply result }
+    ensures { HostConverts template.now layout.old layout.new reply.old reply.new result }
 {
     host_layout::templates::from_perl(template, layout, reply)
 }
@@ -171,7 +171,7 @@ pub extern "C" fn curlew_from_perl(template: &[u8], layout: &mut [u8], reply: &m
 // Says how many slots a layout takes and how long its shortest record is.
 #[unsafe(no_mangle)]
 pub extern "C" fn curlew_layout(layout: &[u8], reply: &mut [u8]) -> u32
-    ensures { HostDescribes layout reply result }
+    ensures { HostDescribes layout.now reply.old reply.new result }
 {
     host_layout::layouts::describe(layout, reply)
 }
@@ -179,7 +179,7 @@ pub extern "C" fn curlew_layout(layout: &[u8], reply: &mut [u8]) -> u32
 // Writes a row of eight numbers for each field of a layout.
 #[unsafe(no_mangle)]
 pub extern "C" fn curlew_fields(layout: &[u8], fields: &mut [u8], reply: &mut [u8]) -> u32
-    ensures { HostLists layout fields reply result }
+    ensures { HostLists layout.now fields.old fields.new reply.old reply.new result }
 {
     host_layout::rows::fields(layout, fields, reply)
 }
@@ -187,7 +187,7 @@ pub extern "C" fn curlew_fields(layout: &[u8], fields: &mut [u8], reply: &mut [u
 // Says where a layout breaks each promise: to grow at its end, to lose nothing when it is read, to be joined.
 #[unsafe(no_mangle)]
 pub extern "C" fn curlew_promises(layout: &[u8], reply: &mut [u8]) -> u32
-    ensures { HostPromises layout reply result }
+    ensures { HostPromises layout.now reply.old reply.new result }
 {
     host_layout::theorems::promises(layout, reply)
 }
@@ -195,7 +195,7 @@ pub extern "C" fn curlew_promises(layout: &[u8], reply: &mut [u8]) -> u32
 // Says whether the new layout is the old one with fields added at its end.
 #[unsafe(no_mangle)]
 pub extern "C" fn curlew_extends(old: &[u8], new: &[u8], reply: &mut [u8]) -> u32
-    ensures { HostExtends old new reply result }
+    ensures { HostExtends old.now new.now reply.old reply.new result }
 {
     host_layout::theorems::extends(old, new, reply)
 }

@@ -3,7 +3,6 @@
 // `describe_claims`.
 ghost use Rattle.std.specs.Prelude.{◌≡◌, ◌+◌, ◌*◌, ◌≤◌, ◌<◌, max, length};
 ghost use Rattle.layout.specs.declared.Role.TheVariants.{Data};
-ghost use Rattle.layout.specs.Lent.{before, after};
 ghost use Rattle.layout.specs.Layout.{max_layout, takes_slot, to_nat};
 ghost use Rattle.layout.specs.inside.Parsing.{FitRole, FitCount};
 ghost use Rattle.record.specs.Bytes.{store_at, big_endian};
@@ -17,21 +16,21 @@ use record::Answer;
 use slot_table::sizes;
 
 // A number of bytes that the layout alone fixes, or that is open, since a starred value decides it.
-#[derive(Drop)]
+#[derive(Clone, Copy)]
 pub enum Extent {
     Fixed(usize),
     Open,
 }
 
 // How far packing has come: the cursor's position and the highest one so far.
-#[derive(Drop)]
+#[derive(Clone, Copy)]
 pub struct Track {
     pub at: Extent,
     pub highest: Extent,
 }
 
 // The eight numbers of a field.
-#[derive(Drop)]
+#[derive(Clone, Copy)]
 pub struct Row {
     pub place: u32,
     pub size: u32,
@@ -226,7 +225,7 @@ fn bit(b: bool) -> u32
 fn row_at(text: &[u8], at: usize, f: Field, slot: usize, t: Track) -> Row
     requires { (at < length text.now) × (length text.now ≤ max_layout) × (slot ≤ max_layout)
         × Safe f.role f.count t }
-    ensures { result ≡ row_of slot t (placed_at (before text) at f) }
+    ensures { result ≡ row_of slot t (placed_at text.now at f) }
 {
     let k = f.role;
     let n = f.count;
@@ -250,7 +249,7 @@ fn row_at(text: &[u8], at: usize, f: Field, slot: usize, t: Track) -> Row
 
 fn put_numbers(out: &mut [u8], at: usize, numbers: &[u32])
     requires { at + length numbers.now * number_size ≤ length out.old }
-    ensures { after out ≡ store_at (before out) at (big_endian number_size (before numbers)) }
+    ensures { out.new ≡ store_at out.old at (big_endian number_size numbers.now) }
 {
     let mut j: usize = 0;
     while j < numbers.len() {
@@ -262,7 +261,7 @@ fn put_numbers(out: &mut [u8], at: usize, numbers: &[u32])
 
 fn put_row(out: &mut [u8], at: usize, r: Row)
     requires { at + row_size ≤ length out.old }
-    ensures { after out ≡ store_at (before out) at (big_endian number_size (row_numbers r)) }
+    ensures { out.new ≡ store_at out.old at (big_endian number_size (row_numbers r)) }
 {
     let eight: [u32; 8] = [
         r.place, r.size, r.letter, r.flag, r.count, r.slot, r.position, r.bytes,
@@ -273,7 +272,7 @@ fn put_row(out: &mut [u8], at: usize, r: Row)
 // Writes the rows of a text's fields; the codes are the fields.
 fn put_rows(text: &[u8], codes: &[u32], n: usize, out: &mut [u8])
     requires { Holds text.now n codes.now × (n * row_size ≤ length out.old) }
-    ensures { Written (before text) (before out) (after out) }
+    ensures { Written text.now out.old out.new }
 {
     let mut t = Track {
         at: Extent::Fixed(0),
@@ -306,7 +305,7 @@ fn put_rows(text: &[u8], codes: &[u32], n: usize, out: &mut [u8])
 // bytes a number; or the refusal that reading by the layout would give to its text, 1 to 4, and its place; or 11 where
 // the run has no room for the rows.
 pub fn fields(layout: &[u8], out: &mut [u8]) -> Answer
-    ensures { record { answer = result; output = after out } ≡ listed (before layout) (before out) }
+    ensures { record { answer = result; output = out.new } ≡ listed layout.now out.old }
 {
     if layout::MAX_LAYOUT < layout.len() {
         return Answer::refused(Refusal::BadSize, 0);

@@ -2,7 +2,6 @@
 // in specs/Description.antt; what it has to do with packing is claimed in specs/Claim.antt and proved in
 // proofs/Describes.antt.
 ghost use Rattle.std.specs.Prelude.{◌≡◌, ◌<◌};
-ghost use Rattle.layout.specs.Lent.{before};
 ghost use Rattle.layout.specs.inside.Parsing.{decoded, FitRole, FitCount};
 ghost use Rattle.pack_check.specs.inside.measuring.{advance};
 ghost use Rattle.describe.specs.Description.{described};
@@ -30,7 +29,7 @@ fn step(role: Role, n: Count, c: Cursor) -> Cursor
 // The length of the shortest record of the fields in the first n codes.
 fn least_length(codes: &[u32], n: usize) -> usize
     requires { Holds n codes.now }
-    ensures { Least (decoded n (before codes)) result }
+    ensures { Least (decoded n codes.now) result }
 {
     let mut c = Cursor::new(0);
     let mut i: usize = 0;
@@ -47,7 +46,7 @@ fn least_length(codes: &[u32], n: usize) -> usize
 // Describes a layout: 0, the slots that it takes, and the length of the record that is packed where every starred value
 // is empty; or the refusal that packing by it would give, 1 to 4, and its place.
 pub fn describe(layout: &[u8]) -> Answer
-    ensures { result ≡ described (before layout) }
+    ensures { result ≡ described layout.now }
 {
     if layout::MAX_LAYOUT < layout.len() {
         return Answer::refused(Refusal::BadSize, 0);

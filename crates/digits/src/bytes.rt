@@ -1,6 +1,5 @@
 // The byte that binary or hex digits make, `b B h H`.
 ghost use Rattle.std.specs.Prelude.{◌≡◌, true, false, map, ◌+◌, ◌*◌, ◌≤◌, ◌<◌, length, drop, get_or};
-ghost use Rattle.layout.specs.Lent.{before};
 ghost use Rattle.record.specs.Bytes.{part, fit, digits, number, ordered};
 ghost use Rattle.record.specs.Table.{max_area};
 ghost use Rattle.record.specs.Geometry.{base};
@@ -22,7 +21,7 @@ fn value(c: u8, hex: bool) -> usize
 // The value of the digit number q of those that are there, 0 past them.
 pub fn digit_at(area: &[u8], from: usize, count: usize, q: usize, hex: bool) -> usize
     requires { (from + count ≤ length area.now) × DigitsAt hex area.now from count }
-    ensures { (result ≡ get_or (values_at (before area) from count) q 0) × (result < base hex) }
+    ensures { (result ≡ get_or (values_at area.now from count) q 0) × (result < base hex) }
 {
     if q < count {
         value(area[from + q], hex)
@@ -35,7 +34,7 @@ pub fn digit_at(area: &[u8], from: usize, count: usize, q: usize, hex: bool) -> 
 fn half_of(area: &[u8], from: usize, count: usize, first: usize, high: bool) -> usize
     requires { (first ≤ 4) × (from + count ≤ length area.now) × DigitsAt false area.now from count }
     ensures { (result < 16)
-        × (result ≡ number 2 (ordered high (part (fit 8 0 (values_at (before area) from count)) first 4))) }
+        × (result ≡ number 2 (ordered high (part (fit 8 0 (values_at area.now from count)) first 4))) }
 {
     let a = digit_at(area, from, count, first, false);
     let b = digit_at(area, from, count, first + 1, false);
@@ -51,7 +50,7 @@ fn half_of(area: &[u8], from: usize, count: usize, first: usize, high: bool) -> 
 // The byte that the binary digits from a place on make.
 fn binary_byte(area: &[u8], from: usize, count: usize, high: bool) -> u8
     requires { (from + count ≤ length area.now) × DigitsAt false area.now from count }
-    ensures { result ≡ byte_of false high (values_at (before area) from count) }
+    ensures { result ≡ byte_of false high (values_at area.now from count) }
 {
     let a = half_of(area, from, count, 0, high);
     let b = half_of(area, from, count, 4, high);
@@ -65,7 +64,7 @@ fn binary_byte(area: &[u8], from: usize, count: usize, high: bool) -> u8
 // The byte that the hex digits from a place on make.
 fn hex_byte(area: &[u8], from: usize, count: usize, high: bool) -> u8
     requires { (from + count ≤ length area.now) × DigitsAt true area.now from count }
-    ensures { result ≡ byte_of true high (values_at (before area) from count) }
+    ensures { result ≡ byte_of true high (values_at area.now from count) }
 {
     let a = digit_at(area, from, count, 0, true);
     let b = digit_at(area, from, count, 1, true);
@@ -79,7 +78,7 @@ fn hex_byte(area: &[u8], from: usize, count: usize, high: bool) -> u8
 // The byte that the digits from a place on make, with 0 for each that is missing. There is no loop in it.
 fn byte_of(area: &[u8], from: usize, count: usize, hex: bool, high: bool) -> u8
     requires { (from + count ≤ length area.now) × DigitsAt hex area.now from count }
-    ensures { result ≡ byte_of hex high (values_at (before area) from count) }
+    ensures { result ≡ byte_of hex high (values_at area.now from count) }
 {
     if hex {
         return hex_byte(area, from, count, high);
@@ -91,7 +90,7 @@ fn byte_of(area: &[u8], from: usize, count: usize, hex: bool, high: bool) -> u8
 // being there; where none is there, it is 0.
 pub fn next_byte(area: &[u8], start: usize, have: usize, i: usize, hex: bool, high: bool) -> u8
     requires { (i ≤ max_area) × (start + have ≤ length area.now) × DigitsAt hex area.now start have }
-    ensures { result ≡ byte_of hex high (drop i (values_at (before area) start have)) }
+    ensures { result ≡ byte_of hex high (drop i (values_at area.now start have)) }
 {
     let per = sizes::per_byte(hex);
     if i + per <= have {
@@ -119,7 +118,7 @@ fn gathered(x: usize, high: bool) -> usize
 // The byte that eight binary digits make.
 pub fn eight_at(area: &[u8], at: usize, high: bool) -> u8
     requires { (at + 8 ≤ length area.now) × DigitsAt false area.now at 8 }
-    ensures { result ≡ byte_of false high (values_at (before area) at 8) }
+    ensures { result ≡ byte_of false high (values_at area.now at 8) }
 {
     let a = gathered(byte_runs::four_at(area, at, false), high);
     let b = gathered(byte_runs::four_at(area, at + 4, false), high);

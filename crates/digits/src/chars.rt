@@ -1,6 +1,5 @@
 // Binary and hex digits: the characters of a byte's digits, written.
 ghost use Rattle.std.specs.Prelude.{◌≡◌, false, ◌+◌, ◌≤◌, ◌<◌, length, take, get_or};
-ghost use Rattle.layout.specs.Lent.{before, after};
 ghost use Rattle.record.specs.Bytes.{store_at, digits, ordered};
 ghost use Rattle.record.specs.Geometry.{base, per_byte};
 ghost use Rattle.record.specs.Reading.{digit_char};
@@ -43,7 +42,7 @@ pub fn char_at(b: u8, j: usize, hex: bool, high: bool) -> u8
 // Writes the first `count` digits of a byte, one in each turn.
 pub fn write(area: &mut [u8], to: usize, b: u8, count: usize, hex: bool, high: bool)
     requires { (count ≤ per_byte hex) × (to + count ≤ length area.old) }
-    ensures { after area ≡ store_at (before area) to (take count (chars_of hex high b)) }
+    ensures { area.new ≡ store_at area.old to (take count (chars_of hex high b)) }
 {
     let mut j = 0;
     while j < count {
@@ -81,7 +80,7 @@ fn four(n: u8) -> usize
 // Writes the four lowest bytes of a number.
 fn put_four(area: &mut [u8], to: usize, v: usize, high: bool)
     requires { to + 4 ≤ length area.old }
-    ensures { after area ≡ store_at (before area) to (ordered high (digits 256 4 v)) }
+    ensures { area.new ≡ store_at area.old to (ordered high (digits 256 4 v)) }
 {
     let v1 = v / 256;
     let v2 = v1 / 256;
@@ -102,7 +101,7 @@ fn put_four(area: &mut [u8], to: usize, v: usize, high: bool)
 // Writes all eight binary digits of a byte.
 pub fn write_eight(area: &mut [u8], to: usize, b: u8, high: bool)
     requires { to + 8 ≤ length area.old }
-    ensures { after area ≡ store_at (before area) to (chars_of false high b) }
+    ensures { area.new ≡ store_at area.old to (chars_of false high b) }
 {
     let low = four(b % 16);
     let top = four(b / 16);

@@ -1,6 +1,5 @@
 // Binary and hex digits, `b B h H`: which characters are digits, and where a digit stands in its byte.
 ghost use Rattle.std.specs.Prelude.{◌≡◌, ◌&&◌, ◌+◌, ◌≤◌, ◌<◌, leb, ltb, length};
-ghost use Rattle.layout.specs.Lent.{before};
 ghost use Rattle.record.specs.Bytes.{part};
 ghost use Rattle.record.specs.Geometry.{base};
 ghost use Rattle.record.specs.Packing.{digit_value, all_digits};
@@ -55,7 +54,7 @@ fn is_digit(c: u8, hex: bool) -> bool
 // Whether each of n bytes is a digit. The loop looks at all of them: without an exit it is done many bytes at a time.
 pub fn all_digits(area: &[u8], start: usize, n: usize, hex: bool) -> bool
     requires { start + n ≤ length area.now }
-    ensures { result ≡ all_digits hex (part (before area) start n) }
+    ensures { result ≡ all_digits hex (part area.now start n) }
 {
     let mut good = true;
     let mut i = 0;

@@ -1,7 +1,6 @@
 // Binary and hex digits, `b B h H`, read.
 ghost use Rattle.std.specs.Prelude.{◌≡◌, Bool, true, false, ◌+◌, ◌/◌, ◌≤◌, ◌<◌, min, length, take};
 ghost use Rattle.layout.specs.declared.Shape.TheVariants.{Digits};
-ghost use Rattle.layout.specs.Lent.{before, after};
 ghost use Rattle.record.specs.Bytes.{part, store_at, ceil_div};
 ghost use Rattle.record.specs.Table.{max_area};
 ghost use Rattle.record.specs.Reading.{loaded};
@@ -22,7 +21,7 @@ fn show_step(
 )
     requires { (to + n ≤ length area.old) × (at + ceil_div n 8 ≤ length bytes.now) × (k < binary_steps n)
         × (eight ≡ true → k < n / 8) × (eight ≡ false → n / 8 ≤ k) }
-    ensures { Advanced (showing high (before bytes) at to) n k (k + 1) (before area) (after area) }
+    ensures { Advanced (showing high bytes.now at to) n k (k + 1) area.old area.new }
 {
     if eight {
         super::chars::write_eight(area, to + 8 * k, bytes[at + k], high);
@@ -47,7 +46,7 @@ fn show_run(
 )
     requires { (to + n ≤ length area.old) × (at + ceil_div n 8 ≤ length bytes.now) × (from ≤ until)
         × (until ≤ binary_steps n) × (eight ≡ true → until ≤ n / 8) × (eight ≡ false → from < until → n / 8 ≤ from) }
-    ensures { Advanced (showing high (before bytes) at to) n from until (before area) (after area) }
+    ensures { Advanced (showing high bytes.now at to) n from until area.old area.new }
 {
     let mut k = from;
     while k < until {
@@ -68,7 +67,7 @@ pub fn load_steps(
     budget: usize,
 )
     requires { (n ≤ max_area) × (to + n ≤ length area.old) × (at + ceil_div n 8 ≤ length bytes.now) }
-    ensures { after area ≡ (steps (showing high (before bytes) at to) n (before area) budget).bytes }
+    ensures { area.new ≡ (steps (showing high bytes.now at to) n area.old budget).bytes }
 {
     let all = record::least(n / 8 + n % 8, budget); // the steps to do
     let eights = record::least(n / 8, budget); // of these, over whole bytes
@@ -79,11 +78,11 @@ pub fn load_steps(
 // Reads n binary digits by a budget that is enough for all of them.
 pub fn load_binary(area: &mut [u8], to: usize, bytes: &[u8], at: usize, n: usize, high: bool)
     requires { (n ≤ max_area) × (to + n ≤ length area.old) × (at + ceil_div n 8 ≤ length bytes.now) }
-    ensures within { after area
-        ≡ (steps (showing high (before bytes) at to) n (before area) (binary_budget n)).bytes }
+    ensures within { area.new
+        ≡ (steps (showing high bytes.now at to) n area.old (binary_budget n)).bytes }
     ensures area_value { (u : Bool)
-        → after area
-        ≡ store_at (before area) to (loaded (Digits false high) u n (part (before bytes) at (ceil_div n 8))).items }
+        → area.new
+        ≡ store_at area.old to (loaded (Digits false high) u n (part bytes.now at (ceil_div n 8))).items }
 {
     load_steps(area, to, bytes, at, n, high, n / 8 + super::SPARE)
 }
@@ -92,7 +91,7 @@ pub fn load_binary(area: &mut [u8], to: usize, bytes: &[u8], at: usize, n: usize
 fn write_hex(area: &mut [u8], to: usize, b: u8, left: usize, high: bool) -> usize
     requires { to + min 2 left ≤ length area.old }
     ensures count { result ≡ min 2 left }
-    ensures area_value { after area ≡ store_at (before area) to (take result (chars_of true high b)) }
+    ensures area_value { area.new ≡ store_at area.old to (take result (chars_of true high b)) }
 {
     if left < 2 {
         super::chars::write(area, to, b, left, true, high);
@@ -106,8 +105,8 @@ fn write_hex(area: &mut [u8], to: usize, b: u8, left: usize, high: bool) -> usiz
 pub fn load_hex(area: &mut [u8], to: usize, bytes: &[u8], at: usize, n: usize, high: bool)
     requires { (to + n ≤ length area.old) × (at + ceil_div n 2 ≤ length bytes.now) }
     ensures { (u : Bool)
-        → after area
-        ≡ store_at (before area) to (loaded (Digits true high) u n (part (before bytes) at (ceil_div n 2))).items }
+        → area.new
+        ≡ store_at area.old to (loaded (Digits true high) u n (part bytes.now at (ceil_div n 2))).items }
 {
     let mut i = 0;
     let mut k = 0;

@@ -1,7 +1,6 @@
 // Binary and hex digits, `b B h H`, stored.
 ghost use Rattle.std.specs.Prelude.{◌≡◌, true, false, ◌+◌, ◌*◌, ◌/◌, ◌%◌, ◌^◌, ◌≤◌, ◌<◌, length, get_or, set};
 ghost use Rattle.layout.specs.declared.Shape.TheVariants.{Digits};
-ghost use Rattle.layout.specs.Lent.{before, after};
 ghost use Rattle.record.specs.Bytes.{part, store_at, ceil_div};
 ghost use Rattle.record.specs.Table.{max_area};
 ghost use Rattle.record.specs.Packing.{stored};
@@ -12,7 +11,7 @@ ghost use Rattle.digits.specs.inside.store.{FirstDigits, FirstBits, so_far};
 // A binary digit, the number q of those that are there and 0 past them, where the number j of a byte's digits stands.
 fn bit_at(area: &[u8], from: usize, count: usize, q: usize, j: usize, high: bool) -> u8
     requires { (j < 8) × (from + count ≤ length area.now) × DigitsAt false area.now from count }
-    ensures { result ≡ get_or (values_at (before area) from count) q 0 * 2 ^ place_of high 8 j }
+    ensures { result ≡ get_or (values_at area.now from count) q 0 * 2 ^ place_of high 8 j }
 {
     let digit = super::bytes::digit_at(area, from, count, q, false);
     let p = super::place(high, 8, j);
@@ -22,7 +21,7 @@ fn bit_at(area: &[u8], from: usize, count: usize, q: usize, j: usize, high: bool
 // Adds the digit number j to the byte of which the digits before it are stored.
 fn add_bit(out: &mut [u8], place: usize, bit: u8, j: usize)
     requires { place < length out.old }
-    ensures { after out ≡ set (before out) place ((so_far j (before out) place + bit) % 256) }
+    ensures { out.new ≡ set out.old place ((so_far j out.old place + bit) % 256) }
 {
     if j == 0 {
         out[place] = bit;
@@ -49,7 +48,7 @@ fn store_step(
     requires { (n ≤ max_area) × (have ≤ n) × (start + have ≤ length area.now)
         × (at + ceil_div n 8 ≤ length out.old) × DigitsAt false area.now start have × (k < binary_steps n)
         × (eight ≡ true → k < n / 8) × (eight ≡ false → n / 8 ≤ k) × (full ≡ true → 8 * k + 8 ≤ have) }
-    ensures { Advanced (storing high (part (before area) start have) at) n k (k + 1) (before out) (after out) }
+    ensures { Advanced (storing high (part area.now start have) at) n k (k + 1) out.old out.new }
 {
     if full {
         out[at + k] = super::bytes::eight_at(area, start + 8 * k, high);
@@ -83,7 +82,7 @@ fn store_run(
         × (at + ceil_div n 8 ≤ length out.old) × DigitsAt false area.now start have × (from ≤ until)
         × (until ≤ binary_steps n) × (eight ≡ true → until ≤ n / 8) × (eight ≡ false → from < until → n / 8 ≤ from)
         × (full ≡ true → 8 * until ≤ have) }
-    ensures { Advanced (storing high (part (before area) start have) at) n from until (before out) (after out) }
+    ensures { Advanced (storing high (part area.now start have) at) n from until out.old out.new }
 {
     let mut k = from;
     while k < until {
@@ -106,7 +105,7 @@ pub fn store_steps(
 )
     requires { (n ≤ max_area) × (start + len ≤ length area.now) × (at + ceil_div n 8 ≤ length out.old)
         × FirstBits n area.now start len }
-    ensures { after out ≡ (steps (storing high (part (before area) start len) at) n (before out) budget).bytes }
+    ensures { out.new ≡ (steps (storing high (part area.now start len) at) n out.old budget).bytes }
 {
     let have = record::least(n, len);
     let all = record::least(n / 8 + n % 8, budget); // the steps to do
@@ -133,10 +132,10 @@ pub fn store_binary(
 )
     requires { (n ≤ max_area) × (start + len ≤ length area.now) × (at + ceil_div n 8 ≤ length out.old)
         × FirstBits n area.now start len }
-    ensures within { after out
-        ≡ (steps (storing high (part (before area) start len) at) n (before out) (binary_budget n)).bytes }
-    ensures out_value { after out
-        ≡ store_at (before out) at (stored (Digits false high) n (part (before area) start len)) }
+    ensures within { out.new
+        ≡ (steps (storing high (part area.now start len) at) n out.old (binary_budget n)).bytes }
+    ensures out_value { out.new
+        ≡ store_at out.old at (stored (Digits false high) n (part area.now start len)) }
 {
     store_steps(out, at, area, start, len, n, high, n / 8 + super::SPARE)
 }
@@ -153,7 +152,7 @@ pub fn store_hex(
 )
     requires { (n ≤ max_area) × (start + len ≤ length area.now) × (at + ceil_div n 2 ≤ length out.old)
         × FirstDigits true n area.now start len }
-    ensures { after out ≡ store_at (before out) at (stored (Digits true high) n (part (before area) start len)) }
+    ensures { out.new ≡ store_at out.old at (stored (Digits true high) n (part area.now start len)) }
 {
     let have = record::least(n, len);
     let mut i = 0;

@@ -1,6 +1,5 @@
 // What one layout packs, cut anywhere, read by another: the calls of which demand 3 speaks.
 // The claim is in specs/Claim.antt, its proof in proofs/; `read_back` keeps it.
-ghost use Rattle.layout.specs.Lent.{before, after};
 ghost use Rattle.evolution.specs.Calls.{ReadsBackAs};
 
 use record::ReadAnswer;
@@ -20,17 +19,17 @@ pub fn read_back(
 ) -> ReadAnswer
     ensures { ReadsBackAs
         (record {
-          written_by = before written_by;
-          slots = before slots;
-          area = before area;
-          output = before out;
+          written_by = written_by.now;
+          slots = slots.now;
+          area = area.now;
+          output = out.old;
           cut = cut;
-          read_by = before read_by;
-          table = before table;
-          values = before values;
+          read_by = read_by.now;
+          table = table.old;
+          values = values.old;
           mark = mark;
         })
-        (record { answer = result; output = after out; table = after table; values = after values }) }
+        (record { answer = result; output = out.new; table = table.new; values = values.new }) }
 {
     let a = packer::pack(written_by, slots, area, out);
     let number = a.number;

@@ -1,7 +1,6 @@
 // What the calls for a C host share: the sizes of the runs of bytes that are lent, and the replies. The numbers of a
 // run are in `numbers`.
 ghost use Rattle.std.specs.Prelude.{◌≡◌, eqb, length};
-ghost use Rattle.layout.specs.Lent.{after};
 ghost use Rattle.host.specs.Host.{reply_size, long_reply_size, reply_of, long_reply};
 ghost use Rattle.host.specs.inside.Small.{slot_bytes_fit, is_small};
 
@@ -44,7 +43,7 @@ pub fn slots_fit(size: usize) -> bool
 // Writes an answer into the reply, and hands back its number.
 pub fn reply_with(reply: &mut [u8], a: Answer) -> u32
     requires { length reply.old ≡ reply_size }
-    ensures { (result ≡ a.number) × (after reply ≡ reply_of a) }
+    ensures { (result ≡ a.number) × (reply.new ≡ reply_of a) }
 {
     let three: [u32; 3] = [a.number, a.first, a.second];
     numbers::encode_run(reply, &three, 0, 3);
@@ -54,7 +53,7 @@ pub fn reply_with(reply: &mut [u8], a: Answer) -> u32
 // Writes an answer and a fourth number into the reply, and hands back the answer's number.
 pub fn reply_long(reply: &mut [u8], a: Answer, fourth: u32) -> u32
     requires { length reply.old ≡ long_reply_size }
-    ensures { (result ≡ a.number) × (after reply ≡ long_reply a fourth) }
+    ensures { (result ≡ a.number) × (reply.new ≡ long_reply a fourth) }
 {
     let number = a.number;
     let four: [u32; 4] = [number, a.first, a.second, fourth];

@@ -3,7 +3,6 @@
 use Rattle.std.specs.Prelude.{ℕ, ◌*◌, ◌%◌, ◌≡◌, Bool, List, ◌++◌, eqb, length, take, drop}
 use Rattle.layout.specs.declared.Refusal.TheVariants.{BadSize}
 use Rattle.layout.specs.Refusals.{if◌then◌else◌, number_of, Result, ok, refused, ◌>>=◌, demand}
-use Rattle.layout.specs.Lent.{Lent, before, after}
 use Rattle.record.specs.Reading.{reads}
 use Rattle.compare.specs.Difference.{report_width}
 use Rattle.compare.specs.Comparing.{Shown, compares, compare_effect, Compared, compare}
@@ -79,28 +78,28 @@ curlew_compare layout first second first_slots first_area second_slots second_ar
     }
 
 -- what a call left that returned r
-abbrev pub compare_left : Lent → Lent → Lent → Lent → Lent → Lent → ℕ → CompareCall
-compare_left first_slots first_area second_slots second_area report reply r =
+abbrev pub compare_left : List ℕ → List ℕ → List ℕ → List ℕ → List ℕ → List ℕ → List ℕ → List ℕ → List ℕ → List ℕ → List ℕ → List ℕ → ℕ → CompareCall
+compare_left first_slots first_slots' first_area first_area' second_slots second_slots' second_area second_area' report report' reply reply' r =
     record {
       returned = r;
-      first_slots = after first_slots;
-      first_area = after first_area;
-      second_slots = after second_slots;
-      second_area = after second_area;
-      report = after report;
-      reply = after reply;
+      first_slots = first_slots';
+      first_area = first_area';
+      second_slots = second_slots';
+      second_area = second_area';
+      report = report';
+      reply = reply';
     }
 
 -- what a call promises that returned r; and what it promises where the reply is written and the slots are whole
-abbrev pub HostCompares : Lent → Lent → Lent → Lent → Lent → Lent → Lent → Lent → Lent → ℕ → Type 0
-HostCompares layout first second first_slots first_area second_slots second_area report reply r =
-    compare_left first_slots first_area second_slots second_area report reply r
-    ≡ curlew_compare (before layout) (before first) (before second) (before first_slots) (before first_area)
-    (before second_slots) (before second_area) (before report) (before reply)
+abbrev pub HostCompares : List ℕ → List ℕ → List ℕ → List ℕ → List ℕ → List ℕ → List ℕ → List ℕ → List ℕ → List ℕ → List ℕ → List ℕ → List ℕ → List ℕ → List ℕ → ℕ → Type 0
+HostCompares layout first second first_slots first_slots' first_area first_area' second_slots second_slots' second_area second_area' report report' reply reply' r =
+    compare_left first_slots first_slots' first_area first_area' second_slots second_slots' second_area second_area' report report' reply reply' r
+    ≡ curlew_compare layout first second first_slots first_area
+    second_slots second_area report reply
 
-abbrev pub CompareServed : Lent → Lent → Lent → Lent → Lent → Lent → Lent → Lent → Lent → ℕ → Type 0
-CompareServed layout first second first_slots first_area second_slots second_area report reply r =
-    compare_left first_slots first_area second_slots second_area report reply r
-    ≡ compare_call (before first_slots) (before second_slots) (before report)
-    (compare (before layout) (before first) (before second) (numbers_in (before first_slots)) (before first_area)
-    (numbers_in (before second_slots)) (before second_area) (numbers_in (before report)))
+abbrev pub CompareServed : List ℕ → List ℕ → List ℕ → List ℕ → List ℕ → List ℕ → List ℕ → List ℕ → List ℕ → List ℕ → List ℕ → List ℕ → List ℕ → List ℕ → List ℕ → ℕ → Type 0
+CompareServed layout first second first_slots first_slots' first_area first_area' second_slots second_slots' second_area second_area' report report' reply reply' r =
+    compare_left first_slots first_slots' first_area first_area' second_slots second_slots' second_area second_area' report report' reply reply' r
+    ≡ compare_call first_slots second_slots report
+    (compare layout first second (numbers_in first_slots) first_area
+    (numbers_in second_slots) second_area (numbers_in report))

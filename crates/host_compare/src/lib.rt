@@ -26,7 +26,7 @@ const FEW_BYTES: usize = host::FEW_NUMBERS * host::numbers::NUMBER_SIZE;
 // The second table is cut or too long: the answer to the first reading's refusals, and else 1.
 fn refuse_second(layout: &[u8], first: &[u8], slots: &[u32], area: &[u8], reply: &mut [u8]) -> u32
     requires { length reply.old ≡ reply_size }
-    ensures { SecondRefused layout first slots area reply result }
+    ensures { SecondRefused layout.now first.now slots.now area.now reply.old reply.new result }
 {
     let a = checking::check(layout, first, slots, area, 0);
     if a.number != 0 {
@@ -56,8 +56,8 @@ fn compare_by(
         × (length first_room.old % slot_width ≡ 0) }
     requires second_slots_len { (length second_slots.old ≡ length second_room.old * number_size)
         × (length second_room.old % slot_width ≡ 0) }
-    ensures { CompareServed layout first second first_slots first_area second_slots second_area report
-        reply result }
+    ensures { CompareServed layout.now first.now second.now first_slots.old first_slots.new first_area.old first_area.new second_slots.old second_slots.new second_area.old second_area.new report.old report.new
+        reply.old reply.new result }
 {
     host::numbers::decode(first_slots, first_room);
     host::numbers::decode(second_slots, second_room);
@@ -114,8 +114,8 @@ fn compare_few(
 ) -> u32
     requires { (length reply.old ≡ reply_size) × (slot_bytes_fit (length first_slots.old) ≡ true)
         × Few (length first_slots.old) (length second_slots.old) (length report.old) }
-    ensures { CompareServed layout first second first_slots first_area second_slots second_area report
-        reply result }
+    ensures { CompareServed layout.now first.now second.now first_slots.old first_slots.new first_area.old first_area.new second_slots.old second_slots.new second_area.old second_area.new report.old report.new
+        reply.old reply.new result }
 {
     let n = first_slots.len() / host::numbers::NUMBER_SIZE;
     let m = second_slots.len() / host::numbers::NUMBER_SIZE;
@@ -152,8 +152,8 @@ pub fn compare(
     report: &mut [u8],
     reply: &mut [u8],
 ) -> u32
-    ensures { HostCompares layout first second first_slots first_area second_slots second_area report
-        reply result }
+    ensures { HostCompares layout.now first.now second.now first_slots.old first_slots.new first_area.old first_area.new second_slots.old second_slots.new second_area.old second_area.new report.old report.new
+        reply.old reply.new result }
 {
     if !host::reply_fits(reply.len()) {
         return 1;

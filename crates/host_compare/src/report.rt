@@ -1,6 +1,5 @@
 // What a comparison on numbers left, written back for a C host.
 ghost use Rattle.std.specs.Prelude.{◌≡◌, length};
-ghost use Rattle.layout.specs.Lent.{after};
 ghost use Rattle.host.specs.Host.{reply_size, reply_of};
 ghost use Rattle.host_compare.specs.inside.report.{Fits, WrittenBack};
 
@@ -22,8 +21,8 @@ pub fn write_back(
     requires fits { a.number ≡ 0
         → Fits a.first first_slots.old second_slots.old report.old first_room.now second_room.now
         findings.now }
-    ensures { (result ≡ a.number) × (after reply ≡ reply_of a)
-        × WrittenBack first_slots second_slots report first_room second_room findings a }
+    ensures { (result ≡ a.number) × (reply.new ≡ reply_of a)
+        × WrittenBack first_slots.old first_slots.new second_slots.old second_slots.new report.old report.new first_room.now second_room.now findings.now a }
 {
     if a.number != 0 {
         return host::reply_with(reply, a);

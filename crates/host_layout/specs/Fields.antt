@@ -1,7 +1,6 @@
 -- The fields of a layout for a C host (document 01, Slot tables). THE EFFECT OF A CALL is `curlew_fields`.
 use Rattle.std.specs.Prelude.{ℕ, ◌≡◌, List, eqb, length}
 use Rattle.layout.specs.declared.Refusal.TheVariants.{BadSize}
-use Rattle.layout.specs.Lent.{Lent, before, after}
 use Rattle.layout.specs.Refusals.{if◌then◌else◌, number_of}
 use Rattle.host.specs.Host.{reply_size, PackCall, pack_call}
 use Rattle.describe.specs.Rows.{listed}
@@ -14,7 +13,7 @@ curlew_fields layout output reply =
     else record { returned = number_of BadSize; output = output; reply = reply }
 
 -- what a call promises that returned r
-abbrev pub HostLists : Lent → Lent → Lent → ℕ → Type 0
-HostLists layout out reply r =
-    record { returned = r; output = after out; reply = after reply }
-    ≡ curlew_fields (before layout) (before out) (before reply)
+abbrev pub HostLists : List ℕ → List ℕ → List ℕ → List ℕ → List ℕ → ℕ → Type 0
+HostLists layout out out' reply reply' r =
+    record { returned = r; output = out'; reply = reply' }
+    ≡ curlew_fields layout out reply

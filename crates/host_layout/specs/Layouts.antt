@@ -1,7 +1,6 @@
 -- Layouts described for a C host (document 01, Slot tables). THE EFFECT OF A CALL is `curlew_layout`.
 use Rattle.std.specs.Prelude.{ℕ, ◌≡◌, List, eqb, length}
 use Rattle.layout.specs.declared.Refusal.TheVariants.{BadSize}
-use Rattle.layout.specs.Lent.{Lent, before, after}
 use Rattle.layout.specs.Refusals.{if◌then◌else◌, number_of}
 use Rattle.record.specs.declared.Answer.{Answer}
 use Rattle.host.specs.Host.{reply_size, reply_of}
@@ -25,6 +24,6 @@ curlew_layout layout reply =
     else record { returned = number_of BadSize; reply = reply }
 
 -- what a call promises that returned r
-abbrev pub HostDescribes : Lent → Lent → ℕ → Type 0
-HostDescribes layout reply r =
-    record { returned = r; reply = after reply } ≡ curlew_layout (before layout) (before reply)
+abbrev pub HostDescribes : List ℕ → List ℕ → List ℕ → ℕ → Type 0
+HostDescribes layout reply reply' r =
+    record { returned = r; reply = reply' } ≡ curlew_layout layout reply

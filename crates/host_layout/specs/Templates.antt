@@ -2,7 +2,6 @@
 use Rattle.std.specs.Prelude.{ℕ, ◌≡◌, List, eqb, length}
 use Rattle.layout.specs.declared.Refusal.TheVariants.{BadSize}
 use Rattle.layout.specs.Refusals.{if◌then◌else◌, number_of}
-use Rattle.layout.specs.Lent.{Lent, before, after}
 use Rattle.host.specs.Host.{reply_size, reply_of}
 use Rattle.perl.specs.Conversion.{Converted, from_perl}
 
@@ -25,7 +24,7 @@ curlew_from_perl template layout reply =
     else record { returned = number_of BadSize; layout = layout; reply = reply }
 
 -- what a call promises that returned r
-abbrev pub HostConverts : Lent → Lent → Lent → ℕ → Type 0
-HostConverts template layout reply r =
-    record { returned = r; layout = after layout; reply = after reply }
-    ≡ curlew_from_perl (before template) (before layout) (before reply)
+abbrev pub HostConverts : List ℕ → List ℕ → List ℕ → List ℕ → List ℕ → ℕ → Type 0
+HostConverts template layout layout' reply reply' r =
+    record { returned = r; layout = layout'; reply = reply' }
+    ≡ curlew_from_perl template layout reply

@@ -2,7 +2,6 @@
 -- and `curlew_extends`.
 use Rattle.std.specs.Prelude.{ℕ, ◌≡◌, List, eqb, length}
 use Rattle.layout.specs.declared.Refusal.TheVariants.{BadSize}
-use Rattle.layout.specs.Lent.{Lent, before, after}
 use Rattle.layout.specs.Refusals.{if◌then◌else◌, number_of}
 use Rattle.host.specs.Host.{long_reply_size, long_reply}
 use Rattle.promises.specs.declared.Told.{Told}
@@ -30,13 +29,13 @@ unfolding told_call extended
 curlew_extends old new reply = told_call (extended old new) reply
 
 -- what a call promises that returned r
-abbrev pub Tells : Told → Lent → ℕ → Type 0
-Tells t reply r = record { returned = r; reply = after reply } ≡ told_call t (before reply)
+abbrev pub Tells : Told → List ℕ → List ℕ → ℕ → Type 0
+Tells t reply reply' r = record { returned = r; reply = reply' } ≡ told_call t reply
 
-abbrev pub HostPromises : Lent → Lent → ℕ → Type 0
-HostPromises layout reply r =
-    record { returned = r; reply = after reply } ≡ curlew_promises (before layout) (before reply)
+abbrev pub HostPromises : List ℕ → List ℕ → List ℕ → ℕ → Type 0
+HostPromises layout reply reply' r =
+    record { returned = r; reply = reply' } ≡ curlew_promises layout reply
 
-abbrev pub HostExtends : Lent → Lent → Lent → ℕ → Type 0
-HostExtends old new reply r =
-    record { returned = r; reply = after reply } ≡ curlew_extends (before old) (before new) (before reply)
+abbrev pub HostExtends : List ℕ → List ℕ → List ℕ → List ℕ → ℕ → Type 0
+HostExtends old new reply reply' r =
+    record { returned = r; reply = reply' } ≡ curlew_extends old new reply

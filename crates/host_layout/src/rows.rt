@@ -5,7 +5,7 @@ use describe::fields;
 
 // Writes a row of eight numbers for each field of a layout.
 pub fn fields(layout: &[u8], out: &mut [u8], reply: &mut [u8]) -> u32
-    ensures { HostLists layout out reply result }
+    ensures { HostLists layout.now out.old out.new reply.old reply.new result }
 {
     if !host::reply_fits(reply.len()) {
         return 1;

@@ -3,7 +3,7 @@ ghost use Rattle.host_layout.specs.Templates.{HostConverts};
 
 // Writes the layout that a Perl template stands for.
 pub fn from_perl(template: &[u8], layout: &mut [u8], reply: &mut [u8]) -> u32
-    ensures { HostConverts template layout reply result }
+    ensures { HostConverts template.now layout.old layout.new reply.old reply.new result }
 {
     if !host::reply_fits(reply.len()) {
         return 1;

@@ -5,7 +5,6 @@ use Rattle.std.specs.Float.{binary64}
 use Rattle.std.specs.Float.Ieee.{to_bits}
 use Rattle.layout.specs.declared.Refusal.TheVariants.{BadSize}
 use Rattle.layout.specs.Refusals.{number_of}
-use Rattle.layout.specs.Lent.{Lent, before, after}
 use Rattle.record.specs.Bytes.{number_bytes}
 use Rattle.record.specs.Table.{integer_size}
 use Rattle.record.specs.Packing.{refusal}
@@ -60,10 +59,10 @@ curlew_mean slots area reply =
     (mean_call (mean (numbers_in slots) area))
 
 -- what a call promises that returned r; and what it promises where the reply is written and the slots are whole
-abbrev pub HostMeans : Lent → Lent → Lent → ℕ → Type 0
-HostMeans slots area reply r =
-    record { returned = r; reply = after reply } ≡ curlew_mean (before slots) (before area) (before reply)
+abbrev pub HostMeans : List ℕ → List ℕ → List ℕ → List ℕ → ℕ → Type 0
+HostMeans slots area reply reply' r =
+    record { returned = r; reply = reply' } ≡ curlew_mean slots area reply
 
-abbrev pub MeanServed : Lent → Lent → Lent → ℕ → Type 0
-MeanServed slots area reply r =
-    record { returned = r; reply = after reply } ≡ mean_call (mean (numbers_in (before slots)) (before area))
+abbrev pub MeanServed : List ℕ → List ℕ → List ℕ → List ℕ → ℕ → Type 0
+MeanServed slots area reply reply' r =
+    record { returned = r; reply = reply' } ≡ mean_call (mean (numbers_in slots) area)

@@ -1,6 +1,5 @@
 // The mean of the marked legs for a C host.
 ghost use Rattle.std.specs.Prelude.{◌≡◌, ◌*◌, ◌%◌, eqb, length};
-ghost use Rattle.layout.specs.Lent.{after};
 ghost use Rattle.record.specs.Table.{slot_width};
 ghost use Rattle.host.specs.Numbers.{number_size};
 ghost use Rattle.mean.specs.Claims.{Numeric};
@@ -47,7 +46,7 @@ fn pattern(m: LegMean) -> u64
 // Writes an answer and its mean into the reply, and hands back the answer's number.
 fn reply_with(reply: &mut [u8], r: Marks) -> u32
     requires { (length reply.old ≡ mean_reply_size) × Numeric r.mean }
-    ensures { (result ≡ r.answer.number) × (after reply ≡ mean_reply r) }
+    ensures { (result ≡ r.answer.number) × (reply.new ≡ mean_reply r) }
 {
     let a = r.answer;
     let m = r.mean;
@@ -61,7 +60,7 @@ fn reply_with(reply: &mut [u8], r: Marks) -> u32
 fn mean_by(slots: &[u8], area: &[u8], reply: &mut [u8], room: &mut [u32]) -> u32
     requires { (length reply.old ≡ mean_reply_size) × (length slots.now ≡ length room.old * number_size)
         × (length room.old % slot_width ≡ 0) }
-    ensures { MeanServed slots area reply result }
+    ensures { MeanServed slots.now area.now reply.old reply.new result }
 {
     host::numbers::decode(slots, room);
     let r = mean::mean(room, area);
@@ -70,7 +69,7 @@ fn mean_by(slots: &[u8], area: &[u8], reply: &mut [u8], room: &mut [u32]) -> u32
 
 // The mean of the marks in a table, and how many of its slots are not set.
 pub fn mean(slots: &[u8], area: &[u8], reply: &mut [u8]) -> u32
-    ensures { HostMeans slots area reply result }
+    ensures { HostMeans slots.now area.now reply.old reply.new result }
 {
     if !reply_fits(reply.len()) {
         return 1;

@@ -4,7 +4,6 @@
 use Rattle.std.specs.Prelude.{ℕ, ◌≡◌, List, eqb, length}
 use Rattle.layout.specs.declared.Refusal.TheVariants.{BadSize}
 use Rattle.layout.specs.Refusals.{number_of, if◌then◌else◌}
-use Rattle.layout.specs.Lent.{Lent, before, after}
 use Rattle.record.specs.Packing.{refusal}
 use Rattle.host.specs.Numbers.{numbers_in}
 use Rattle.host.specs.Host.{reply_size, long_reply_size, reply_of, PackCall, pack_call, ReadCall, guarded}
@@ -50,17 +49,17 @@ curlew_read_plan plan bytes slots area mark reply =
 
 -- ---- what a call promises that returned r
 
-abbrev pub HostPrepares : Lent → Lent → Lent → ℕ → Type 0
-HostPrepares layout plan reply r =
-    record { returned = r; plan = after plan; reply = after reply }
-    ≡ curlew_prepare (before layout) (before plan) (before reply)
+abbrev pub HostPrepares : List ℕ → List ℕ → List ℕ → List ℕ → List ℕ → ℕ → Type 0
+HostPrepares layout plan plan' reply reply' r =
+    record { returned = r; plan = plan'; reply = reply' }
+    ≡ curlew_prepare layout plan reply
 
-abbrev pub HostPacksPlan : Lent → Lent → Lent → Lent → Lent → ℕ → Type 0
-HostPacksPlan plan slots area out reply r =
-    record { returned = r; output = after out; reply = after reply }
-    ≡ curlew_pack_plan (before plan) (before slots) (before area) (before out) (before reply)
+abbrev pub HostPacksPlan : List ℕ → List ℕ → List ℕ → List ℕ → List ℕ → List ℕ → List ℕ → ℕ → Type 0
+HostPacksPlan plan slots area out out' reply reply' r =
+    record { returned = r; output = out'; reply = reply' }
+    ≡ curlew_pack_plan plan slots area out reply
 
-abbrev pub HostReadsPlan : Lent → Lent → Lent → Lent → ℕ → Lent → ℕ → Type 0
-HostReadsPlan plan bytes slots area mark reply r =
-    record { returned = r; slots = after slots; area = after area; reply = after reply }
-    ≡ curlew_read_plan (before plan) (before bytes) (before slots) (before area) mark (before reply)
+abbrev pub HostReadsPlan : List ℕ → List ℕ → List ℕ → List ℕ → List ℕ → List ℕ → ℕ → List ℕ → List ℕ → ℕ → Type 0
+HostReadsPlan plan bytes slots slots' area area' mark reply reply' r =
+    record { returned = r; slots = slots'; area = area'; reply = reply' }
+    ≡ curlew_read_plan plan bytes slots area mark reply

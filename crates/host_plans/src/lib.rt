@@ -13,7 +13,7 @@ use slot_table::sizes;
 
 // Reads a layout once, into a plan for many records.
 pub fn prepare(layout: &[u8], plan: &mut [u32], reply: &mut [u8]) -> u32
-    ensures { HostPrepares layout plan reply result }
+    ensures { HostPrepares layout.now plan.old plan.new reply.old reply.new result }
 {
     if !host::reply_fits(reply.len()) {
         return 1;
@@ -33,7 +33,7 @@ fn pack_few(
     room: &mut [u32],
 ) -> Answer
     requires { Packable n plan.now slots.now out.old × RoomFor slots.now room.old }
-    ensures { PlanPacks n plan slots area out result }
+    ensures { PlanPacks n plan.now slots.now area.now out.old out.new result }
 {
     host::numbers::decode(slots, room);
     packer::passes::pack(plan, n, room, area, out)
@@ -48,7 +48,7 @@ fn pack_many(
     room: &mut [u32],
 ) -> Answer
     requires { Packable n plan.now slots.now out.old × RoomFor slots.now room.old }
-    ensures { PlanPacks n plan slots area out result }
+    ensures { PlanPacks n plan.now slots.now area.now out.old out.new result }
 {
     host::numbers::decode(slots, room);
     packer::passes::pack(plan, n, room, area, out)
@@ -57,7 +57,7 @@ fn pack_many(
 // What is left of a packing once the plan is judged.
 fn packed(p: Parsed, plan: &[u32], slots: &[u8], area: &[u8], out: &mut [u8]) -> Answer
     requires { PackJudged p plan.now slots.now area.now out.old }
-    ensures { PacksByPlan plan slots area out result }
+    ensures { PacksByPlan plan.now slots.now area.now out.old out.new result }
 {
     match p {
         Parsed::Refused(why, place) => Answer::refused(why, place as u32),
@@ -78,7 +78,7 @@ fn packed(p: Parsed, plan: &[u32], slots: &[u8], area: &[u8], out: &mut [u8]) ->
 
 // Packs the arguments into `out` by a plan, as `host_record::pack::pack` does by a layout.
 pub fn pack(plan: &[u32], slots: &[u8], area: &[u8], out: &mut [u8], reply: &mut [u8]) -> u32
-    ensures { HostPacksPlan plan slots area out reply result }
+    ensures { HostPacksPlan plan.now slots.now area.now out.old out.new reply.old reply.new result }
 {
     if !host::reply_fits(reply.len()) {
         return 1;
@@ -111,7 +111,7 @@ fn read_few(
 ) -> u32
     requires { PlanReady n taken plan.now bytes.now slots.old area.old mark reply.old
         × (length slots.old ≡ length room.old * number_size) }
-    ensures { ReadsByPlan plan bytes slots area mark reply result }
+    ensures { ReadsByPlan plan.now bytes.now slots.old slots.new area.old area.new mark reply.old reply.new result }
 {
     if checking::surely_fits(n, taken, bytes.len(), room.len(), area.len() - mark) {
         let r = reading::fill(plan, n, bytes, room, area, mark);
@@ -134,7 +134,7 @@ fn read_many(
 ) -> u32
     requires { PlanReady n taken plan.now bytes.now slots.old area.old mark reply.old
         × (length slots.old ≡ length room.old * number_size) }
-    ensures { ReadsByPlan plan bytes slots area mark reply result }
+    ensures { ReadsByPlan plan.now bytes.now slots.old slots.new area.old area.new mark reply.old reply.new result }
 {
     let r = reader::passes::read(plan, n, taken, bytes, room, area, mark);
     host_record::read::read_back(slots, reply, room, r)
@@ -151,7 +151,7 @@ fn read_judged(
     reply: &mut [u8],
 ) -> u32
     requires { ReadJudged p plan.now bytes.now slots.old area.old mark reply.old }
-    ensures { ReadsByPlan plan bytes slots area mark reply result }
+    ensures { ReadsByPlan plan.now bytes.now slots.old slots.new area.old area.new mark reply.old reply.new result }
 {
     match p {
         Parsed::Refused(why, place) => host::reply_long(
@@ -200,7 +200,7 @@ pub fn read(
     mark: usize,
     reply: &mut [u8],
 ) -> u32
-    ensures { HostReadsPlan plan bytes slots area mark reply result }
+    ensures { HostReadsPlan plan.now bytes.now slots.old slots.new area.old area.new mark reply.old reply.new result }
 {
     if !host::long_reply_fits(reply.len()) {
         return 1;

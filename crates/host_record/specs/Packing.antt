@@ -2,7 +2,6 @@
 use Rattle.std.specs.Prelude.{ℕ, ◌≡◌, List}
 use Rattle.layout.specs.declared.Refusal.TheVariants.{BadSize}
 use Rattle.layout.specs.Refusals.{number_of}
-use Rattle.layout.specs.Lent.{Lent, before, after}
 use Rattle.record.specs.Packing.{refusal, pack}
 use Rattle.host.specs.Numbers.{numbers_in}
 use Rattle.host.specs.Host.{reply_size, PackCall, pack_call, guarded}
@@ -16,7 +15,7 @@ curlew_pack layout slots area output reply =
     (pack_call (pack layout (numbers_in slots) area output))
 
 -- what a call promises that returned r
-abbrev pub HostPacks : Lent → Lent → Lent → Lent → Lent → ℕ → Type 0
-HostPacks layout slots area out reply r =
-    record { returned = r; output = after out; reply = after reply }
-    ≡ curlew_pack (before layout) (before slots) (before area) (before out) (before reply)
+abbrev pub HostPacks : List ℕ → List ℕ → List ℕ → List ℕ → List ℕ → List ℕ → List ℕ → ℕ → Type 0
+HostPacks layout slots area out out' reply reply' r =
+    record { returned = r; output = out'; reply = reply' }
+    ≡ curlew_pack layout slots area out reply

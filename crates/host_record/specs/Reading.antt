@@ -2,7 +2,6 @@
 use Rattle.std.specs.Prelude.{ℕ, ◌≡◌, List}
 use Rattle.layout.specs.declared.Refusal.TheVariants.{BadSize}
 use Rattle.layout.specs.Refusals.{number_of}
-use Rattle.layout.specs.Lent.{Lent, before, after}
 use Rattle.record.specs.Packing.{refusal}
 use Rattle.record.specs.Reading.{read, read_steps, ReadAll, left_of, read_all}
 use Rattle.host.specs.Numbers.{numbers_in}
@@ -23,7 +22,7 @@ curlew_read layout bytes slots area mark reply =
     (steps_call slots (read_all layout bytes (numbers_in slots) area mark))
 
 -- what a call promises that returned r
-abbrev pub HostReads : Lent → Lent → Lent → Lent → ℕ → Lent → ℕ → Type 0
-HostReads layout bytes slots area mark reply r =
-    record { returned = r; slots = after slots; area = after area; reply = after reply }
-    ≡ curlew_read (before layout) (before bytes) (before slots) (before area) mark (before reply)
+abbrev pub HostReads : List ℕ → List ℕ → List ℕ → List ℕ → List ℕ → List ℕ → ℕ → List ℕ → List ℕ → ℕ → Type 0
+HostReads layout bytes slots slots' area area' mark reply reply' r =
+    record { returned = r; slots = slots'; area = area'; reply = reply' }
+    ≡ curlew_read layout bytes slots area mark reply

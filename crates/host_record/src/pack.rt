@@ -9,7 +9,7 @@ use record::Answer;
 // Packs, quicker by a short layout, with room lent for the slots' numbers.
 fn pack_short(layout: &[u8], slots: &[u8], area: &[u8], out: &mut [u8], room: &mut [u32]) -> Answer
     requires { RoomFor slots.now room.old }
-    ensures { Packs layout slots area out result }
+    ensures { Packs layout.now slots.now area.now out.old out.new result }
 {
     host::numbers::decode(slots, room);
     packer::pack_short(layout, room, area, out)
@@ -18,7 +18,7 @@ fn pack_short(layout: &[u8], slots: &[u8], area: &[u8], out: &mut [u8], room: &m
 // Packs, as quick by any layout, with room lent for the slots' numbers.
 fn pack_long(layout: &[u8], slots: &[u8], area: &[u8], out: &mut [u8], room: &mut [u32]) -> Answer
     requires { RoomFor slots.now room.old }
-    ensures { Packs layout slots area out result }
+    ensures { Packs layout.now slots.now area.now out.old out.new result }
 {
     host::numbers::decode(slots, room);
     packer::pack(layout, room, area, out)
@@ -26,7 +26,7 @@ fn pack_long(layout: &[u8], slots: &[u8], area: &[u8], out: &mut [u8], room: &mu
 
 // Packs the arguments into `out` by the layout (Tcl's `binary format`).
 pub fn pack(layout: &[u8], slots: &[u8], area: &[u8], out: &mut [u8], reply: &mut [u8]) -> u32
-    ensures { HostPacks layout slots area out reply result }
+    ensures { HostPacks layout.now slots.now area.now out.old out.new reply.old reply.new result }
 {
     if !host::reply_fits(reply.len()) {
         return 1;

@@ -1,7 +1,6 @@
 // Reading for a C host. A short layout and few slots get small arrays: clearing the large ones costs more than a small
 // record.
 ghost use Rattle.std.specs.Prelude.{◌≡◌, ◌*◌, ◌≤◌, length};
-ghost use Rattle.layout.specs.Lent.{before, after};
 ghost use Rattle.record.specs.Table.{slot_width};
 ghost use Rattle.host.specs.Numbers.{number_size};
 ghost use Rattle.host.specs.Host.{long_reply_size, long_reply};
@@ -16,8 +15,8 @@ use record::{Answer, ReadAnswer};
 pub fn read_back(slots: &mut [u8], reply: &mut [u8], room: &[u32], r: ReadAnswer) -> u32
     requires { (length reply.old ≡ long_reply_size) × (length slots.old ≡ length room.now * number_size)
         × (r.answer.number ≡ 0 → r.answer.first * slot_width ≤ length room.now) }
-    ensures { (result ≡ r.answer.number) × (after reply ≡ long_reply r.answer r.steps)
-        × (after slots ≡ written_back (before slots) (before room) r.answer) }
+    ensures { (result ≡ r.answer.number) × (reply.new ≡ long_reply r.answer r.steps)
+        × (slots.new ≡ written_back slots.old room.now r.answer) }
 {
     let a = r.answer;
     if a.number != 0 {
@@ -38,7 +37,7 @@ fn read_short(
     room: &mut [u32],
 ) -> u32
     requires { (length reply.old ≡ long_reply_size) × (length slots.old ≡ length room.old * number_size) }
-    ensures { Reads layout bytes slots area mark reply result }
+    ensures { Reads layout.now bytes.now slots.old slots.new area.old area.new mark reply.old reply.new result }
 {
     let r = reader::read_short(layout, bytes, room, area, mark);
     read_back(slots, reply, room, r)
@@ -55,7 +54,7 @@ fn read_long(
     room: &mut [u32],
 ) -> u32
     requires { (length reply.old ≡ long_reply_size) × (length slots.old ≡ length room.old * number_size) }
-    ensures { Reads layout bytes slots area mark reply result }
+    ensures { Reads layout.now bytes.now slots.old slots.new area.old area.new mark reply.old reply.new result }
 {
     let r = reader::read(layout, bytes, room, area, mark);
     read_back(slots, reply, room, r)
@@ -70,7 +69,7 @@ pub fn read(
     mark: usize,
     reply: &mut [u8],
 ) -> u32
-    ensures { HostReads layout bytes slots area mark reply result }
+    ensures { HostReads layout.now bytes.now slots.old slots.new area.old area.new mark reply.old reply.new result }
 {
     if !host::long_reply_fits(reply.len()) {
         return 1;

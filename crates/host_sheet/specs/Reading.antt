@@ -2,7 +2,6 @@
 use Rattle.std.specs.Prelude.{ℕ, ◌≡◌, List}
 use Rattle.layout.specs.declared.Refusal.TheVariants.{BadSize}
 use Rattle.layout.specs.Refusals.{number_of}
-use Rattle.layout.specs.Lent.{Lent, before, after}
 use Rattle.record.specs.Packing.{refusal}
 use Rattle.host.specs.Numbers.{numbers_in}
 use Rattle.host.specs.Host.{reply_size, ReadCall, read_call, guarded}
@@ -17,12 +16,12 @@ curlew_sheet_read sheet slots area mark reply =
     (read_call slots (read_sheet sheet (numbers_in slots) area mark))
 
 -- what a call promises that returned r; and what it promises where the reply is written and the slots are whole
-abbrev pub HostReadsSheet : Lent → Lent → Lent → ℕ → Lent → ℕ → Type 0
-HostReadsSheet sheet slots area mark reply r =
-    record { returned = r; slots = after slots; area = after area; reply = after reply }
-    ≡ curlew_sheet_read (before sheet) (before slots) (before area) mark (before reply)
+abbrev pub HostReadsSheet : List ℕ → List ℕ → List ℕ → List ℕ → List ℕ → ℕ → List ℕ → List ℕ → ℕ → Type 0
+HostReadsSheet sheet slots slots' area area' mark reply reply' r =
+    record { returned = r; slots = slots'; area = area'; reply = reply' }
+    ≡ curlew_sheet_read sheet slots area mark reply
 
-abbrev pub ReadServed : Lent → Lent → Lent → ℕ → Lent → ℕ → Type 0
-ReadServed sheet slots area mark reply r =
-    record { returned = r; slots = after slots; area = after area; reply = after reply }
-    ≡ read_call (before slots) (read_sheet (before sheet) (numbers_in (before slots)) (before area) mark)
+abbrev pub ReadServed : List ℕ → List ℕ → List ℕ → List ℕ → List ℕ → ℕ → List ℕ → List ℕ → ℕ → Type 0
+ReadServed sheet slots slots' area area' mark reply reply' r =
+    record { returned = r; slots = slots'; area = area'; reply = reply' }
+    ≡ read_call slots (read_sheet sheet (numbers_in slots) area mark)

@@ -3,7 +3,6 @@
 use Rattle.std.specs.Prelude.{ℕ, ◌*◌, ◌≡◌, List, [], ◌∷◌, eqb}
 use Rattle.layout.specs.declared.Refusal.TheVariants.{BadSize}
 use Rattle.layout.specs.Refusals.{if◌then◌else◌, number_of}
-use Rattle.layout.specs.Lent.{Lent, before, after}
 use Rattle.host.specs.Numbers.{number_size, numbers_in, numbers_bytes}
 use Rattle.host.specs.Host.{ReadCall, guarded}
 use Rattle.rescue.specs.declared.fill.Rescued.{Rescued}
@@ -37,12 +36,12 @@ curlew_sheet_rescue sheet legs slots area mark reply =
     (rescue_call slots (rescue sheet legs (numbers_in slots) area mark))
 
 -- what a call promises that returned r; and what it promises where the reply is written and the slots are whole
-abbrev pub HostRescues : Lent → ℕ → Lent → Lent → ℕ → Lent → ℕ → Type 0
-HostRescues sheet legs slots area mark reply r =
-    record { returned = r; slots = after slots; area = after area; reply = after reply }
-    ≡ curlew_sheet_rescue (before sheet) legs (before slots) (before area) mark (before reply)
+abbrev pub HostRescues : List ℕ → ℕ → List ℕ → List ℕ → List ℕ → List ℕ → ℕ → List ℕ → List ℕ → ℕ → Type 0
+HostRescues sheet legs slots slots' area area' mark reply reply' r =
+    record { returned = r; slots = slots'; area = area'; reply = reply' }
+    ≡ curlew_sheet_rescue sheet legs slots area mark reply
 
-abbrev pub RescueServed : Lent → ℕ → Lent → Lent → ℕ → Lent → ℕ → Type 0
-RescueServed sheet legs slots area mark reply r =
-    record { returned = r; slots = after slots; area = after area; reply = after reply }
-    ≡ rescue_call (before slots) (rescue (before sheet) legs (numbers_in (before slots)) (before area) mark)
+abbrev pub RescueServed : List ℕ → ℕ → List ℕ → List ℕ → List ℕ → List ℕ → ℕ → List ℕ → List ℕ → ℕ → Type 0
+RescueServed sheet legs slots slots' area area' mark reply reply' r =
+    record { returned = r; slots = slots'; area = area'; reply = reply' }
+    ≡ rescue_call slots (rescue sheet legs (numbers_in slots) area mark)

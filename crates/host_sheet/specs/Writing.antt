@@ -2,7 +2,6 @@
 use Rattle.std.specs.Prelude.{ℕ, ◌≡◌, List}
 use Rattle.layout.specs.declared.Refusal.TheVariants.{BadSize}
 use Rattle.layout.specs.Refusals.{number_of}
-use Rattle.layout.specs.Lent.{Lent, before, after}
 use Rattle.record.specs.Packing.{refusal}
 use Rattle.host.specs.Numbers.{numbers_in}
 use Rattle.host.specs.Host.{reply_size, PackCall, pack_call, guarded}
@@ -17,12 +16,12 @@ curlew_sheet_write slots area buffer reply =
     (pack_call (write_sheet (numbers_in slots) area buffer))
 
 -- what a call promises that returned r; and what it promises where the reply is written and the slots are whole
-abbrev pub HostWritesSheet : Lent → Lent → Lent → Lent → ℕ → Type 0
-HostWritesSheet slots area sheet reply r =
-    record { returned = r; output = after sheet; reply = after reply }
-    ≡ curlew_sheet_write (before slots) (before area) (before sheet) (before reply)
+abbrev pub HostWritesSheet : List ℕ → List ℕ → List ℕ → List ℕ → List ℕ → List ℕ → ℕ → Type 0
+HostWritesSheet slots area sheet sheet' reply reply' r =
+    record { returned = r; output = sheet'; reply = reply' }
+    ≡ curlew_sheet_write slots area sheet reply
 
-abbrev pub WriteServed : Lent → Lent → Lent → Lent → ℕ → Type 0
-WriteServed slots area sheet reply r =
-    record { returned = r; output = after sheet; reply = after reply }
-    ≡ pack_call (write_sheet (numbers_in (before slots)) (before area) (before sheet))
+abbrev pub WriteServed : List ℕ → List ℕ → List ℕ → List ℕ → List ℕ → List ℕ → ℕ → Type 0
+WriteServed slots area sheet sheet' reply reply' r =
+    record { returned = r; output = sheet'; reply = reply' }
+    ≡ pack_call (write_sheet (numbers_in slots) area sheet)

@@ -1,6 +1,5 @@
 // Rescuing a damaged sheet for a C host.
 ghost use Rattle.std.specs.Prelude.{◌≡◌, ◌*◌, eqb, length};
-ghost use Rattle.layout.specs.Lent.{after};
 ghost use Rattle.host.specs.Numbers.{number_size};
 ghost use Rattle.host_sheet.specs.Rescuing.{rescue_reply_size, rescue_reply, RescueServed, HostRescues};
 
@@ -20,7 +19,7 @@ fn reply_fits(size: usize) -> bool
 // Writes an answer into the reply, and hands back its number.
 fn reply_with(reply: &mut [u8], a: Rescued) -> u32
     requires { length reply.old ≡ rescue_reply_size }
-    ensures { (result ≡ a.number) × (after reply ≡ rescue_reply a) }
+    ensures { (result ≡ a.number) × (reply.new ≡ rescue_reply a) }
 {
     let four: [u32; 4] = [a.number, a.first, a.second, a.third];
     host::numbers::encode_run(reply, &four, 0, 4);
@@ -39,7 +38,7 @@ fn rescue_by(
     room: &mut [u32],
 ) -> u32
     requires { (length reply.old ≡ rescue_reply_size) × (length slots.old ≡ length room.old * number_size) }
-    ensures { RescueServed sheet legs slots area mark reply result }
+    ensures { RescueServed sheet.now legs slots.old slots.new area.old area.new mark reply.old reply.new result }
 {
     let a = rescue::rescue(sheet, legs, room, area, mark);
     if a.number != 0 {
@@ -58,7 +57,7 @@ pub fn rescue(
     mark: usize,
     reply: &mut [u8],
 ) -> u32
-    ensures { HostRescues sheet legs slots area mark reply result }
+    ensures { HostRescues sheet.now legs slots.old slots.new area.old area.new mark reply.old reply.new result }
 {
     if !reply_fits(reply.len()) {
         return 1;

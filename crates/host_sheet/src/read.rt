@@ -18,7 +18,7 @@ fn read_by(
     room: &mut [u32],
 ) -> u32
     requires { (length reply.old ≡ reply_size) × (length slots.old ≡ length room.old * number_size) }
-    ensures { ReadServed sheet slots area mark reply result }
+    ensures { ReadServed sheet.now slots.old slots.new area.old area.new mark reply.old reply.new result }
 {
     let a = sheet_read::read(sheet, room, area, mark);
     if a.number != 0 {
@@ -30,7 +30,7 @@ fn read_by(
 
 // Reads a sheet, and sets slots and area.
 pub fn read(sheet: &[u8], slots: &mut [u8], area: &mut [u8], mark: usize, reply: &mut [u8]) -> u32
-    ensures { HostReadsSheet sheet slots area mark reply result }
+    ensures { HostReadsSheet sheet.now slots.old slots.new area.old area.new mark reply.old reply.new result }
 {
     if !host::reply_fits(reply.len()) {
         return 1;

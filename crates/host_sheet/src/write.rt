@@ -12,7 +12,7 @@ use record::Answer;
 fn write_by(slots: &[u8], area: &[u8], sheet: &mut [u8], reply: &mut [u8], room: &mut [u32]) -> u32
     requires { (length reply.old ≡ reply_size) × (length slots.now ≡ length room.old * number_size)
         × (length room.old % slot_width ≡ 0) }
-    ensures { WriteServed slots area sheet reply result }
+    ensures { WriteServed slots.now area.now sheet.old sheet.new reply.old reply.new result }
 {
     host::numbers::decode(slots, room);
     let a = sheet_write::write(room, area, sheet);
@@ -21,7 +21,7 @@ fn write_by(slots: &[u8], area: &[u8], sheet: &mut [u8], reply: &mut [u8], room:
 
 // Writes a table of slots as a sheet at the front of the buffer.
 pub fn write(slots: &[u8], area: &[u8], sheet: &mut [u8], reply: &mut [u8]) -> u32
-    ensures { HostWritesSheet slots area sheet reply result }
+    ensures { HostWritesSheet slots.now area.now sheet.old sheet.new reply.old reply.new result }
 {
     if !host::reply_fits(reply.len()) {
         return 1;

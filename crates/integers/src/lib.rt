@@ -1,7 +1,8 @@
 // What storing and reading the integers of `c s S i I w W` share: bytes copied in their order or turned round, two and
 // four bytes as a number, and runs of eight.
+#![tactic(auto)]
+
 ghost use Rattle.std.specs.Prelude.{◌≡◌, true, List, ℕ, ◌+◌, ◌*◌, ◌≤◌, ◌<◌, length, get_or, drop};
-ghost use Rattle.layout.specs.Lent.{before, after};
 ghost use Rattle.record.specs.Bytes.{part, store_at, digits, ordered};
 ghost use Rattle.integers.specs.inside.Eights.{eights};
 
@@ -23,7 +24,7 @@ pub fn place(turn: bool, n: usize, j: usize) -> usize
 // Copies n bytes, turned round or not.
 pub fn copy_ordered(out: &mut [u8], at: usize, from: &[u8], start: usize, n: usize, turn: bool)
     requires { (at + n ≤ length out.old) × (start + n ≤ length from.now) }
-    ensures { after out ≡ store_at (before out) at (ordered turn (part (before from) start n)) }
+    ensures { out.new ≡ store_at out.old at (ordered turn (part from.now start n)) }
 {
     let mut j = 0;
     while j < n {
@@ -36,7 +37,7 @@ pub fn copy_ordered(out: &mut [u8], at: usize, from: &[u8], start: usize, n: usi
 // Two bytes as a number, the first in the low place. In a function of their own the compiler loads them at once.
 pub fn pair_at(from: &[u8], at: usize) -> u16
     requires { at + 2 ≤ length from.now }
-    ensures { digits 256 2 result ≡ part (before from) at 2 }
+    ensures { digits 256 2 result ≡ part from.now at 2 }
 {
     from[at] as u16 + 256 * from[at + 1] as u16
 }
@@ -44,7 +45,7 @@ pub fn pair_at(from: &[u8], at: usize) -> u16
 // Stores the two bytes of a number, the low one first, turned round or not.
 pub fn put_pair(out: &mut [u8], at: usize, v: u16, turn: bool)
     requires { at + 2 ≤ length out.old }
-    ensures { after out ≡ store_at (before out) at (ordered turn (digits 256 2 v)) }
+    ensures { out.new ≡ store_at out.old at (ordered turn (digits 256 2 v)) }
 {
     if turn {
         out[at + 1] = (v % 256) as u8;
@@ -71,7 +72,7 @@ pub fn turn_four(x: u32, turn: bool) -> u32
 // Four bytes as a number, the first in the lowest place, or in the highest where they are turned round.
 pub fn four_at(from: &[u8], at: usize, turn: bool) -> u32
     requires { at + 4 ≤ length from.now }
-    ensures { digits 256 4 result ≡ ordered turn (part (before from) at 4) }
+    ensures { digits 256 4 result ≡ ordered turn (part from.now at 4) }
 {
     turn_four(byte_runs::four_at(from, at, false) as u32, turn)
 }
@@ -79,7 +80,7 @@ pub fn four_at(from: &[u8], at: usize, turn: bool) -> u32
 // Stores the four bytes of a number, the lowest first. Written out like this they become one store.
 pub fn put_four(out: &mut [u8], at: usize, x: u32)
     requires { at + 4 ≤ length out.old }
-    ensures { after out ≡ store_at (before out) at (digits 256 4 x) }
+    ensures { out.new ≡ store_at out.old at (digits 256 4 x) }
 {
     out[at] = (x % 256) as u8;
     let x1 = x / 256;
@@ -93,7 +94,7 @@ pub fn put_four(out: &mut [u8], at: usize, x: u32)
 // Stores the eight bytes of a number, the lowest first. Written out like this they become one store.
 pub fn put_low_first(out: &mut [u8], at: usize, x: u64)
     requires { at + 8 ≤ length out.old }
-    ensures { after out ≡ store_at (before out) at (digits 256 8 x) }
+    ensures { out.new ≡ store_at out.old at (digits 256 8 x) }
 {
     out[at] = (x % 256) as u8;
     let x1 = x / 256;
@@ -115,7 +116,7 @@ pub fn put_low_first(out: &mut [u8], at: usize, x: u64)
 // Copies eight bytes, turned round: the highest byte of their number is the last one.
 fn turn_eight(out: &mut [u8], at: usize, from: &[u8], start: usize)
     requires { (at + 8 ≤ length out.old) × (start + 8 ≤ length from.now) }
-    ensures { after out ≡ store_at (before out) at (ordered true (part (before from) start 8)) }
+    ensures { out.new ≡ store_at out.old at (ordered true (part from.now start 8)) }
 {
     put_low_first(
         out,
@@ -127,7 +128,7 @@ fn turn_eight(out: &mut [u8], at: usize, from: &[u8], start: usize)
 // Copies n runs of eight bytes, each turned round.
 fn turn_each(out: &mut [u8], at: usize, from: &[u8], start: usize, n: usize)
     requires { (at + n * 8 ≤ length out.old) × (start + n * 8 ≤ length from.now) }
-    ensures { after out ≡ store_at (before out) at (eights true n (drop start (before from))) }
+    ensures { out.new ≡ store_at out.old at (eights true n (drop start from.now)) }
 {
     let mut i = 0;
     while i < n {
@@ -139,7 +140,7 @@ fn turn_each(out: &mut [u8], at: usize, from: &[u8], start: usize, n: usize)
 // Copies n runs of eight bytes, each turned round, four runs a turn: of a known count the compiler makes straight code.
 fn turn_eights(out: &mut [u8], at: usize, from: &[u8], start: usize, n: usize)
     requires { (at + n * 8 ≤ length out.old) × (start + n * 8 ≤ length from.now) }
-    ensures { after out ≡ store_at (before out) at (eights true n (drop start (before from))) }
+    ensures { out.new ≡ store_at out.old at (eights true n (drop start from.now)) }
 {
     let mut i = 0;
     while 4 <= n - i {
@@ -152,7 +153,7 @@ fn turn_eights(out: &mut [u8], at: usize, from: &[u8], start: usize, n: usize)
 // Copies n runs of eight bytes, each turned round or not.
 pub fn copy_eights(out: &mut [u8], at: usize, from: &[u8], start: usize, n: usize, turn: bool)
     requires { (at + n * 8 ≤ length out.old) × (start + n * 8 ≤ length from.now) }
-    ensures { after out ≡ store_at (before out) at (eights turn n (drop start (before from))) }
+    ensures { out.new ≡ store_at out.old at (eights turn n (drop start from.now)) }
 {
     if turn {
         return turn_eights(out, at, from, start, n);

@@ -2,7 +2,6 @@
 // bytes are the last ones of an item, in their order where the field is big-endian, else turned round.
 ghost use Rattle.std.specs.Prelude.{◌≡◌, Bool, true, ◌+◌, ◌*◌, ◌≤◌, length, replicate};
 ghost use Rattle.layout.specs.declared.Shape.TheVariants.{Integers};
-ghost use Rattle.layout.specs.Lent.{before, after};
 ghost use Rattle.record.specs.Bytes.{part, store_at, digits, number, ordered};
 ghost use Rattle.record.specs.Table.{integer_bytes};
 ghost use Rattle.record.specs.Reading.{loaded, widened};
@@ -25,7 +24,7 @@ fn widen_one(v: u8, unsigned: bool) -> u64
 fn load_one(area: &mut [u8], to: usize, input: &[u8], at: usize, unsigned: bool)
     requires { (to + 8 ≤ length area.old) × (at + 1 ≤ length input.now) }
     ensures { (big : Bool)
-        → after area ≡ store_at (before area) to (item_bytes 1 big unsigned (part (before input) at 1)) }
+        → area.new ≡ store_at area.old to (item_bytes 1 big unsigned (part input.now at 1)) }
 {
     big_endian::put_number(
         area,
@@ -63,7 +62,7 @@ fn widen_pair(v: u16, unsigned: bool) -> u64
 // Reads one integer of two bytes, as a number: its eight bytes become one store.
 fn load_pair(area: &mut [u8], to: usize, input: &[u8], at: usize, big: bool, unsigned: bool)
     requires { (to + 8 ≤ length area.old) × (at + 2 ≤ length input.now) }
-    ensures { after area ≡ store_at (before area) to (item_bytes 2 big unsigned (part (before input) at 2)) }
+    ensures { area.new ≡ store_at area.old to (item_bytes 2 big unsigned (part input.now at 2)) }
 {
     let x = pair_number(super::pair_at(input, at), big);
     big_endian::put_number(area, to, record::INTEGER_SIZE, widen_pair(x, unsigned));
@@ -82,7 +81,7 @@ fn fill_four(unsigned: bool, top: u8) -> u32
 // Reads one integer of four bytes: they and what stands before them become one store.
 fn load_four(area: &mut [u8], to: usize, input: &[u8], at: usize, big: bool, unsigned: bool)
     requires { (to + 8 ≤ length area.old) × (at + 4 ≤ length input.now) }
-    ensures { after area ≡ store_at (before area) to (item_bytes 4 big unsigned (part (before input) at 4)) }
+    ensures { area.new ≡ store_at area.old to (item_bytes 4 big unsigned (part input.now at 4)) }
 {
     let x = super::four_at(input, at, !big);
     let fill = fill_four(unsigned, (x % 256) as u8);
@@ -100,7 +99,7 @@ fn load_item(
     unsigned: bool,
 )
     requires { Narrow w × (to + 8 ≤ length area.old) × (at + w ≤ length input.now) }
-    ensures { after area ≡ store_at (before area) to (item_bytes w big unsigned (part (before input) at w)) }
+    ensures { area.new ≡ store_at area.old to (item_bytes w big unsigned (part input.now at w)) }
 {
     if w == 2 {
         return load_pair(area, to, input, at, big, unsigned);
@@ -124,9 +123,9 @@ fn load_each(
     unsigned: bool,
 )
     requires { Narrow w × (to + n * 8 ≤ length area.old) × (at + n * w ≤ length input.now) }
-    ensures { after area
-        ≡ store_at (before area) to
-        (integer_bytes (loaded (Integers w big) unsigned n (part (before input) at (n * w))).items) }
+    ensures { area.new
+        ≡ store_at area.old to
+        (integer_bytes (loaded (Integers w big) unsigned n (part input.now at (n * w))).items) }
 {
     let mut i = 0;
     let mut from = at;
@@ -143,9 +142,9 @@ fn load_each(
 // them again, and the loop then tests the flag.)
 fn load_unsigned(area: &mut [u8], to: usize, input: &[u8], at: usize, n: usize, w: usize, big: bool)
     requires { Narrow w × (to + n * 8 ≤ length area.old) × (at + n * w ≤ length input.now) }
-    ensures { after area
-        ≡ store_at (before area) to
-        (integer_bytes (loaded (Integers w big) true n (part (before input) at (n * w))).items) }
+    ensures { area.new
+        ≡ store_at area.old to
+        (integer_bytes (loaded (Integers w big) true n (part input.now at (n * w))).items) }
 {
     load_each(area, to, input, at, n, w, big, true)
 }
@@ -162,9 +161,9 @@ pub fn load(
     unsigned: bool,
 )
     requires { Width w × (to + n * 8 ≤ length area.old) × (at + n * w ≤ length input.now) }
-    ensures { after area
-        ≡ store_at (before area) to
-        (integer_bytes (loaded (Integers w big) unsigned n (part (before input) at (n * w))).items) }
+    ensures { area.new
+        ≡ store_at area.old to
+        (integer_bytes (loaded (Integers w big) unsigned n (part input.now at (n * w))).items) }
 {
     if w == 8 {
         return super::copy_eights(area, to, input, at, n, !big);

@@ -2,7 +2,6 @@
 // bytes are the last ones of an item, in their order where the field is big-endian, else turned round.
 ghost use Rattle.std.specs.Prelude.{◌≡◌, not, ◌+◌, ◌-◌, ◌*◌, ◌≤◌, length, drop};
 ghost use Rattle.layout.specs.declared.Shape.TheVariants.{Integers};
-ghost use Rattle.layout.specs.Lent.{before, after};
 ghost use Rattle.record.specs.Bytes.{part, store_at, ordered};
 ghost use Rattle.record.specs.Table.{integers_in};
 ghost use Rattle.record.specs.Packing.{stored};
@@ -10,7 +9,7 @@ ghost use Rattle.record.specs.Packing.{stored};
 // Stores the w low-order bytes of an integer of the area: two or four as a number, others one by one.
 fn store_item(out: &mut [u8], at: usize, area: &[u8], start: usize, w: usize, big: bool)
     requires { (w ≤ 8) × (at + w ≤ length out.old) × (start + 8 ≤ length area.now) }
-    ensures { after out ≡ store_at (before out) at (ordered (not big) (part (before area) (start + (8 - w)) w)) }
+    ensures { out.new ≡ store_at out.old at (ordered (not big) (part area.now (start + (8 - w)) w)) }
 {
     if w == 2 {
         return super::put_pair(out, at, super::pair_at(area, start + 6), !big);
@@ -25,8 +24,8 @@ fn store_item(out: &mut [u8], at: usize, area: &[u8], start: usize, w: usize, bi
 // so that the turn of each width becomes a loop of its own.
 fn store_each(out: &mut [u8], at: usize, area: &[u8], start: usize, n: usize, w: usize, big: bool)
     requires { (w ≤ 8) × (at + n * w ≤ length out.old) × (start + n * 8 ≤ length area.now) }
-    ensures { after out
-        ≡ store_at (before out) at (stored (Integers w big) n (integers_in n (drop start (before area)))) }
+    ensures { out.new
+        ≡ store_at out.old at (stored (Integers w big) n (integers_in n (drop start area.now))) }
 {
     let mut i = 0;
     while i < n {
@@ -38,8 +37,8 @@ fn store_each(out: &mut [u8], at: usize, area: &[u8], start: usize, n: usize, w:
 // Stores the w low-order bytes of each of n integers of the area. One alone, the usual field, is spared the loop.
 pub fn store(out: &mut [u8], at: usize, area: &[u8], start: usize, n: usize, w: usize, big: bool)
     requires { (w ≤ 8) × (at + n * w ≤ length out.old) × (start + n * 8 ≤ length area.now) }
-    ensures { after out
-        ≡ store_at (before out) at (stored (Integers w big) n (integers_in n (drop start (before area)))) }
+    ensures { out.new
+        ≡ store_at out.old at (stored (Integers w big) n (integers_in n (drop start area.now))) }
 {
     if n == 1 {
         return super::copy_ordered(out, at, area, start + (8 - w), w, !big);

@@ -1,7 +1,6 @@
 -- Two packings one after the other into one buffer, as `pack_both` makes them, and what M-113 says of the two.
 use Rattle.std.specs.Prelude.{ℕ, ◌≡◌, true, List, ◌++◌, length, drop, T}
 use Rattle.layout.specs.declared.Field.{Field}
-use Rattle.layout.specs.Lent.{Lent, before, after}
 use Rattle.layout.specs.Refusals.{Result, ok, ◌>>=◌}
 use Rattle.layout.specs.Layout.{fields_of}
 use Rattle.record.specs.declared.Answer.{Answer}
@@ -53,15 +52,15 @@ pub record PacksBothAs (c : Pair) (p : Packed) : Type 0 where
 -- ---- the contract
 
 -- what is lent to a call
-abbrev pub pair_of : Lent → Lent → Lent → Lent → Lent → Lent → Pair
+abbrev pub pair_of : List ℕ → List ℕ → List ℕ → List ℕ → List ℕ → List ℕ → Pair
 pair_of first first_slots second second_slots area output = record {
-  first = record { text = before first; slots = before first_slots };
-  second = record { text = before second; slots = before second_slots };
-  area = before area;
-  output = before output;
+  first = record { text = first; slots = first_slots };
+  second = record { text = second; slots = second_slots };
+  area = area;
+  output = output;
 }
 
 -- what a call promises that answered r
-abbrev pub PacksBoth : Lent → Lent → Lent → Lent → Lent → Lent → Answer → Type 0
-PacksBoth first first_slots second second_slots area output r =
-    PacksBothAs (pair_of first first_slots second second_slots area output) (record { answer = r; output = after output })
+abbrev pub PacksBoth : List ℕ → List ℕ → List ℕ → List ℕ → List ℕ → List ℕ → List ℕ → Answer → Type 0
+PacksBoth first first_slots second second_slots area output output' r =
+    PacksBothAs (pair_of first first_slots second second_slots area output) (record { answer = r; output = output' })

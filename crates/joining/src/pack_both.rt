@@ -18,7 +18,7 @@ fn both_by(
     room: &mut [u8],
 ) -> Answer
     requires { length room.old ≡ length out.old }
-    ensures { PacksBoth first first_slots second second_slots area out result }
+    ensures { PacksBoth first.now first_slots.now second.now second_slots.now area.now out.old out.new result }
 {
     let a = packer::pack(first, first_slots, area, room);
     let number = a.number;
@@ -46,7 +46,7 @@ pub fn pack_both(
     area: &[u8],
     out: &mut [u8],
 ) -> Answer
-    ensures { PacksBoth first first_slots second second_slots area out result }
+    ensures { PacksBoth first.now first_slots.now second.now second_slots.now area.now out.old out.new result }
 {
     let size = out.len();
     if record::MAX_RECORD < size {

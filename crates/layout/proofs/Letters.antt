@@ -1,6 +1,6 @@
 -- A byte outside the 64 from `@` on names no type: every type character stands among those, and so differs from it.
 use Prim.Native.Nat.{ℕ, ◌/◌}
-use mathlib.Core.Path.{◌≡◌, refl, sym, ap, ◌∙◌}
+use mathlib.Core.Path.{◌≡◌, refl, ap, ◌∙◌}
 use mathlib.Core.Bool.{false}
 use borrow.Author.Tests.{ne_eqb}
 use lib.Dec.{eqb}

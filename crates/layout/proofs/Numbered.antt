@@ -8,7 +8,6 @@ use mathlib.Core.Path.{◌≡◌, refl, ap}
 use mathlib.Core.Bool.{Bool, true, false}
 use borrow.Author.Tests.{lt-ltb, le-ltb, le-leb, lt-leb, ne_eqb}
 use lib.Dec.{eqb, leb, ltb}
-use Rattle.layout.specs.declared.Role.{Role}
 use Rattle.layout.specs.declared.Role.TheVariants.{Data, Move}
 use Rattle.layout.specs.declared.Shape.{Shape}
 use Rattle.layout.specs.declared.Shape.TheVariants.{Text, Digits, Integers, Reals}
@@ -17,7 +16,7 @@ use Rattle.layout.specs.declared.Count.{Count}
 use Rattle.layout.specs.declared.Typed.{Typed}
 use Rattle.layout.specs.declared.Typed.TheVariants.{Known, Unknown}
 use Rattle.layout.specs.Refusals.{if◌then◌else◌}
-use Rattle.layout.specs.Layout.{takes_slot, has_meaning, real_size}
+use Rattle.layout.specs.Layout.{takes_slot, has_meaning}
 use Rattle.layout.specs.Codes.{last_text, last_binary, last_digits, last_integers, last_single, last_data, skip_number, back_number, goto_number, last_type, width_numbered, type_numbered, known}
 use Rattle.layout.specs.inside.Parsing.{size_numbered, shape_of, shape_numbered, FitRole}
 use Rattle.layout.proofs.Steps.{type-fits, known-fits}

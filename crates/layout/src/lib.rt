@@ -1,4 +1,6 @@
 // Layouts: what a field is, the limits of a layout, and a field as one number, a code.
+#![tactic(auto)]
+
 ghost use Rattle.std.specs.Prelude.{◌≡◌, ◌^◌, ◌≤◌, ◌<◌};
 ghost use Rattle.layout.specs.Codes.{last_digits, last_data, type_numbered, width_numbered, count_from, known};
 ghost use Rattle.layout.specs.inside.Parsing.{size_numbered, FieldOf, slots_numbered};
@@ -83,7 +85,7 @@ pub const FLAG_UNIT: u32 = 256;
 pub const COUNT_UNIT: u32 = 2 * FLAG_UNIT;
 
 // The form of a value that takes a slot.
-#[derive(Drop)]
+#[derive(Clone, Copy)]
 pub enum Shape {
     // a A: a string; the byte that pads it
     Text(u8),
@@ -96,7 +98,7 @@ pub enum Shape {
 }
 
 // x X @: what moves the cursor and takes no slot.
-#[derive(Drop)]
+#[derive(Clone, Copy)]
 pub enum Motion {
     Skip,
     Back,
@@ -104,14 +106,14 @@ pub enum Motion {
 }
 
 // What a field does, by its type character.
-#[derive(Drop)]
+#[derive(Clone, Copy)]
 pub enum Role {
     Data(Shape),
     Move(Motion),
 }
 
 // What a call is refused with, in the order of the numbers (the table in include/curlew.h).
-#[derive(Drop)]
+#[derive(Clone, Copy)]
 pub enum Refusal {
     BadSize,
     BadType,
@@ -133,14 +135,14 @@ pub enum Refusal {
     NotPlain,
 }
 
-#[derive(Drop)]
+#[derive(Clone, Copy)]
 pub enum Count {
     Absent,
     Star,
     Times(usize),
 }
 
-#[derive(Drop)]
+#[derive(Clone, Copy)]
 pub struct Field {
     pub role: Role,
     pub unsigned: bool,
@@ -148,14 +150,14 @@ pub struct Field {
 }
 
 // What a type character stands for.
-#[derive(Drop)]
+#[derive(Clone, Copy)]
 pub enum Typed {
     Known(Role),
     Unknown,
 }
 
 // What `parse` answers: how many fields there are and how many of them take a slot, or the refusal and its place.
-#[derive(Drop)]
+#[derive(Clone, Copy)]
 pub enum Parsed {
     Fields(usize, usize),
     Refused(Refusal, usize),
@@ -163,7 +165,7 @@ pub enum Parsed {
 
 // What `read_field` finds: the field's code, how many bytes follow its type character, and how many slots it takes; or
 // a refusal and its place.
-#[derive(Drop)]
+#[derive(Clone, Copy)]
 pub enum Found {
     Item(u32, usize, usize),
     Bad(Refusal, usize),

@@ -3,7 +3,6 @@ ghost use Rattle.std.specs.Prelude.{◌≡◌, ◌≤◌, ◌<◌, length, get_o
 ghost use Rattle.layout.specs.Layout.{max_layout, has_meaning, to_nat, fields_of};
 ghost use Rattle.layout.specs.Codes.{count_from, known, type_numbered};
 ghost use Rattle.layout.specs.inside.Parsing.{FoundAs, Parses};
-ghost use Rattle.layout.specs.Lent.{before, after};
 
 use super::{Found, Parsed, Refusal, scanner};
 
@@ -35,7 +34,7 @@ pub fn has_meaning(packing: bool, d: u32, n: u32) -> bool
 // The field whose type character stands at p.
 fn read_field(text: &[u8], packing: bool, p: usize) -> Found
     requires { (p < length text.now) × (get_or text.now p 0 ≡ 32 → ⊥) }
-    ensures { FoundAs packing (before text) p result }
+    ensures { FoundAs packing text.now p result }
 {
     let d = scanner::type_number(text[p]);
     if super::LAST_TYPE < d {
@@ -58,7 +57,7 @@ fn read_field(text: &[u8], packing: bool, p: usize) -> Found
 // Reads a layout that is no longer than the codes: the first of them become its fields.
 pub fn parse(text: &[u8], packing: bool, codes: &mut [u32]) -> Parsed
     requires { (length text.now ≤ length codes.old) × (length codes.old ≤ max_layout) }
-    ensures { Parses (fields_of packing (before text)) result (after codes) }
+    ensures { Parses (fields_of packing text.now) result codes.new }
 {
     let mut at: usize = 0;
     let mut n: usize = 0;

@@ -3,7 +3,6 @@ ghost use Rattle.std.specs.Prelude.{◌≡◌, ◌+◌, ◌-◌, ◌*◌, ◌≤
 ghost use Rattle.layout.specs.Layout.{type_of};
 ghost use Rattle.layout.specs.Codes.{type_numbered};
 ghost use Rattle.layout.specs.inside.Parsing.{over_count, HasType, SpacesEnd, NumberAt, CountAt, TailAt};
-ghost use Rattle.layout.specs.Lent.{before};
 
 // The limit of a count (01, Slot tables, sizes), where a larger one is held, and the number that the largest has in a
 // code.
@@ -14,14 +13,14 @@ const OVER_COUNT: u32 = MAX_COUNT + 1;
 pub const LAST_COUNT: u32 = MAX_COUNT + 2;
 
 // A number that was read, and the place after it.
-#[derive(Drop)]
+#[derive(Clone, Copy)]
 struct Numeral {
     value: u32,
     next: usize,
 }
 
 // What follows a type character: 1 for the flag, the number of the count, held, and the place after them.
-#[derive(Drop)]
+#[derive(Clone, Copy)]
 pub struct Tail {
     pub flag: u32,
     pub value: u32,
@@ -71,7 +70,7 @@ pub fn type_number(c: u8) -> u32
 // The place after the spaces from `at` on.
 pub fn spaces_end(text: &[u8], at: usize) -> usize
     requires { at ≤ length text.now }
-    ensures { SpacesEnd (before text) at result }
+    ensures { SpacesEnd text.now at result }
 {
     let mut i = at;
     while i < text.len() {
@@ -95,7 +94,7 @@ fn more(v: u32, c: u8) -> u32
 
 // The number that the decimal digits from `at` on make, held just above the limit, and the place after them.
 fn number(text: &[u8], at: usize) -> Numeral
-    ensures { NumberAt (before text) at result.value result.next }
+    ensures { NumberAt text.now at result.value result.next }
 {
     let mut v: u32 = 0;
     let mut i = at;
@@ -115,7 +114,7 @@ fn number(text: &[u8], at: usize) -> Numeral
 
 // The number of the count that stands at `at`, held, and the place after it.
 fn count_at(text: &[u8], at: usize) -> Numeral
-    ensures { CountAt (before text) at result.value result.next }
+    ensures { CountAt text.now at result.value result.next }
 {
     if text.len() <= at {
         return Numeral { value: 0, next: at };
@@ -145,7 +144,7 @@ fn count_at(text: &[u8], at: usize) -> Numeral
 
 // The flag and the count that stand at `at`, after a type character.
 pub fn tail_at(text: &[u8], at: usize) -> Tail
-    ensures { TailAt (before text) at result.flag result.value result.next }
+    ensures { TailAt text.now at result.flag result.value result.next }
 {
     if text.len() <= at {
         return Tail {

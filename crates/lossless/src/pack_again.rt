@@ -1,6 +1,5 @@
 // A record read by a layout and packed again by it: the calls of which M-107 speaks.
 // The claim is in specs/Claim.antt, its proof in proofs/; `read_and_pack` keeps it.
-ghost use Rattle.layout.specs.Lent.{before, after};
 ghost use Rattle.lossless.specs.Calls.{ReadsAndPacksAs};
 
 use record::Answer;
@@ -17,14 +16,14 @@ pub fn read_and_pack(
 ) -> Answer
     ensures { ReadsAndPacksAs
         (record {
-          layout = before layout;
-          bytes = before bytes;
-          slots = before slots;
-          area = before area;
+          layout = layout.now;
+          bytes = bytes.now;
+          slots = slots.old;
+          area = area.old;
           mark = mark;
-          output = before out;
+          output = out.old;
         })
-        (record { answer = result; slots = after slots; area = after area; output = after out }) }
+        (record { answer = result; slots = slots.new; area = area.new; output = out.new }) }
 {
     let r = reader::read(layout, bytes, slots, area, mark);
     let a = r.answer;

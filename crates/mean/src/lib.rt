@@ -1,7 +1,8 @@
 // The mean of the marked legs: each slot of a table is one leg, which has a mark or is not set. The definitions are in
 // specs/Mean.antt.
+#![tactic(auto)]
+
 ghost use Rattle.std.specs.Prelude.{◌≡◌, ◌+◌, ◌*◌, ◌≤◌, length};
-ghost use Rattle.layout.specs.Lent.{before};
 ghost use Rattle.record.specs.Table.{slot_width};
 ghost use Rattle.record.specs.Packing.{refusal};
 ghost use Rattle.record.specs.Slots.{slot_at};
@@ -31,7 +32,7 @@ fn refused(why: Refusal, place: u32) -> Marks
 // The tally with the leg in slot number k, or the refusal of that slot.
 fn step(slots: &[u32], area: &[u8], k: usize, t: Tally) -> Turn
     requires { (slot_width * k + slot_width ≤ length slots.now) × Near k t }
-    ensures { result ≡ turn_of t (leg_of (before area) k (slot_at (before slots) k)) }
+    ensures { result ≡ turn_of t (leg_of area.now k (slot_at slots.now k)) }
 {
     let s = slot_table::slot_at(slots, k);
     if s.kind == record::slots::UNSET {
@@ -75,7 +76,7 @@ fn mean_of_tally(t: Tally) -> LegMean
 
 // The mean of the marks in a table, and how many of its slots are not set. A refusal says that no leg is marked.
 pub fn mean(slots: &[u32], area: &[u8]) -> Marks
-    ensures { result ≡ mean (before slots) (before area) }
+    ensures { result ≡ mean slots.now area.now }
 {
     if !sizes::table_fits(slots.len(), area.len()) {
         return refused(Refusal::BadSize, 0);

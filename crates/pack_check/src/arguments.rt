@@ -2,7 +2,6 @@
 // is in include/curlew.h).
 ghost use Rattle.std.specs.Prelude.{◌≡◌, Bool, true, ◌<◌, eqb};
 ghost use Rattle.layout.specs.declared.Shape.TheVariants.{Reals};
-ghost use Rattle.layout.specs.Lent.{before};
 ghost use Rattle.record.specs.Table.{number_limit, real, shown};
 ghost use Rattle.record.specs.Packing.{kind_fits, enough, amount_fits, digits_fit, reals_fit, argument_fits};
 ghost use Rattle.record.specs.inside.Slots.{inside_area};
@@ -12,7 +11,7 @@ use layout::{Count, Refusal, Shape};
 use record::slots::Slot;
 
 // What a check answers: nothing is wrong, or the refusal and its place.
-#[derive(Drop)]
+#[derive(Clone, Copy)]
 pub enum Verdict {
     Fits,
     Refused(Refusal, usize),
@@ -55,7 +54,7 @@ fn amount_fits(s: Shape, n: Count, have: usize) -> bool
 // Each digit that is looked at is one; else number 10.
 fn digits_fit(s: Shape, n: usize, a: Slot, area: &[u8]) -> bool
     requires { (kind_fits s a.kind ≡ true) × (inside_area area.now a ≡ true) }
-    ensures { result ≡ digits_fit s n (shown (before area) a).items }
+    ensures { result ≡ digits_fit s n (shown area.now a).items }
 {
     match s {
         Shape::Text(_) => true,
@@ -68,7 +67,7 @@ fn digits_fit(s: Shape, n: usize, a: Slot, area: &[u8]) -> bool
 // None of the first n reals that become singles is a NaN.
 pub fn singles_fit(single: bool, n: usize, a: Slot, area: &[u8]) -> bool
     requires { (eqb a.kind real ≡ true) × (inside_area area.now a ≡ true) }
-    ensures { (big : Bool) → result ≡ reals_fit (Reals single big) n (shown (before area) a).items }
+    ensures { (big : Bool) → result ≡ reals_fit (Reals single big) n (shown area.now a).items }
 {
     if single {
         return reals::no_nan(area, a.start, record::least(n, a.len));
@@ -79,7 +78,7 @@ pub fn singles_fit(single: bool, n: usize, a: Slot, area: &[u8]) -> bool
 // None of the first n reals of an argument is a NaN, where the field makes them singles; else number 16.
 fn reals_fit(s: Shape, n: usize, a: Slot, area: &[u8]) -> bool
     requires { (kind_fits s a.kind ≡ true) × (inside_area area.now a ≡ true) }
-    ensures { result ≡ reals_fit s n (shown (before area) a).items }
+    ensures { result ≡ reals_fit s n (shown area.now a).items }
 {
     match s {
         Shape::Text(_) => true,
@@ -92,7 +91,7 @@ fn reals_fit(s: Shape, n: usize, a: Slot, area: &[u8]) -> bool
 // Whether the argument in slot number k serves a field, or the first of the refusals 6 to 10 and 16.
 pub fn check(s: Shape, n: Count, a: Slot, k: usize, area: &[u8]) -> Verdict
     requires { (a.start < number_limit) × (a.len < number_limit) }
-    ensures { result ≡ verdict_of (argument_fits (before area) s n k a) }
+    ensures { result ≡ verdict_of (argument_fits area.now s n k a) }
 {
     if a.kind == record::slots::UNSET {
         return Verdict::Refused(Refusal::NotSet, k);

@@ -3,7 +3,6 @@
 ghost use Rattle.std.specs.Prelude.{◌≡◌, ◌+◌, ◌<◌};
 ghost use Rattle.layout.specs.Codes.{field_of};
 ghost use Rattle.layout.specs.inside.Parsing.{decoded, FitCount};
-ghost use Rattle.layout.specs.Lent.{before};
 ghost use Rattle.record.specs.Table.{slots_of};
 ghost use Rattle.record.specs.Slots.{slot_at};
 ghost use Rattle.record.specs.inside.Cursor.{origin, moved};
@@ -17,14 +16,14 @@ use record::Cursor;
 use slot_table::sizes;
 
 // What one field does to the pass: the cursor moves on, or the argument is refused.
-#[derive(Drop)]
+#[derive(Clone, Copy)]
 pub enum Stepped {
     Next(Cursor),
     Stop(Refusal, usize),
 }
 
 // What the pass answers: the length of the result, or the refusal and the number of the slot.
-#[derive(Drop)]
+#[derive(Clone, Copy)]
 pub enum Measured {
     Length(usize),
     Refused(Refusal, usize),
@@ -45,7 +44,7 @@ pub fn moved(m: Motion, n: Count, c: Cursor) -> Cursor
 // One field of the pass, by the exact check of its argument.
 fn step_exactly(role: Role, n: Count, slots: &[u32], area: &[u8], k: usize, c: Cursor) -> Stepped
     requires { StepReady slots.now k c role n }
-    ensures { result ≡ stepped_of (field_checked (before area) k (slot_at (before slots) k) c role n) }
+    ensures { result ≡ stepped_of (field_checked area.now k (slot_at slots.now k) c role n) }
 {
     match role {
         Role::Data(s) => {
@@ -69,7 +68,7 @@ fn step(code: u32, slots: &[u32], area: &[u8], k: usize, c: Cursor) -> Stepped
     requires { StepReady slots.now k c (field_of code).role (field_of code).count }
     ensures { result
         ≡ stepped_of
-        (field_checked (before area) k (slot_at (before slots) k) c (field_of code).role (field_of code).count) }
+        (field_checked area.now k (slot_at slots.now k) c (field_of code).role (field_of code).count) }
 {
     let d = code % layout::FLAG_UNIT;
     if d <= layout::LAST_DATA {
@@ -93,7 +92,7 @@ fn step(code: u32, slots: &[u32], area: &[u8], k: usize, c: Cursor) -> Stepped
 pub fn measure(codes: &[u32], n: usize, slots: &[u32], area: &[u8]) -> Measured
     requires { Prepared n codes.now slots.now }
     ensures { Measures
-        (arguments_checked (before area) 0 (slots_of (before slots)) (decoded n (before codes)) origin) result }
+        (arguments_checked area.now 0 (slots_of slots.now) (decoded n codes.now) origin) result }
 {
     let mut c = Cursor::new(0);
     let mut k: usize = 0;

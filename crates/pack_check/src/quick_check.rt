@@ -3,7 +3,6 @@ ghost use Rattle.std.specs.Prelude.{◌≡◌, ◌≤◌, ◌<◌};
 ghost use Rattle.layout.specs.declared.Count.{Count};
 ghost use Rattle.layout.specs.Codes.{last_digits, last_integers, last_data};
 ghost use Rattle.layout.specs.inside.Parsing.{shape_numbered};
-ghost use Rattle.layout.specs.Lent.{before};
 ghost use Rattle.record.specs.Table.{number_limit};
 ghost use Rattle.record.specs.Geometry.{amount};
 ghost use Rattle.record.specs.inside.Bounds.{items_limit};
@@ -14,7 +13,7 @@ use record::slots::Slot;
 use slot_table::sizes;
 
 // What the quick test answers: the argument serves, with the bytes that the field takes; or the exact check must tell.
-#[derive(Drop)]
+#[derive(Clone, Copy)]
 pub enum Quick {
     Bytes(usize),
     Unsure,
@@ -25,7 +24,7 @@ pub enum Quick {
 fn try_integers(d: u32, items: usize, a: Slot, area: &[u8]) -> Quick
     requires { (last_digits < d) × (d ≤ last_integers) × (items < items_limit)
         × (a.start < number_limit) × (a.len < number_limit) }
-    ensures { (n : Count) → items ≡ amount n a.len → Sound result (before area) (shape_numbered d) n a }
+    ensures { (n : Count) → items ≡ amount n a.len → Sound result area.now (shape_numbered d) n a }
 {
     let kind = a.kind;
     if kind < record::slots::SIGNED {
@@ -47,7 +46,7 @@ fn try_integers(d: u32, items: usize, a: Slot, area: &[u8]) -> Quick
 fn try_reals(d: u32, items: usize, a: Slot, area: &[u8]) -> Quick
     requires { (last_integers < d) × (d ≤ last_data) × (items < items_limit)
         × (a.start < number_limit) × (a.len < number_limit) }
-    ensures { (n : Count) → items ≡ amount n a.len → Sound result (before area) (shape_numbered d) n a }
+    ensures { (n : Count) → items ≡ amount n a.len → Sound result area.now (shape_numbered d) n a }
 {
     if a.kind != record::slots::REAL {
         return Quick::Unsure;
@@ -68,7 +67,7 @@ fn try_reals(d: u32, items: usize, a: Slot, area: &[u8]) -> Quick
 // count is not looked at.
 fn try_string(d: u32, items: usize, a: Slot, area: &[u8]) -> Quick
     requires { (d ≤ last_digits) × (items < items_limit) × (a.start < number_limit) × (a.len < number_limit) }
-    ensures { (n : Count) → items ≡ amount n a.len → Sound result (before area) (shape_numbered d) n a }
+    ensures { (n : Count) → items ≡ amount n a.len → Sound result area.now (shape_numbered d) n a }
 {
     if a.kind != record::slots::STRING {
         return Quick::Unsure;
@@ -95,7 +94,7 @@ fn try_string(d: u32, items: usize, a: Slot, area: &[u8]) -> Quick
 pub fn try_argument(d: u32, items: usize, a: Slot, area: &[u8]) -> Quick
     requires { (d ≤ last_data) × (items < items_limit) × (a.start < number_limit)
         × (a.len < number_limit) }
-    ensures { (n : Count) → items ≡ amount n a.len → Sound result (before area) (shape_numbered d) n a }
+    ensures { (n : Count) → items ≡ amount n a.len → Sound result area.now (shape_numbered d) n a }
 {
     if d <= layout::LAST_DIGITS {
         return try_string(d, items, a, area);

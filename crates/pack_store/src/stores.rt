@@ -3,7 +3,6 @@ ghost use Rattle.std.specs.Prelude.{◌≤◌, length};
 ghost use Rattle.layout.specs.declared.Shape.TheVariants.{Text, Digits, Integers, Reals};
 ghost use Rattle.layout.specs.Codes.{last_data};
 ghost use Rattle.layout.specs.inside.Parsing.{shape_numbered};
-ghost use Rattle.layout.specs.Lent.{before, after};
 ghost use Rattle.pack_store.specs.inside.stores.{StoredAs, Storable};
 
 use layout::Shape;
@@ -13,7 +12,7 @@ use slot_table::sizes;
 // Stores n items of a string; tells how many bytes they fill.
 fn store_text(n: usize, a: Slot, area: &[u8], out: &mut [u8], at: usize, pad: u8) -> usize
     requires { Storable area.now (Text pad) n a at (length out.old) }
-    ensures { StoredAs (before area) (Text pad) n a at (before out) result (after out) }
+    ensures { StoredAs area.now (Text pad) n a at out.old result out.new }
 {
     text::store(out, at, area, a.start, a.len, n, pad);
     n
@@ -30,7 +29,7 @@ fn store_digits(
     high: bool,
 ) -> usize
     requires { Storable area.now (Digits hex high) n a at (length out.old) }
-    ensures { StoredAs (before area) (Digits hex high) n a at (before out) result (after out) }
+    ensures { StoredAs area.now (Digits hex high) n a at out.old result out.new }
 {
     if hex {
         digits::store::store_hex(out, at, area, a.start, a.len, n, high);
@@ -51,7 +50,7 @@ fn store_integers(
     big: bool,
 ) -> usize
     requires { Storable area.now (Integers w big) n a at (length out.old) }
-    ensures { StoredAs (before area) (Integers w big) n a at (before out) result (after out) }
+    ensures { StoredAs area.now (Integers w big) n a at out.old result out.new }
 {
     integers::store::store(out, at, area, a.start, n, w, big);
     n * w
@@ -68,7 +67,7 @@ fn store_reals(
     big: bool,
 ) -> usize
     requires { Storable area.now (Reals single big) n a at (length out.old) }
-    ensures { StoredAs (before area) (Reals single big) n a at (before out) result (after out) }
+    ensures { StoredAs area.now (Reals single big) n a at out.old result out.new }
 {
     let bytes = n * sizes::real_size(single);
     reals::store::store(out, at, area, a.start, n, single, big);
@@ -80,7 +79,7 @@ fn store_reals(
 // function is too large to be built into the pass.
 pub fn store_value(d: u32, n: usize, a: Slot, area: &[u8], out: &mut [u8], at: usize) -> usize
     requires { (d ≤ last_data) × Storable area.now (shape_numbered d) n a at (length out.old) }
-    ensures { StoredAs (before area) (shape_numbered d) n a at (before out) result (after out) }
+    ensures { StoredAs area.now (shape_numbered d) n a at out.old result out.new }
 {
     match d {
         layout::TEXT_ZERO => store_text(n, a, area, out, at, 0),

@@ -3,7 +3,6 @@
 ghost use Rattle.std.specs.Prelude.{◌≡◌, length};
 ghost use Rattle.layout.specs.Codes.{field_of};
 ghost use Rattle.layout.specs.inside.Parsing.{decoded};
-ghost use Rattle.layout.specs.Lent.{before, after};
 ghost use Rattle.record.specs.Table.{slots_of};
 ghost use Rattle.record.specs.Slots.{slot_at};
 ghost use Rattle.record.specs.inside.Cursor.{origin, moved};
@@ -16,7 +15,7 @@ use record::Cursor;
 // One move of the pass, `x X @`: zeros for `x`, and in the gap that `@` leaves.
 fn put_move(m: Motion, n: Count, c: Cursor, out: &mut [u8]) -> Cursor
     requires { Movable c m n (length out.old) }
-    ensures { (result ≡ moved c m n) × (after out ≡ put_move (before out) c m n) }
+    ensures { (result ≡ moved c m n) × (out.new ≡ put_move out.old c m n) }
 {
     match m {
         Motion::Skip => {
@@ -36,7 +35,7 @@ fn put_move(m: Motion, n: Count, c: Cursor, out: &mut [u8]) -> Cursor
 // One field of the pass.
 fn put(code: u32, slots: &[u32], area: &[u8], k: usize, c: Cursor, out: &mut [u8]) -> Cursor
     requires { Puttable area.now slots.now k c (field_of code).role (field_of code).count (length out.old) }
-    ensures { Puts code (before area) (slot_at (before slots) k) c (before out) result (after out) }
+    ensures { Puts code area.now (slot_at slots.now k) c out.old result out.new }
 {
     let d = code % layout::FLAG_UNIT;
     if d <= layout::LAST_DATA {
@@ -57,8 +56,8 @@ fn put(code: u32, slots: &[u32], area: &[u8], k: usize, c: Cursor, out: &mut [u8
 // The pass over the fields in the first n codes.
 pub fn write(codes: &[u32], n: usize, slots: &[u32], area: &[u8], out: &mut [u8])
     requires { Writable area.now n codes.now slots.now (length out.old) }
-    ensures { after out
-        ≡ written (before area) (slots_of (before slots)) (decoded n (before codes)) origin (before out) }
+    ensures { out.new
+        ≡ written area.now (slots_of slots.now) (decoded n codes.now) origin out.old }
 {
     let mut c = Cursor::new(0);
     let mut k: usize = 0;

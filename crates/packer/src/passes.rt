@@ -1,7 +1,6 @@
 // Packing by the fields of the codes: once the layout is read and there is a slot for each field that takes one.
 // The arguments are checked and the result is measured before anything is written; then the fields are stored.
 ghost use Rattle.std.specs.Prelude.{◌≡◌, ◌≤◌, length};
-ghost use Rattle.layout.specs.Lent.{before, after};
 ghost use Rattle.record.specs.Table.{max_record};
 ghost use Rattle.pack_check.specs.inside.measuring.{Prepared};
 ghost use Rattle.packer.specs.inside.passes.{finishes};
@@ -15,8 +14,8 @@ use record::Answer;
 // Packs the arguments into the output by the fields of the first n codes. A refusal changes nothing.
 pub fn pack(codes: &[u32], n: usize, slots: &[u32], area: &[u8], output: &mut [u8]) -> Answer
     requires { Prepared n codes.now slots.now × (length output.old ≤ max_record) }
-    ensures { record { answer = result; output = after output }
-        ≡ finishes (before codes) n (before slots) (before area) (before output) }
+    ensures { record { answer = result; output = output.new }
+        ≡ finishes codes.now n slots.now area.now output.old }
 {
     let m = measuring::measure(codes, n, slots, area);
     match m {

@@ -1,7 +1,6 @@
 // A template's items put into a block as layout text: a letter with its count, and what is there already, again and
 // again.
 ghost use Rattle.std.specs.Prelude.{◌≡◌, ◌∷◌, ◌++◌, suc, ◌+◌, ◌≤◌, ◌<◌, length, drop, get_or};
-ghost use Rattle.layout.specs.Lent.{before, after};
 ghost use Rattle.layout.specs.Layout.{max_layout};
 ghost use Rattle.record.specs.Bytes.{part, store_at};
 ghost use Rattle.perl.specs.Tokens.{max_repeat, letter_of};
@@ -14,7 +13,7 @@ use layout::MAX_LAYOUT;
 
 // What a reader of a template finds: the place after what it read, and the place after the layout text that it put into
 // the block, held at one byte more than the block has; or the place of the stray byte.
-#[derive(Drop)]
+#[derive(Clone, Copy)]
 pub enum Span {
     Read(usize, usize),
     Stray(usize),
@@ -23,7 +22,7 @@ pub enum Span {
 // Puts a letter, and the flag after it.
 fn put_letter(out: &mut [u8], to: usize, letter: u8, flagged: bool)
     requires { to + suc (length (flag_text flagged)) ≤ length out.old }
-    ensures { after out ≡ store_at (before out) to (letter ∷ flag_text flagged) }
+    ensures { out.new ≡ store_at out.old to (letter ∷ flag_text flagged) }
 {
     out[to] = letter;
     if flagged {
@@ -50,7 +49,7 @@ fn put(
 ) -> usize
     requires { (start + n ≤ length text.now) × (length text.now ≤ max_layout) × (length out.old ≡ max_layout)
         × (to ≤ suc max_layout) }
-    ensures { Stored ((letter ∷ flag_text flagged) ++ part (before text) start n) to (before out) result (after out) }
+    ensures { Stored ((letter ∷ flag_text flagged) ++ part text.now start n) to out.old result out.new }
 {
     let count = to + letter_size(flagged);
     let end = count + n;
@@ -66,7 +65,7 @@ fn put(
 pub fn again(out: &mut [u8], to: usize, end: usize, times: usize) -> usize
     requires { (to ≤ end) × (end ≤ suc max_layout) × (0 < times) × (times ≤ max_repeat)
         × (length out.old ≡ max_layout) }
-    ensures { Again to end (before out) times result (after out) }
+    ensures { Again to end out.old times result out.new }
 {
     let size = end - to;
     let all = times * size;
@@ -85,8 +84,8 @@ pub fn again(out: &mut [u8], to: usize, end: usize, times: usize) -> usize
 pub fn single(text: &[u8], p: usize, out: &mut [u8], to: usize) -> Span
     requires { (p < length text.now) × (length text.now ≤ max_layout) × (length out.old ≡ max_layout)
         × (to ≤ suc max_layout) }
-    ensures { Written item_text (letter_at p (letter_of (get_or (before text) p 0)) (drop (suc p) (before text))) to
-        (before out) result (after out) }
+    ensures { Written item_text (letter_at p (letter_of (get_or text.now p 0)) (drop (suc p) text.now)) to
+        out.old result out.new }
 {
     let c = text[p];
     let l = super::tokens::letter_of(c);

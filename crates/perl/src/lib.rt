@@ -1,7 +1,6 @@
 // Perl pack templates become our layout text (document 02, M-105).
 // The text is put into a block of its own by `readers`, so that nothing is written before all is decided.
 ghost use Rattle.std.specs.Prelude.{◌≡◌};
-ghost use Rattle.layout.specs.Lent.{before, after};
 ghost use Rattle.perl.specs.Conversion.{from_perl};
 
 use items::Span;
@@ -17,7 +16,7 @@ pub mod readers;
 
 // Writes the layout that a Perl template stands for. A refusal changes nothing.
 pub fn from_perl(template: &[u8], layout: &mut [u8]) -> Answer
-    ensures { record { answer = result; layout = after layout } ≡ from_perl (before template) (before layout) }
+    ensures { record { answer = result; layout = layout.new } ≡ from_perl template.now layout.old }
 {
     if MAX_LAYOUT < template.len() {
         return Answer::refused(Refusal::BadSize, 0);

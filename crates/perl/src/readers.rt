@@ -1,7 +1,6 @@
 // The readers of a template, which put the layout text of what they read into a block.
 ghost use Rattle.std.specs.Prelude.{◌≡◌, false, suc, ◌≤◌, ◌<◌, length};
 ghost use Rattle.layout.specs.Layout.{max_layout};
-ghost use Rattle.layout.specs.Lent.{before, after};
 ghost use Rattle.perl.specs.inside.Readers.{items_from, item_from, template_text, item_text, Written};
 
 use super::items::Span;
@@ -12,7 +11,7 @@ use super::tokens::{MAX_DEPTH, MAX_REPEAT};
 fn item(text: &[u8], p: usize, depth: usize, out: &mut [u8], to: usize) -> Span
     requires { (p < length text.now) × (length text.now ≤ max_layout) × (length out.old ≡ max_layout)
         × (to ≤ suc max_layout) }
-    ensures { Written item_text (item_from depth (before text) p) to (before out) result (after out) }
+    ensures { Written item_text (item_from depth text.now p) to out.old result out.new }
 {
     let c = text[p];
     if c != b'(' {
@@ -39,7 +38,7 @@ fn item(text: &[u8], p: usize, depth: usize, out: &mut [u8], to: usize) -> Span
 pub fn sequence(text: &[u8], at: usize, depth: usize, out: &mut [u8], to: usize) -> Span
     requires { (at ≤ length text.now) × (length text.now ≤ max_layout) × (length out.old ≡ max_layout)
         × (to ≤ suc max_layout) }
-    ensures { Written template_text (items_from depth false (before text) at) to (before out) result (after out) }
+    ensures { Written template_text (items_from depth false text.now at) to out.old result out.new }
 {
     let mut i = at;
     let mut end = to;

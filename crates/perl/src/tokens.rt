@@ -1,10 +1,9 @@
 // Letters, counts and repeats of a template.
 ghost use Rattle.std.specs.Prelude.{◌≡◌, ◌+◌, ◌≤◌, drop};
-ghost use Rattle.layout.specs.Lent.{before};
 ghost use Rattle.perl.specs.Tokens.{max_template_count, letter_of, number_in, digits_in, repeat_of};
 
 // What a Perl letter stands for in a layout: our letter, and whether the flag `u` follows it.
-#[derive(Drop)]
+#[derive(Clone, Copy)]
 pub enum Letter {
     Taken(u8, bool),
     Unknown,
@@ -18,7 +17,7 @@ pub const MAX_REPEAT: u32 = 64;
 pub const MAX_TEMPLATE_COUNT: u32 = 4096;
 
 // A number that was read, 0 where none stands, and the place after it.
-#[derive(Drop)]
+#[derive(Clone, Copy)]
 pub struct TemplateNumber {
     pub value: u32,
     pub next: usize,
@@ -46,8 +45,8 @@ pub fn letter_of(c: u8) -> Letter
 // The number from 1 to the limit that stands at `at`, as far as its digits go.
 pub fn number(text: &[u8], at: usize, limit: u32) -> TemplateNumber
     requires { limit ≤ max_template_count }
-    ensures { (result.value ≡ number_in limit 0 (drop at (before text)))
-        × (result.next ≡ at + digits_in limit 0 (drop at (before text))) }
+    ensures { (result.value ≡ number_in limit 0 (drop at text.now))
+        × (result.next ≡ at + digits_in limit 0 (drop at text.now)) }
 {
     let mut v: u32 = 0;
     let mut i = at;

@@ -2,7 +2,6 @@
 // and read by the plan. A plan may hold any numbers: each call checks them.
 ghost use Rattle.std.specs.Prelude.{◌≡◌, ◌++◌, ◌≤◌, length, take, drop};
 ghost use Rattle.layout.specs.Layout.{max_layout};
-ghost use Rattle.layout.specs.Lent.{before, after};
 ghost use Rattle.layout.specs.inside.Parsing.{Parses};
 ghost use Rattle.plans.specs.Plans.{plan_fields, prepare, pack_plan, read_plan};
 ghost use Rattle.plans.specs.inside.Judging.{Judges};
@@ -18,7 +17,7 @@ const SPARE: u32 = 7;
 const END_COUNT: u32 = (scanner::LAST_COUNT + 1) * layout::COUNT_UNIT;
 
 // Whether a number of a plan is a field, or what it is refused with.
-#[derive(Drop)]
+#[derive(Clone, Copy)]
 enum Judgement {
     Good,
     Bad(Refusal),
@@ -57,7 +56,7 @@ fn judge_one(packing: bool, w: u32) -> Judgement
 // The fields of a plan: how many there are and how many of them take a slot, or the first refusal.
 pub fn judge(plan: &[u32], packing: bool) -> Parsed
     requires { length plan.now ≤ max_layout }
-    ensures { Parses (plan_fields packing (before plan)) result (before plan) }
+    ensures { Parses (plan_fields packing plan.now) result plan.now }
 {
     let mut taken: usize = 0;
     let mut i: usize = 0;
@@ -80,7 +79,7 @@ pub fn judge(plan: &[u32], packing: bool) -> Parsed
 // Copies the first n codes to the front of a run.
 fn copy(run: &mut [u32], codes: &[u32], n: usize)
     requires { (n ≤ length run.old) × (n ≤ length codes.now) }
-    ensures { after run ≡ take n (before codes) ++ drop n (before run) }
+    ensures { run.new ≡ take n codes.now ++ drop n run.old }
 {
     let mut i: usize = 0;
     while i < n {
@@ -91,7 +90,7 @@ fn copy(run: &mut [u32], codes: &[u32], n: usize)
 
 // Reads a layout into the front of the run, as a plan. A refusal changes nothing.
 pub fn prepare(layout: &[u8], run: &mut [u32]) -> Answer
-    ensures { record { answer = result; plan = after run } ≡ prepare (before layout) (before run) }
+    ensures { record { answer = result; plan = run.new } ≡ prepare layout.now run.old }
 {
     if layout::MAX_LAYOUT < layout.len() {
         return Answer::refused(Refusal::BadSize, 0);
@@ -112,8 +111,8 @@ pub fn prepare(layout: &[u8], run: &mut [u32]) -> Answer
 
 // Packs the arguments into the output by a plan, as `packer::pack` does by a layout. A refusal changes nothing.
 pub fn pack(plan: &[u32], slots: &[u32], area: &[u8], output: &mut [u8]) -> Answer
-    ensures { record { answer = result; output = after output }
-        ≡ pack_plan (before plan) (before slots) (before area) (before output) }
+    ensures { record { answer = result; output = output.new }
+        ≡ pack_plan plan.now slots.now area.now output.old }
 {
     if !sizes::lengths_fit(plan.len(), slots.len(), output.len(), area.len()) {
         return Answer::refused(Refusal::BadSize, 0);
@@ -130,8 +129,8 @@ pub fn read(
     area: &mut [u8],
     mark: usize,
 ) -> ReadAnswer
-    ensures { record { answer = result; slots = after slots; area = after area }
-        ≡ read_plan (before plan) (before bytes) (before slots) (before area) mark }
+    ensures { record { answer = result; slots = slots.new; area = area.new }
+        ≡ read_plan plan.now bytes.now slots.old area.old mark }
 {
     if !checking::sizes_fit(plan.len(), slots.len(), bytes.len(), area.len(), mark) {
         return ReadAnswer {

@@ -4,7 +4,6 @@
 // and proved in the crate `promises_claims`.
 ghost use Rattle.std.specs.Prelude.{◌≡◌, ◌&&◌, ◌≤◌, ◌<◌, length};
 ghost use Rattle.layout.specs.declared.Role.TheVariants.{Move};
-ghost use Rattle.layout.specs.Lent.{before, after};
 ghost use Rattle.layout.specs.Layout.{max_layout, takes_slot, to_nat};
 ghost use Rattle.layout.specs.Codes.{field_of};
 ghost use Rattle.layout.specs.inside.Parsing.{FitRole, FitCount, decoded};
@@ -19,7 +18,7 @@ use slot_table::sizes;
 
 // What a layout may promise: to grow at its end, to keep everything that is read, to be joined. The first has three
 // parts: the fields are plain, they take no more slots than a table may have, and they end within the longest record.
-#[derive(Drop)]
+#[derive(Clone, Copy)]
 pub enum Promise {
     Grows,
     Keeps,
@@ -30,14 +29,14 @@ pub enum Promise {
 }
 
 // How far a layout has come: the slots that its fields take so far, and where the last of them ends.
-#[derive(Drop)]
+#[derive(Clone, Copy)]
 pub struct Reach {
     pub slots: usize,
     pub end: usize,
 }
 
 // What a call answers: the three numbers of an answer and a fourth.
-#[derive(Drop)]
+#[derive(Clone, Copy)]
 pub struct Told {
     pub answer: Answer,
     pub fourth: u32,
@@ -215,7 +214,7 @@ fn kept_by(q: Promise, r: Reach, f: Field) -> bool
 // How many fields at the front of the n codes keep a promise.
 fn kept_front(codes: &[u32], n: usize, q: Promise) -> usize
     requires { (n ≤ length codes.now) × (n ≤ max_layout) }
-    ensures { result ≡ kept_front q reach_start (decoded n (before codes)) }
+    ensures { result ≡ kept_front q reach_start (decoded n codes.now) }
 {
     let mut r = Reach::nothing();
     let mut i: usize = 0;
@@ -264,7 +263,7 @@ fn same_field(v: u32, w: u32) -> bool
 // How many fields at the front of the m old and the n new codes are the same.
 fn same_front(old: &[u32], m: usize, new: &[u32], n: usize) -> usize
     requires { (m ≤ length old.now) × (n ≤ length new.now) }
-    ensures { result ≡ same_front (decoded m (before old)) (decoded n (before new)) }
+    ensures { result ≡ same_front (decoded m old.now) (decoded n new.now) }
 {
     let e = record::least(m, n);
     let mut i: usize = 0;
@@ -281,7 +280,7 @@ fn same_front(old: &[u32], m: usize, new: &[u32], n: usize) -> usize
 
 // The place of field k of a text that is accepted; the text's length where it has no more fields.
 fn place_of(text: &[u8], k: usize) -> usize
-    ensures { PlaceOf (before text) k result }
+    ensures { PlaceOf text.now k result }
 {
     let mut left = k;
     let mut at: usize = 0;
@@ -304,7 +303,7 @@ fn place_of(text: &[u8], k: usize) -> usize
 // The place of the first field of a text that breaks a promise; the codes are its fields.
 fn first_break(text: &[u8], codes: &[u32], n: usize, q: Promise) -> u32
     requires { Holds text.now n codes.now }
-    ensures { BreaksAt (before text) q result }
+    ensures { BreaksAt text.now q result }
 {
     let k = kept_front(codes, n, q);
     if n <= k {
@@ -339,7 +338,7 @@ impl Told {
 // Reads a layout into codes: its fields, or the refusal that packing by it would give.
 fn read_layout(text: &[u8], codes: &mut [u32]) -> Parsed
     requires { length codes.old ≡ max_layout }
-    ensures { ReadAs (before text) result (after codes) }
+    ensures { ReadAs text.now result codes.new }
 {
     if layout::MAX_LAYOUT < text.len() {
         return Parsed::Refused(Refusal::BadSize, 0);
@@ -352,7 +351,7 @@ fn read_layout(text: &[u8], codes: &mut [u32]) -> Parsed
 // that ends past the longest record, breaks the first two. Or the refusal that packing by it would give, 1 to 4, and
 // its place.
 pub fn promises(layout: &[u8]) -> Told
-    ensures { result ≡ promised (before layout) }
+    ensures { result ≡ promised layout.now }
 {
     let mut codes: [u32; layout::MAX_LAYOUT] = [0; layout::MAX_LAYOUT];
     let p = read_layout(layout, &mut codes);
@@ -370,7 +369,7 @@ pub fn promises(layout: &[u8]) -> Told
 // What is answered of the old layout's fields and those of the new text.
 fn grown(old: &[u32], m: usize, text: &[u8], new: &[u32], n: usize) -> Told
     requires { (m ≤ length old.now) × (length old.now ≤ max_layout) × Holds text.now n new.now }
-    ensures { GrownAs (before text) (decoded m (before old)) result }
+    ensures { GrownAs text.now (decoded m old.now) result }
 {
     let k = same_front(old, m, new, n);
     if k < m {
@@ -394,7 +393,7 @@ fn grown(old: &[u32], m: usize, text: &[u8], new: &[u32], n: usize) -> Told
 // What is answered of the old layout's fields and of the new text, which is still to be read.
 fn extends_codes(old: &[u32], m: usize, new: &[u8]) -> Told
     requires { (m ≤ length old.now) × (length old.now ≤ max_layout) }
-    ensures { result ≡ extended_by (decoded m (before old)) (before new) }
+    ensures { result ≡ extended_by (decoded m old.now) new.now }
 {
     let mut codes: [u32; layout::MAX_LAYOUT] = [0; layout::MAX_LAYOUT];
     let p = read_layout(new, &mut codes);
@@ -410,7 +409,7 @@ fn extends_codes(old: &[u32], m: usize, new: &[u8]) -> Told
 // layout is not plain, 5 where one takes a slot more than a table may have, or 11 where one ends past the longest
 // record, with its place in the new text, 0, and 1.
 pub fn extends(old: &[u8], new: &[u8]) -> Told
-    ensures { result ≡ extended (before old) (before new) }
+    ensures { result ≡ extended old.now new.now }
 {
     let mut codes: [u32; layout::MAX_LAYOUT] = [0; layout::MAX_LAYOUT];
     let p = read_layout(old, &mut codes);

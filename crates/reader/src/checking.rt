@@ -2,7 +2,6 @@
 // tests by themselves. Nothing here writes.
 ghost use Rattle.std.specs.Prelude.{◌≡◌, ◌*◌, ◌≤◌, length};
 ghost use Rattle.layout.specs.Layout.{max_layout};
-ghost use Rattle.layout.specs.Lent.{before};
 ghost use Rattle.record.specs.Table.{slot_width, max_slots, max_record, value_bytes};
 ghost use Rattle.reading.specs.inside.Run.{values_of};
 ghost use Rattle.reader.specs.inside.Sizes.{read_lent_fits, surely_fits};
@@ -35,7 +34,7 @@ pub fn fits(
 ) -> Answer
     requires { (n ≤ length codes.now) × (length codes.now ≤ max_layout) × (length bytes.now ≤ max_record)
         × (slots ≤ slot_width * max_slots) }
-    ensures { result ≡ fitting slots taken room (length (value_bytes (values_of n (before codes) (before bytes)))) }
+    ensures { result ≡ fitting slots taken room (length (value_bytes (values_of n codes.now bytes.now))) }
 {
     if slots / record::SLOT_WIDTH < taken {
         return Answer::refused(Refusal::BadSlots, 0);
@@ -49,7 +48,7 @@ pub fn fits(
 
 // Whether `reader::read` would refuse, and how; else 0, the fields that take a slot, and 0. Nothing is written.
 pub fn check(layout: &[u8], bytes: &[u8], slots: &[u32], area: &[u8], mark: usize) -> Answer
-    ensures { result ≡ read_checked (before layout) (before bytes) (before slots) (before area) mark }
+    ensures { result ≡ read_checked layout.now bytes.now slots.now area.now mark }
 {
     if !sizes_fit(layout.len(), slots.len(), bytes.len(), area.len(), mark) {
         return Answer::refused(Refusal::BadSize, 0);

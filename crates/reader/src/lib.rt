@@ -1,7 +1,6 @@
 // The reader (Tcl's `binary scan`): the values that a layout shows of a record, put into a table of slots and a value
 // area. All is decided before anything is written.
 ghost use Rattle.std.specs.Prelude.{◌≡◌};
-ghost use Rattle.layout.specs.Lent.{before, after};
 ghost use Rattle.record.specs.Reading.{read_all};
 
 use layout::{Parsed, Refusal, parser};
@@ -22,8 +21,8 @@ pub fn read(
     area: &mut [u8],
     mark: usize,
 ) -> ReadAnswer
-    ensures { record { answer = result; slots = after slots; area = after area }
-        ≡ read_all (before layout) (before bytes) (before slots) (before area) mark }
+    ensures { record { answer = result; slots = slots.new; area = area.new }
+        ≡ read_all layout.now bytes.now slots.old area.old mark }
 {
     if !checking::sizes_fit(layout.len(), slots.len(), bytes.len(), area.len(), mark) {
         return ReadAnswer {
@@ -51,8 +50,8 @@ pub fn read_short(
     area: &mut [u8],
     mark: usize,
 ) -> ReadAnswer
-    ensures { record { answer = result; slots = after slots; area = after area }
-        ≡ read_all (before layout) (before bytes) (before slots) (before area) mark }
+    ensures { record { answer = result; slots = slots.new; area = area.new }
+        ≡ read_all layout.now bytes.now slots.old area.old mark }
 {
     if layout::SHORT_LAYOUT < layout.len() {
         return read(layout, bytes, slots, area, mark);

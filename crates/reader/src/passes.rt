@@ -3,7 +3,6 @@
 // alone, tell that the values fit, the first is left out.
 ghost use Rattle.std.specs.Prelude.{◌≡◌, ◌≤◌, length};
 ghost use Rattle.layout.specs.Layout.{max_layout};
-ghost use Rattle.layout.specs.Lent.{before};
 ghost use Rattle.record.specs.Table.{max_record};
 ghost use Rattle.reader.specs.inside.passes.{ReadReady, surely_read, ReadsCodes};
 
@@ -20,7 +19,7 @@ pub fn surely_read(
     room: usize,
 ) -> bool
     requires { (n ≤ length codes.now) × (length codes.now ≤ max_layout) × (bytes ≤ max_record) }
-    ensures { result ≡ surely_read n taken (before codes) bytes slots room }
+    ensures { result ≡ surely_read n taken codes.now bytes slots room }
 {
     if checking::surely_fits(n, taken, bytes, slots, room) {
         return true;
@@ -43,7 +42,7 @@ pub fn read(
     mark: usize,
 ) -> ReadAnswer
     requires { ReadReady n taken codes.now bytes.now slots.old area.old mark }
-    ensures { ReadsCodes n taken codes bytes slots area mark result }
+    ensures { ReadsCodes n taken codes.now bytes.now slots.old slots.new area.old area.new mark result }
 {
     if surely_read(
         &codes[..],

@@ -2,7 +2,6 @@
 // table.
 ghost use Rattle.std.specs.Prelude.{◌≡◌, ◌≤◌, length};
 ghost use Rattle.layout.specs.Layout.{max_layout};
-ghost use Rattle.layout.specs.Lent.{before, after};
 ghost use Rattle.record.specs.Table.{max_slots, max_record, max_area};
 ghost use Rattle.record.specs.Packing.{accepted};
 ghost use Rattle.reading.specs.inside.Run.{values_of};
@@ -40,8 +39,8 @@ pub fn fill(
 ) -> ReadAnswer
     requires n_in_bounds { (n ≤ length codes.now) × (length codes.now ≤ max_layout) × (length bytes.now ≤ max_record) }
     requires table_room { TableRoom (values_of n codes.now bytes.now) slots.old area.old mark }
-    ensures { record { answer = result; slots = after slots; area = after area }
-        ≡ put_all n (before codes) (before bytes) (before slots) (before area) mark }
+    ensures { record { answer = result; slots = slots.new; area = area.new }
+        ≡ put_all n codes.now bytes.now slots.old area.old mark }
 {
     let mut c = Cursor::new(bytes.len());
     let mut set: usize = 0;

@@ -4,7 +4,6 @@ ghost use Rattle.std.specs.Prelude.{◌≡◌, ◌≤◌, ◌<◌, length};
 ghost use Rattle.layout.specs.Layout.{max_layout};
 ghost use Rattle.layout.specs.Codes.{field_of};
 ghost use Rattle.layout.specs.inside.Parsing.{decoded};
-ghost use Rattle.layout.specs.Lent.{before};
 ghost use Rattle.record.specs.Table.{max_record, value_bytes};
 ghost use Rattle.reading.specs.inside.Run.{values_of};
 ghost use Rattle.reading.specs.inside.Bounds.{field_bound, value_bound};
@@ -15,7 +14,7 @@ use slot_table::sizes;
 
 pub fn measure(codes: &[u32], n: usize, bytes: &[u8]) -> usize
     requires { (n ≤ length codes.now) × (length codes.now ≤ max_layout) × (length bytes.now ≤ max_record) }
-    ensures { result ≡ length (value_bytes (values_of n (before codes) (before bytes))) }
+    ensures { result ≡ length (value_bytes (values_of n codes.now bytes.now)) }
 {
     let mut c = Cursor::new(bytes.len());
     let mut size: usize = 0;
@@ -62,7 +61,7 @@ fn field_bound(code: u32, bytes: usize) -> usize
 // bytes holds.
 pub fn value_bound(codes: &[u32], n: usize, bytes: usize) -> usize
     requires { (n ≤ length codes.now) × (length codes.now ≤ max_layout) × (bytes ≤ max_record) }
-    ensures { result ≡ value_bound bytes (decoded n (before codes)) }
+    ensures { result ≡ value_bound bytes (decoded n codes.now) }
 {
     let mut sum: usize = 0;
     let mut i: usize = 0;

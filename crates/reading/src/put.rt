@@ -2,7 +2,6 @@
 ghost use Rattle.std.specs.Prelude.{◌≤◌};
 ghost use Rattle.layout.specs.Codes.{last_data};
 ghost use Rattle.layout.specs.inside.Parsing.{shape_numbered};
-ghost use Rattle.layout.specs.Lent.{before, after};
 ghost use Rattle.record.specs.Reading.{value_at};
 ghost use Rattle.reading.specs.inside.value.{Inside};
 ghost use Rattle.reading.specs.inside.put.{PutRoom, PutAs};
@@ -24,8 +23,8 @@ pub fn put(
 ) -> usize
     requires d_le_last_data { (d ≤ last_data) × Inside bytes.now at (shape_numbered d) n }
     requires put_room { PutRoom (value_at bytes.now at (shape_numbered d) u n) slots.old k area.old to }
-    ensures { PutAs (value_at (before bytes) at (shape_numbered d) u n) at (before slots) k (before area) to result
-        (after slots) (after area) }
+    ensures { PutAs (value_at bytes.now at (shape_numbered d) u n) at slots.old k area.old to result
+        slots.new area.new }
 {
     let v = value::load(area, to, bytes, at, d, u, n);
     slot_table::set_slot(slots, k, v.kind, to, v.items, at);

@@ -3,13 +3,12 @@ ghost use Rattle.std.specs.Prelude.{◌≡◌, Bool, false, ◌+◌, ◌*◌, �
 ghost use Rattle.layout.specs.declared.Shape.TheVariants.{Text, Digits, Integers, Reals};
 ghost use Rattle.layout.specs.Codes.{last_data};
 ghost use Rattle.layout.specs.inside.Parsing.{shape_numbered};
-ghost use Rattle.layout.specs.Lent.{before, after};
 ghost use Rattle.record.specs.Table.{area_bytes, integer_kind};
 ghost use Rattle.record.specs.Reading.{value_at};
 ghost use Rattle.reading.specs.inside.value.{Inside, TextOf, SizeOf, LoadedAs};
 
 // What a slot says of a value, and the bytes that the value takes in the area.
-#[derive(Drop)]
+#[derive(Clone, Copy)]
 pub struct Loaded {
     pub kind: u32,
     pub items: usize,
@@ -19,7 +18,7 @@ pub struct Loaded {
 // The bytes of the area that the value of a field of type d takes.
 pub fn size_of(bytes: &[u8], at: usize, d: u32, n: usize) -> usize
     requires { (d ≤ last_data) × Inside bytes.now at (shape_numbered d) n }
-    ensures { SizeOf (before bytes) at (shape_numbered d) n result }
+    ensures { SizeOf bytes.now at (shape_numbered d) n result }
 {
     if layout::LAST_DIGITS < d {
         return n * 8;
@@ -33,7 +32,7 @@ pub fn size_of(bytes: &[u8], at: usize, d: u32, n: usize) -> usize
 // How long the value of a text of n bytes is.
 fn text_len(bytes: &[u8], at: usize, n: usize, pad: u8) -> usize
     requires { at + n ≤ length bytes.now }
-    ensures { TextOf (before bytes) at n pad result }
+    ensures { TextOf bytes.now at n pad result }
 {
     if pad == 32 {
         return text::trimmed_len(bytes, at, n);
@@ -45,7 +44,7 @@ fn text_len(bytes: &[u8], at: usize, n: usize, pad: u8) -> usize
 fn text(area: &mut [u8], to: usize, bytes: &[u8], at: usize, n: usize, pad: u8) -> Loaded
     requires inside { Inside bytes.now at (Text pad) n }
     requires n_in_bounds { to + length (area_bytes (value_at bytes.now at (Text pad) false n)) ≤ length area.old }
-    ensures { (u : Bool) → LoadedAs (value_at (before bytes) at (Text pad) u n) (before area) to result (after area) }
+    ensures { (u : Bool) → LoadedAs (value_at bytes.now at (Text pad) u n) area.old to result area.new }
 {
     let k = text_len(bytes, at, n, pad);
     byte_runs::copy(area, to, bytes, at, k);
@@ -69,7 +68,7 @@ fn digits(
     requires inside { Inside bytes.now at (Digits hex high) n }
     requires n_in_bounds { to + n ≤ length area.old }
     ensures { (u : Bool)
-        → LoadedAs (value_at (before bytes) at (Digits hex high) u n) (before area) to result (after area) }
+        → LoadedAs (value_at bytes.now at (Digits hex high) u n) area.old to result area.new }
 {
     if hex {
         digits::load::load_hex(area, to, bytes, at, n, high);
@@ -111,7 +110,7 @@ fn integers(
     requires inside { Inside bytes.now at (Integers w big) n }
     requires n_in_bounds { to + n * 8 ≤ length area.old }
     requires w_value { 8 % w ≡ 0 }
-    ensures { LoadedAs (value_at (before bytes) at (Integers w big) u n) (before area) to result (after area) }
+    ensures { LoadedAs (value_at bytes.now at (Integers w big) u n) area.old to result area.new }
 {
     integers::load::load(area, to, bytes, at, n, w, big, u);
     Loaded {
@@ -134,7 +133,7 @@ fn reals(
     requires inside { Inside bytes.now at (Reals single big) n }
     requires n_in_bounds { to + n * 8 ≤ length area.old }
     ensures { (u : Bool)
-        → LoadedAs (value_at (before bytes) at (Reals single big) u n) (before area) to result (after area) }
+        → LoadedAs (value_at bytes.now at (Reals single big) u n) area.old to result area.new }
 {
     reals::load::load(area, to, bytes, at, n, single, big);
     Loaded {
@@ -157,7 +156,7 @@ pub fn load(
 ) -> Loaded
     requires d_le_last_data { (d ≤ last_data) × Inside bytes.now at (shape_numbered d) n }
     requires n_in_bounds { to + length (area_bytes (value_at bytes.now at (shape_numbered d) u n)) ≤ length area.old }
-    ensures { LoadedAs (value_at (before bytes) at (shape_numbered d) u n) (before area) to result (after area) }
+    ensures { LoadedAs (value_at bytes.now at (shape_numbered d) u n) area.old to result area.new }
 {
     match d {
         layout::TEXT_ZERO => text(area, to, bytes, at, n, 0),

@@ -1,7 +1,8 @@
 // `r R q Q`: reals. The area has a double of eight bytes for each, the highest byte first. Here are a double of the
 // area as a number, whether one of many is a NaN, and the four bytes of a single in the order of a field.
+#![tactic(auto)]
+
 ghost use Rattle.std.specs.Prelude.{◌≡◌, ◌+◌, ◌*◌, ◌≤◌, ◌<◌, length, drop};
-ghost use Rattle.layout.specs.Lent.{before};
 ghost use Rattle.record.specs.Bytes.{part, digits, number, ordered, number_bytes, number_at};
 ghost use Rattle.record.specs.Table.{integers_in};
 ghost use Rattle.record.specs.Packing.{no_na_n};
@@ -19,7 +20,7 @@ pub const DOUBLE: usize = 8;
 // Eight bytes as a number, the first in the lowest place. In a function of their own the compiler loads them at once.
 fn low_first(area: &[u8], at: usize) -> u64
     requires { at + 8 ≤ length area.now }
-    ensures { result ≡ number 256 (part (before area) at 8) }
+    ensures { result ≡ number 256 (part area.now at 8) }
 {
     let x7 = area[at + 7] as u64;
     let x6 = area[at + 6] as u64 + 256 * x7;
@@ -55,7 +56,7 @@ fn turned(x: u64) -> u64
 // A double of the area.
 pub fn double_at(area: &[u8], at: usize) -> u64
     requires { at + 8 ≤ length area.now }
-    ensures { result ≡ number_at 8 (before area) at }
+    ensures { result ≡ number_at 8 area.now at }
 {
     turned(low_first(area, at))
 }
@@ -63,7 +64,7 @@ pub fn double_at(area: &[u8], at: usize) -> u64
 // None of n doubles of the area is a NaN.
 pub fn no_nan(area: &[u8], start: usize, n: usize) -> bool
     requires { start + n * 8 ≤ length area.now }
-    ensures { result ≡ no_na_n (integers_in n (drop start (before area))) }
+    ensures { result ≡ no_na_n (integers_in n (drop start area.now)) }
 {
     let mut i = 0;
     while i < n {

@@ -14,7 +14,7 @@ use Rattle.layout.specs.declared.Shape.{Shape}
 use Rattle.layout.specs.declared.Count.{Count}
 use Rattle.layout.specs.declared.Field.{Field}
 use Rattle.layout.specs.declared.Refusal.TheVariants.{NotSet, BadSlot, WrongKind, BadList, BadDigit, BadReal}
-use Rattle.layout.specs.Refusals.{ok, ◌>>=◌}
+use Rattle.layout.specs.Refusals.{ok}
 use Rattle.layout.specs.Layout.{slot_count}
 use Rattle.layout.proofs.Laws.{bound, still, still-last}
 use Rattle.record.specs.declared.slots.Slot.{Slot}

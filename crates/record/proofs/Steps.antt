@@ -1,7 +1,7 @@
 -- The steps of a reading: each is a field of its own, and a field has a type character of its own.
 use Prim.Native.Nat.{ℕ, zero, suc, ◌+◌, ◌-◌, ◌≤◌}
 use native.Mathlib.Omega.{arith}
-use mathlib.Core.Path.{◌≡◌, refl, ap, subst}
+use mathlib.Core.Path.{◌≡◌, refl, subst}
 use mathlib.Core.Bool.{Bool, true, false}
 use mathlib.Core.List.{List, [], ◌∷◌}
 use lib.ListN.{length}
@@ -10,7 +10,7 @@ use Rattle.layout.specs.declared.Role.{Role}
 use Rattle.layout.specs.declared.Role.TheVariants.{Data, Move}
 use Rattle.layout.specs.declared.Count.{Count}
 use Rattle.layout.specs.declared.Field.{Field}
-use Rattle.layout.specs.Refusals.{if◌then◌else◌, Result, ok, refused, ◌>>=◌}
+use Rattle.layout.specs.Refusals.{if◌then◌else◌, Result, ok, refused}
 use Rattle.layout.specs.Layout.{Step, space, field, bad, step_of, step_extra, step_then, fields_from, fields_of}
 use Rattle.layout.proofs.Laws.{bound, no-refusal, ok-inj}
 use Rattle.record.specs.Geometry.{bytes_for, items_of, moved_in}

@@ -1,4 +1,6 @@
 // The answer of a call, and the cursor of a run over a record.
+#![tactic(auto)]
+
 ghost use Rattle.std.specs.Prelude.{◌≡◌, ◌+◌, ◌≤◌, ◌<◌, min, max};
 ghost use Rattle.layout.specs.Refusals.{line_of, number_of};
 ghost use Rattle.layout.specs.inside.Parsing.{FitCount};
@@ -29,7 +31,7 @@ pub const INTEGER_SIZE: usize = 8;
 pub const MAX_NUMBERS: usize = SLOT_WIDTH * MAX_SLOTS;
 
 // What a call answers: 0 and two more numbers, or the number of a refusal, its place, and 0.
-#[derive(Drop)]
+#[derive(Clone, Copy)]
 pub struct Answer {
     pub number: u32,
     pub first: u32,
@@ -38,7 +40,7 @@ pub struct Answer {
 
 // What a reading answers: the three numbers, and its steps, the fields that it went through, up to one that had too few
 // bytes and with it.
-#[derive(Drop)]
+#[derive(Clone, Copy)]
 pub struct ReadAnswer {
     pub answer: Answer,
     pub steps: u32,
@@ -100,7 +102,7 @@ impl Answer {
 }
 
 // A position in a record and an end. Every move hands back the next cursor.
-#[derive(Drop)]
+#[derive(Clone, Copy)]
 pub struct Cursor {
     // counted from the front of the record
     pub at: usize,

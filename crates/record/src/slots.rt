@@ -1,5 +1,5 @@
 // What a slot says of its value, and the position in the record at which its field began.
-#[derive(Drop)]
+#[derive(Clone, Copy)]
 pub struct Slot {
     pub kind: u32,
     pub start: usize,

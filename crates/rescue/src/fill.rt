@@ -2,7 +2,6 @@
 // damaged sheet goes into the table, and the slots after it are cleared. The first pass measures what is kept, the
 // second writes. So a refusal writes nothing.
 ghost use Rattle.std.specs.Prelude.{◌≡◌, ◌*◌, ◌≤◌, ◌<◌, length};
-ghost use Rattle.layout.specs.Lent.{before, after};
 ghost use Rattle.record.specs.Bytes.{store_at};
 ghost use Rattle.record.specs.Table.{slot_width, max_slots, integer_size};
 ghost use Rattle.sheet.specs.Sheet.{width_in, header_size, max_sheet};
@@ -14,7 +13,7 @@ use record::Answer;
 
 // What a rescue answers: 0, entries kept, slots cleared and bytes dropped; or the number of a refusal, its place, 0 and
 // 0.
-#[derive(Drop)]
+#[derive(Clone, Copy)]
 pub struct Rescued {
     pub number: u32,
     pub first: u32,
@@ -51,7 +50,7 @@ impl Rescued {
 // Clears n slots from number k on.
 fn clear(slots: &mut [u32], k: usize, n: usize)
     requires { Clearable slots.old k n }
-    ensures { after slots ≡ store_at (before slots) (slot_width * k) (cleared_numbers n) }
+    ensures { slots.new ≡ store_at slots.old (slot_width * k) (cleared_numbers n) }
 {
     let mut i: usize = 0;
     while i < n {
@@ -70,8 +69,8 @@ pub fn rescue_nothing(
 ) -> Rescued
     requires { RescueReady sheet.now legs slots.old area.old mark
         × (length sheet.now < header_size (width_in sheet.now)) }
-    ensures { record { answer = result; slots = after slots; area = after area }
-        ≡ rescue (before sheet) legs (before slots) (before area) mark }
+    ensures { record { answer = result; slots = slots.new; area = area.new }
+        ≡ rescue sheet.now legs slots.old area.old mark }
 {
     clear(slots, 0, legs);
     Rescued::saved(0, legs, sheet.len())
@@ -88,8 +87,8 @@ pub fn rescue_entries(
 ) -> Rescued
     requires { RescueReady sheet.now legs slots.old area.old mark × (w ≡ width_in sheet.now)
         × (w ≤ integer_size) × (header_size w ≤ length sheet.now) }
-    ensures { record { answer = result; slots = after slots; area = after area }
-        ≡ rescue (before sheet) legs (before slots) (before area) mark }
+    ensures { record { answer = result; slots = slots.new; area = area.new }
+        ≡ rescue sheet.now legs slots.old area.old mark }
 {
     let x = sheet_read::check::measure(sheet, w, legs);
     if area.len() - mark < x.values {

@@ -1,7 +1,6 @@
 // Rescuing a damaged sheet (document 02, M-109 and M-111): what is whole at its front goes into the table, and the
 // slots after it are cleared. Here are the tests before that; `fill` does it.
 ghost use Rattle.std.specs.Prelude.{◌≡◌, ◌+◌, ◌≤◌, length, leb};
-ghost use Rattle.layout.specs.Lent.{before, after};
 ghost use Rattle.record.specs.Table.{integer_size};
 ghost use Rattle.rescue.specs.Rescue.{rescue};
 ghost use Rattle.rescue.specs.inside.Steps.{rescue_sizes_fit};
@@ -26,7 +25,7 @@ fn sizes_fit(slots: usize, area: usize, sheet: usize, mark: usize, legs: usize) 
 // A sheet begins with a whole header, whose lengths have w bytes.
 fn has_header(sheet: &[u8], w: usize) -> bool
     requires { w ≤ integer_size }
-    ensures { result ≡ leb (w + 1) (length (before sheet)) }
+    ensures { result ≡ leb (w + 1) (length sheet.now) }
 {
     w + 1 <= sheet.len()
 }
@@ -35,8 +34,8 @@ fn has_header(sheet: &[u8], w: usize) -> bool
 // values into the area from the mark on, and clears the other slots up to the number of legs. A refusal changes
 // nothing.
 pub fn rescue(sheet: &[u8], legs: usize, slots: &mut [u32], area: &mut [u8], mark: usize) -> Rescued
-    ensures { record { answer = result; slots = after slots; area = after area }
-        ≡ rescue (before sheet) legs (before slots) (before area) mark }
+    ensures { record { answer = result; slots = slots.new; area = area.new }
+        ≡ rescue sheet.now legs slots.old area.old mark }
 {
     if !sizes_fit(slots.len(), area.len(), sheet.len(), mark, legs) {
         return Rescued::refused(Refusal::BadSize);

@@ -1,6 +1,5 @@
 // The versions of the format, and a length out of a sheet.
 ghost use Rattle.std.specs.Prelude.{◌≡◌, ◌+◌, ◌≤◌, length, drop};
-ghost use Rattle.layout.specs.Lent.{before};
 ghost use Rattle.record.specs.Bytes.{number_at};
 ghost use Rattle.record.specs.Table.{integer_size};
 ghost use Rattle.sheet.specs.Sheet.{width_of};
@@ -36,7 +35,7 @@ pub fn width_of(version: u8) -> usize
 // of number_at is written out.
 pub fn length_at(bytes: &[u8], at: usize, w: usize) -> usize
     requires { (w ≤ integer_size) × (at + w ≤ length bytes.now) }
-    ensures { result ≡ number_at w (drop at (before bytes)) 0 }
+    ensures { result ≡ number_at w (drop at bytes.now) 0 }
 {
     if w == WIDTH_1 {
         let n = big_endian::number_at(bytes, at, WIDTH_1);

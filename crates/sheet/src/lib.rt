@@ -1,5 +1,7 @@
 // Sheets (document 02, M-100 and M-111): a table of slots as a run of bytes. Here are the sizes and the lengths;
 // sheet_write and sheet_read have the calls.
+#![tactic(auto)]
+
 ghost use Rattle.std.specs.Prelude.{◌≡◌};
 ghost use Rattle.sheet.specs.Sheet.{sheet_sizes_fit};
 ghost use Rattle.sheet.specs.inside.Steps.{sheet_lent_fits};

@@ -1,6 +1,5 @@
 // A table written as a sheet and read back (document 02, M-100): both calls one after the other, and what they keep.
 ghost use Rattle.std.specs.Prelude.{◌≡◌};
-ghost use Rattle.layout.specs.Lent.{before};
 ghost use Rattle.sheet.specs.Claims.{Stored, KeepsValues, read_part, kept};
 ghost use Rattle.sheet_claims.specs.inside.keep.{left};
 
@@ -16,10 +15,10 @@ pub fn keep(
     values: &mut [u8],
     mark: usize,
 ) -> Answer
-    ensures effect { left sheet table values result
-        ≡ kept (before slots) (before area) (before sheet) (before table) (before values) mark }
-    ensures values_kept { Stored (before slots) (before area) (before sheet) (before table) (before values) mark
-        → KeepsValues (before slots) (before area) (before table) (before values) mark (read_part (left sheet table values result)) }
+    ensures effect { left sheet.old sheet.new table.old table.new values.old values.new result
+        ≡ kept slots.now area.now sheet.old table.old values.old mark }
+    ensures values_kept { Stored slots.now area.now sheet.old table.old values.old mark
+        → KeepsValues slots.now area.now table.old values.old mark (read_part (left sheet.old sheet.new table.old table.new values.old values.new result)) }
 {
     let a = sheet_write::write(slots, area, sheet);
     let number = a.number;

@@ -2,7 +2,6 @@
 // pass over the entries that measures them, of which at most `most` are taken. Nothing is written. w is the width of a
 // length.
 ghost use Rattle.std.specs.Prelude.{◌≡◌, ◌+◌, ◌≤◌, length, drop};
-ghost use Rattle.layout.specs.Lent.{before};
 ghost use Rattle.record.specs.Table.{integer_size};
 ghost use Rattle.sheet.specs.Entries.{whole_items, begins_entry};
 ghost use Rattle.sheet.specs.Sheet.{header_size, max_sheet, version_of, version_known, header_fits};
@@ -12,7 +11,7 @@ use sheet::lengths;
 
 // The version of a sheet.
 pub fn version_of(sheet: &[u8]) -> u8
-    ensures { result ≡ version_of (before sheet) }
+    ensures { result ≡ version_of sheet.now }
 {
     if sheet.len() == 0 {
         return lengths::VERSION_1;
@@ -44,7 +43,7 @@ pub fn version_needed(v: u8, entries: usize, values: usize) -> bool
 // The header is whole and has the length of what follows.
 pub fn header_fits(sheet: &[u8], w: usize) -> bool
     requires { w ≤ integer_size }
-    ensures { result ≡ header_fits w (before sheet) }
+    ensures { result ≡ header_fits w sheet.now }
 {
     let size = sheet.len();
     if size < w + 1 {
@@ -66,7 +65,7 @@ fn whole_items(kind: u8, n: usize) -> bool
 // A whole entry stands at a place.
 fn is_entry(sheet: &[u8], at: usize, w: usize) -> bool
     requires { (w ≤ integer_size) × (at ≤ length sheet.now) }
-    ensures { result ≡ begins_entry w (drop at (before sheet)) }
+    ensures { result ≡ begins_entry w (drop at sheet.now) }
 {
     let left = sheet.len() - at;
     if left < w {
@@ -87,7 +86,7 @@ fn is_entry(sheet: &[u8], at: usize, w: usize) -> bool
 }
 
 // The whole entries of a sheet: how many, the bytes of their values, and where they end.
-#[derive(Drop)]
+#[derive(Clone, Copy)]
 pub struct SheetExtent {
     pub entries: usize,
     pub values: usize,
@@ -97,7 +96,7 @@ pub struct SheetExtent {
 // One more entry is due after `done`, and stands whole at a place.
 fn entry_due(sheet: &[u8], at: usize, w: usize, done: usize, most: usize) -> bool
     requires { (w ≤ integer_size) × (at ≤ length sheet.now) }
-    ensures { result ≡ entry_due w (before sheet) at done most }
+    ensures { result ≡ entry_due w sheet.now at done most }
 {
     if most <= done {
         return false;
@@ -108,7 +107,7 @@ fn entry_due(sheet: &[u8], at: usize, w: usize, done: usize, most: usize) -> boo
 // The first pass over the entries, at most `most`. Nothing is written.
 pub fn measure(sheet: &[u8], w: usize, most: usize) -> SheetExtent
     requires { (w ≤ integer_size) × (header_size w ≤ length sheet.now) × (length sheet.now ≤ max_sheet) }
-    ensures { ExtentOf w (front_of w most (before sheet)) (before sheet) result }
+    ensures { ExtentOf w (front_of w most sheet.now) sheet.now result }
 {
     let mut at = w + 1;
     let mut entries: usize = 0;

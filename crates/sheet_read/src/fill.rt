@@ -2,7 +2,6 @@
 // length.
 ghost use Rattle.std.specs.Prelude.{◌≡◌, true, ◌+◌, ◌/◌, ◌≤◌, length, drop, eqb};
 ghost use Rattle.layout.specs.Refusals.{if◌then◌else◌};
-ghost use Rattle.layout.specs.Lent.{before, after};
 ghost use Rattle.record.specs.Table.{max_slots, max_area, integer_size, item_size};
 ghost use Rattle.record.specs.Packing.{accepted};
 ghost use Rattle.sheet.specs.Entries.{begins_entry, entry_in};
@@ -43,8 +42,8 @@ fn put(
 ) -> usize
     requires w_le_integer_size { (w ≤ integer_size) × (begins_entry w (drop at sheet.now) ≡ true) × (at ≤ length sheet.now) }
     requires put_room { PutRoom (entry_in w (drop at sheet.now)) slots.old k area.old to }
-    ensures { PutAs (entry_in w (drop at (before sheet))) (before slots) k (before area) to result (after slots)
-        (after area) }
+    ensures { PutAs (entry_in w (drop at sheet.now)) slots.old k area.old to result slots.new
+        area.new }
 {
     let size = lengths::length_at(sheet, at, w) - 1;
     let kind = sheet[at + w];
@@ -78,8 +77,8 @@ pub fn fill(
 ) -> Answer
     requires w_le_integer_size { (w ≤ integer_size) × (header_size w ≤ length sheet.now) × (count ≤ length (entries_at w sheet.now)) }
     requires room { Room (front_of w count sheet.now) slots.old area.old mark }
-    ensures { record { answer = result; slots = after slots; area = after area }
-        ≡ put_front w count (before sheet) (before slots) (before area) mark }
+    ensures { record { answer = result; slots = slots.new; area = area.new }
+        ≡ put_front w count sheet.now slots.old area.old mark }
 {
     let mut at = w + 1;
     let mut set: usize = 0;

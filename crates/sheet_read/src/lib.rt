@@ -1,7 +1,6 @@
 // A sheet read into a table of slots (document 02, M-100 and M-111). The first pass over the entries checks and
 // measures, the second writes. So a refusal writes nothing.
 ghost use Rattle.std.specs.Prelude.{◌≡◌};
-ghost use Rattle.layout.specs.Lent.{before, after};
 ghost use Rattle.sheet.specs.Sheet.{read_sheet};
 ghost use Rattle.sheet_read.specs.inside.Steps.{OpenedAs};
 
@@ -24,8 +23,8 @@ fn read_entries(
     mark: usize,
 ) -> Answer
     requires { OpenedAs v w sheet.now slots.old area.old mark }
-    ensures { record { answer = result; slots = after slots; area = after area }
-        ≡ read_sheet (before sheet) (before slots) (before area) mark }
+    ensures { record { answer = result; slots = slots.new; area = area.new }
+        ≡ read_sheet sheet.now slots.old area.old mark }
 {
     let x = check::measure(sheet, w, sheet.len());
     if x.end != sheet.len() {
@@ -46,8 +45,8 @@ fn read_entries(
 // Reads a sheet: sets slots from the first on, and puts their values into the area from the mark on. A refusal changes
 // nothing.
 pub fn read(sheet: &[u8], slots: &mut [u32], area: &mut [u8], mark: usize) -> Answer
-    ensures { record { answer = result; slots = after slots; area = after area }
-        ≡ read_sheet (before sheet) (before slots) (before area) mark }
+    ensures { record { answer = result; slots = slots.new; area = area.new }
+        ≡ read_sheet sheet.now slots.old area.old mark }
 {
     if !sheet::lent_fits(slots.len(), area.len(), sheet.len(), mark) {
         return Answer::refused(Refusal::BadSize, 0);

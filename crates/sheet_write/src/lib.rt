@@ -1,7 +1,6 @@
 // A table of slots stored as a sheet (document 02, M-100 and M-111). The first pass over the slots checks and measures,
 // the second writes (module `store`). So a refusal writes nothing.
 ghost use Rattle.std.specs.Prelude.{◌≡◌, ◌≤◌, ◌<◌};
-ghost use Rattle.layout.specs.Lent.{before, after};
 ghost use Rattle.record.specs.Table.{max_slots, number_limit};
 ghost use Rattle.sheet.specs.Sheet.{write_sheet};
 ghost use Rattle.sheet_write.specs.inside.Steps.{version_by, length_in, Checked};
@@ -42,8 +41,8 @@ fn length_in(v: u8, n: usize, entries: usize) -> usize
 // What is left of a writing once the slots are sound.
 fn write_sheet(slots: &[u32], area: &[u8], sheet: &mut [u8], n: usize) -> Answer
     requires { Checked slots.now area.now sheet.old n }
-    ensures { record { answer = result; output = after sheet }
-        ≡ write_sheet (before slots) (before area) (before sheet) }
+    ensures { record { answer = result; output = sheet.new }
+        ≡ write_sheet slots.now area.now sheet.old }
 {
     let v = version_for(n);
     let w = lengths::width_of(v);
@@ -57,8 +56,8 @@ fn write_sheet(slots: &[u32], area: &[u8], sheet: &mut [u8], n: usize) -> Answer
 
 // Stores a table as a sheet at the front of the buffer. A refusal changes nothing.
 pub fn write(slots: &[u32], area: &[u8], sheet: &mut [u8]) -> Answer
-    ensures { record { answer = result; output = after sheet }
-        ≡ write_sheet (before slots) (before area) (before sheet) }
+    ensures { record { answer = result; output = sheet.new }
+        ≡ write_sheet slots.now area.now sheet.old }
 {
     if !sheet::lengths_fit(slots.len(), area.len(), sheet.len()) {
         return Answer::refused(Refusal::BadSize, 0);

@@ -1,7 +1,6 @@
 // A table as a sheet (document 02, M-100 and M-111): the slots checked and measured, then header and entries stored. w
 // is the width of a length. The call is in src/lib.rt.
 ghost use Rattle.std.specs.Prelude.{◌≡◌, true, ◌+◌, ◌*◌, ◌≤◌, ◌<◌, length};
-ghost use Rattle.layout.specs.Lent.{before, after};
 ghost use Rattle.record.specs.Bytes.{store_at};
 ghost use Rattle.record.specs.Table.{slot_width, max_slots, max_area, number_limit};
 ghost use Rattle.sheet.specs.Sheet.{version1, width_of, header_size, value_size, entry_of, slot_writable};
@@ -13,7 +12,7 @@ use record::slots::Slot;
 use sheet::lengths;
 
 // What the first pass answers: the length of the sheet in version 1, or the number of the first bad slot.
-#[derive(Drop)]
+#[derive(Clone, Copy)]
 pub enum SheetMeasured {
     Length(usize),
     Bad(usize),
@@ -46,7 +45,7 @@ fn value_size(a: Slot) -> usize
 // The first pass over the slots. Nothing is written.
 pub fn measure(slots: &[u32], area: &[u8]) -> SheetMeasured
     requires { (length slots.now ≤ slot_width * max_slots) × (length area.now ≤ max_area) }
-    ensures { MeasuredAs (width_of version1) (before slots) (before area) result }
+    ensures { MeasuredAs (width_of version1) slots.now area.now result }
 {
     let count = slots.len() / record::SLOT_WIDTH;
     let mut size = lengths::HEADER_1;
@@ -65,7 +64,7 @@ pub fn measure(slots: &[u32], area: &[u8]) -> SheetMeasured
 // Copies the value of a slot that was checked.
 fn put_value(out: &mut [u8], at: usize, a: Slot, area: &[u8], size: usize)
     requires { (slot_writable (length area.now) a ≡ true) × (size ≡ value_size a) × (at + size ≤ length out.old) }
-    ensures { after out ≡ store_at (before out) at (entry_of (before area) a).value }
+    ensures { out.new ≡ store_at out.old at (entry_of area.now a).value }
 {
     if a.kind == record::slots::UNSET {
         return;
@@ -76,8 +75,8 @@ fn put_value(out: &mut [u8], at: usize, a: Slot, area: &[u8], size: usize)
 // Stores the entry of a slot that was checked: length, kind and value; hands back the place after it.
 fn put_entry(out: &mut [u8], at: usize, a: Slot, area: &[u8], w: usize) -> usize
     requires { EntryRoom w area.now a at (length out.old) × (a.len < number_limit) }
-    ensures { (after out ≡ store_at (before out) at (entry_for w (before area) a))
-        × (result ≡ at + length (entry_for w (before area) a)) }
+    ensures { (out.new ≡ store_at out.old at (entry_for w area.now a))
+        × (result ≡ at + length (entry_for w area.now a)) }
 {
     let size = value_size(a);
     big_endian::put_number(out, at, w, (size + 1) as u64);
@@ -89,7 +88,7 @@ fn put_entry(out: &mut [u8], at: usize, a: Slot, area: &[u8], w: usize) -> usize
 // Stores all entries after the header.
 fn put_body(slots: &[u32], area: &[u8], out: &mut [u8], w: usize)
     requires { BodyRoom w slots.now area.now (length out.old) }
-    ensures { after out ≡ store_at (before out) (header_size w) (body_for w (before slots) (before area)) }
+    ensures { out.new ≡ store_at out.old (header_size w) (body_for w slots.now area.now) }
 {
     let count = slots.len() / record::SLOT_WIDTH;
     let mut at = w + 1;
@@ -105,7 +104,7 @@ fn put_body(slots: &[u32], area: &[u8], out: &mut [u8], w: usize)
 pub fn fill(slots: &[u32], area: &[u8], out: &mut [u8], v: u8, w: usize, n: usize)
     requires { BodyRoom w slots.now area.now (length out.old)
         × (n ≡ header_size w + length (body_for w slots.now area.now)) }
-    ensures { after out ≡ store_at (before out) 0 (sheet_for v w (before slots) (before area)) }
+    ensures { out.new ≡ store_at out.old 0 (sheet_for v w slots.now area.now) }
 {
     out[0] = v;
     let body = n - (w + 1);

@@ -1,6 +1,7 @@
 // Slots in a run of numbers: reading one, setting one, and whether its value lies in the area.
+#![tactic(auto)]
+
 ghost use Rattle.std.specs.Prelude.{◌≡◌, ◌+◌, ◌*◌, ◌≤◌, ◌<◌, length};
-ghost use Rattle.layout.specs.Lent.{before, after};
 ghost use Rattle.record.specs.Table.{slot_width, number_limit, is_integers, item_size};
 ghost use Rattle.record.specs.Slots.{is_inside};
 ghost use Rattle.record.specs.inside.Slots.{SlotAt, slot_set};
@@ -13,7 +14,7 @@ pub mod sizes;
 // Reads slot number k.
 pub fn slot_at(slots: &[u32], k: usize) -> Slot
     requires { slot_width * k + slot_width ≤ length slots.now }
-    ensures { SlotAt (before slots) k result }
+    ensures { SlotAt slots.now k result }
 {
     let at = record::SLOT_WIDTH * k;
     Slot {
@@ -28,8 +29,8 @@ pub fn slot_at(slots: &[u32], k: usize) -> Slot
 pub fn set_slot(slots: &mut [u32], k: usize, kind: u32, start: usize, len: usize, position: usize)
     requires { (slot_width * k + slot_width ≤ length slots.old) × (start < number_limit) × (len < number_limit)
         × (position < number_limit) }
-    ensures { after slots
-        ≡ slot_set (before slots) k (record { kind = kind; start = start; len = len; position = position }) }
+    ensures { slots.new
+        ≡ slot_set slots.old k (record { kind = kind; start = start; len = len; position = position }) }
 {
     let at = record::SLOT_WIDTH * k;
     slots[at] = kind;

@@ -2,7 +2,6 @@
 use Rattle.std.specs.Prelude.{ℕ, ◌*◌, ◌≡◌, List, [], take, leb}
 use Rattle.layout.specs.declared.Refusal.TheVariants.{BadSize}
 use Rattle.layout.specs.Refusals.{if◌then◌else◌, refused}
-use Rattle.layout.specs.Lent.{Lent, before, after}
 use Rattle.record.specs.declared.ReadAnswer.{ReadAnswer}
 use Rattle.record.specs.Table.{max_slots, slot_width}
 use Rattle.record.specs.Reading.{read, read_steps, read_effect, ReadAll, with_steps, read_all}
@@ -33,7 +32,7 @@ read_first layout bs ns n area mark =
     else with_steps (read_effect (take (n * slot_width) ns) area mark [] (refused BadSize 0)) 0
 
 -- the answer r, the numbers of the first n slots and the area are what the reader leaves
-abbrev pub ReadsFirst : Lent → Lent → Lent → ℕ → Lent → ℕ → ReadAnswer → Type 0
-ReadsFirst layout bytes numbers n area mark r =
-    record { answer = r; slots = take (n * slot_width) (after numbers); area = after area }
-    ≡ read_first (before layout) (before bytes) (before numbers) n (before area) mark
+abbrev pub ReadsFirst : List ℕ → List ℕ → List ℕ → List ℕ → ℕ → List ℕ → List ℕ → ℕ → ReadAnswer → Type 0
+ReadsFirst layout bytes numbers numbers' n area area' mark r =
+    record { answer = r; slots = take (n * slot_width) numbers'; area = area' }
+    ≡ read_first layout bytes numbers n area mark

@@ -1,7 +1,6 @@
 // Slot records (document 01, Slot tables): a slice of them taken apart into numbers, and put together out of numbers,
 // for the calls of `pack` and `read`. The functions over slots are few and thin: proved by hand.
 ghost use Rattle.std.specs.Prelude.{◌≡◌, ◌++◌, ◌+◌, ◌*◌, ◌≤◌, length, take, drop};
-ghost use Rattle.layout.specs.Lent.{before, after};
 ghost use Rattle.record.specs.Table.{slot_width};
 ghost use Rattle.slots.specs.Slots.{max_numbers, slots_numbers, slots_from, slot_from, put_at, taken};
 
@@ -12,7 +11,7 @@ pub mod read;
 
 // A slot as a caller lends it: 16 bytes, four numbers of 32 bits. (`record::slots::Slot` holds the same four as numbers
 // that code counts with; it is read out of a run of numbers and never lent.)
-#[derive(Drop)]
+#[derive(Clone, Copy)]
 pub struct SlotRecord {
     pub kind: u32,
     pub start: u32,
@@ -27,7 +26,7 @@ pub const ROWS: usize = record::MAX_SLOTS + 1;
 // The slot that the numbers at a place make.
 fn slot_from(numbers: &[u32], at: usize) -> SlotRecord
     requires { at + slot_width ≤ length numbers.now }
-    ensures { result ≡ slot_from (before numbers) at }
+    ensures { result ≡ slot_from numbers.now at }
 {
     let kind = numbers[at];
     let start = numbers[at + 1];
@@ -44,7 +43,7 @@ fn slot_from(numbers: &[u32], at: usize) -> SlotRecord
 // The numbers of a slot, put at a place.
 fn put_slot(numbers: &mut [u32], at: usize, slot: SlotRecord)
     requires { at + slot_width ≤ length numbers.old }
-    ensures { after numbers ≡ put_at (before numbers) at slot }
+    ensures { numbers.new ≡ put_at numbers.old at slot }
 {
     numbers[at] = slot.kind;
     numbers[at + 1] = slot.start;
@@ -62,8 +61,8 @@ fn taken(count: usize) -> usize
 // Takes the slots apart into numbers, and tells how many.
 pub fn load(slots: &[SlotRecord], numbers: &mut [u32]) -> usize
     requires { max_numbers ≤ length numbers.old }
-    ensures { (result ≡ taken (length (before slots)))
-        × (after numbers ≡ slots_numbers (take result (before slots)) ++ drop (result * slot_width) (before numbers)) }
+    ensures { (result ≡ taken (length slots.now))
+        × (numbers.new ≡ slots_numbers (take result slots.now) ++ drop (result * slot_width) numbers.old) }
 {
     let count = taken(slots.len());
     let mut i = 0;
@@ -77,7 +76,7 @@ pub fn load(slots: &[SlotRecord], numbers: &mut [u32]) -> usize
 // Puts the first `count` slots together out of their numbers.
 pub fn save(slots: &mut [SlotRecord], numbers: &[u32], count: usize)
     requires { (count ≤ length slots.old) × (count * slot_width ≤ length numbers.now) }
-    ensures { after slots ≡ slots_from (take (count * slot_width) (before numbers)) ++ drop count (before slots) }
+    ensures { slots.new ≡ slots_from (take (count * slot_width) numbers.now) ++ drop count slots.old }
 {
     let mut i = 0;
     while i < count {

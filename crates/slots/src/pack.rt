@@ -1,6 +1,5 @@
 // Packing over a slice of slot records: the slots are taken apart into numbers, and the call is made over the numbers.
 ghost use Rattle.std.specs.Prelude.{◌≡◌, ◌≤◌, length};
-ghost use Rattle.layout.specs.Lent.{before, after};
 ghost use Rattle.record.specs.Packing.{pack};
 ghost use Rattle.slots.specs.Slots.{max_numbers, slots_numbers};
 ghost use Rattle.slots.specs.inside.pack.{pack_first};
@@ -18,8 +17,8 @@ fn pack_first(
     output: &mut [u8],
 ) -> Answer
     requires { max_numbers ≤ length numbers.now }
-    ensures { record { answer = result; output = after output }
-        ≡ pack_first (before layout) (before numbers) count (before area) (before output) }
+    ensures { record { answer = result; output = output.new }
+        ≡ pack_first layout.now numbers.now count area.now output.old }
 {
     if record::MAX_SLOTS < count {
         return Answer::refused(Refusal::BadSize, 0);
@@ -30,8 +29,8 @@ fn pack_first(
 
 // Packs the arguments into the output by the layout. A refusal changes nothing.
 pub fn pack_slots(layout: &[u8], slots: &[SlotRecord], area: &[u8], output: &mut [u8]) -> Answer
-    ensures { record { answer = result; output = after output }
-        ≡ pack (before layout) (slots_numbers (before slots)) (before area) (before output) }
+    ensures { record { answer = result; output = output.new }
+        ≡ pack layout.now (slots_numbers slots.now) area.now output.old }
 {
     let mut numbers = [0; record::MAX_NUMBERS];
     super::load(slots, &mut numbers);

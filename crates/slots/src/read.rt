@@ -1,7 +1,6 @@
 // Reading over a slice of slot records: the slots are taken apart into numbers, the call is made over the numbers, and
 // the slots are put together again.
 ghost use Rattle.std.specs.Prelude.{◌≡◌, ◌≤◌, length};
-ghost use Rattle.layout.specs.Lent.{before, after};
 ghost use Rattle.slots.specs.Slots.{max_numbers};
 ghost use Rattle.slots.specs.Reading.{ReadsFirst, read_slots};
 
@@ -19,7 +18,7 @@ fn read_first(
     mark: usize,
 ) -> ReadAnswer
     requires { max_numbers ≤ length numbers.old }
-    ensures { ReadsFirst layout bytes numbers count area mark result }
+    ensures { ReadsFirst layout.now bytes.now numbers.old numbers.new count area.old area.new mark result }
 {
     if record::MAX_SLOTS < count {
         return ReadAnswer {
@@ -40,8 +39,8 @@ pub fn read_slots(
     area: &mut [u8],
     mark: usize,
 ) -> ReadAnswer
-    ensures { record { answer = result; slots = after slots; area = after area }
-        ≡ read_slots (before layout) (before bytes) (before slots) (before area) mark }
+    ensures { record { answer = result; slots = slots.new; area = area.new }
+        ≡ read_slots layout.now bytes.now slots.old area.old mark }
 {
     let mut numbers = [0; record::MAX_NUMBERS];
     let count = super::load(slots, &mut numbers);

@@ -1,7 +1,6 @@
 // Packing over a table of slot records that goes by value: `slots::pack::pack_slots` on a part of it, so that a program
 // needs no walk by hand.
 ghost use Rattle.std.specs.Prelude.{◌≡◌, ◌≤◌, min, take};
-ghost use Rattle.layout.specs.Lent.{before, after};
 ghost use Rattle.record.specs.Packing.{pack};
 ghost use Rattle.slots.specs.Slots.{table_rows, slots_numbers};
 
@@ -17,8 +16,8 @@ fn pack_rows(
     output: &mut [u8],
 ) -> Answer
     requires { count ≤ table_rows }
-    ensures { record { answer = result; output = after output }
-        ≡ pack (before layout) (slots_numbers (take count slots)) (before area) (before output) }
+    ensures { record { answer = result; output = output.new }
+        ≡ pack layout.now (slots_numbers (take count slots)) area.now output.old }
 {
     let table = slots;
     slots::pack::pack_slots(layout, &table[..count], area, output)
@@ -33,8 +32,8 @@ pub fn pack_some(
     area: &[u8],
     output: &mut [u8],
 ) -> Answer
-    ensures { record { answer = result; output = after output }
-        ≡ pack (before layout) (slots_numbers (take (min count table_rows) slots)) (before area) (before output) }
+    ensures { record { answer = result; output = output.new }
+        ≡ pack layout.now (slots_numbers (take (min count table_rows) slots)) area.now output.old }
 {
     pack_rows(layout, slots, record::least(count, ROWS), area, output)
 }

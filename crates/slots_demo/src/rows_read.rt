@@ -8,7 +8,7 @@ use record::ReadAnswer;
 use slots::{ROWS, SlotRecord};
 
 // What a reading into a table by value leaves.
-#[derive(Drop)]
+#[derive(Clone, Copy)]
 pub struct Outcome {
     pub answer: ReadAnswer,
     pub slots: [SlotRecord; ROWS],
@@ -33,7 +33,7 @@ fn read_rows(
     mark: usize,
 ) -> Outcome
     requires { count ≤ table_rows }
-    ensures { ReadsRows layout bytes slots count area mark result }
+    ensures { ReadsRows layout.now bytes.now slots count area.old area.new mark result }
 {
     let mut table = slots;
     let answer = slots::read::read_slots(layout, bytes, &mut table[..count], area, mark);
@@ -49,7 +49,7 @@ pub fn read_some(
     area: &mut [u8],
     mark: usize,
 ) -> Outcome
-    ensures { ReadsRows layout bytes slots (min count table_rows) area mark result }
+    ensures { ReadsRows layout.now bytes.now slots (min count table_rows) area.old area.new mark result }
 {
     read_rows(layout, bytes, slots, record::least(count, ROWS), area, mark)
 }

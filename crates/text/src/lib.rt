@@ -1,7 +1,8 @@
 // `a` and `A`: strings, cut or padded when stored, and how long one is without its trailing blanks.
+#![tactic(auto)]
+
 ghost use Rattle.std.specs.Prelude.{◌≡◌, ◌+◌, ◌≤◌, length};
 ghost use Rattle.layout.specs.declared.Shape.TheVariants.{Text};
-ghost use Rattle.layout.specs.Lent.{before, after};
 ghost use Rattle.record.specs.Bytes.{part, store_at};
 ghost use Rattle.record.specs.Table.{max_record};
 ghost use Rattle.record.specs.Packing.{stored};
@@ -10,7 +11,7 @@ ghost use Rattle.record.specs.Reading.{is_blank, trimmed};
 // Stores n bytes of a string of `len` bytes that stands in the area, cut or padded.
 pub fn store(out: &mut [u8], at: usize, area: &[u8], start: usize, len: usize, n: usize, pad: u8)
     requires { (n ≤ max_record) × (at + n ≤ length out.old) × (start + len ≤ length area.now) }
-    ensures { after out ≡ store_at (before out) at (stored (Text pad) n (part (before area) start len)) }
+    ensures { out.new ≡ store_at out.old at (stored (Text pad) n (part area.now start len)) }
 {
     let kept = record::least(len, n);
     byte_runs::copy_block(out, at, area, start, kept);
@@ -27,7 +28,7 @@ fn is_blank(c: u8) -> bool
 // same.
 fn without_fours(input: &[u8], at: usize, n: usize) -> usize
     requires { at + n ≤ length input.now }
-    ensures { (result ≤ n) × (trimmed (part (before input) at result) ≡ trimmed (part (before input) at n)) }
+    ensures { (result ≤ n) × (trimmed (part input.now at result) ≡ trimmed (part input.now at n)) }
 {
     let mut k = n;
     while 4 <= k {
@@ -42,7 +43,7 @@ fn without_fours(input: &[u8], at: usize, n: usize) -> usize
 // How long n bytes of a record are without the spaces and zero bytes at their end.
 pub fn trimmed_len(input: &[u8], at: usize, n: usize) -> usize
     requires { at + n ≤ length input.now }
-    ensures { (result ≤ n) × (part (before input) at result ≡ trimmed (part (before input) at n)) }
+    ensures { (result ≤ n) × (part input.now at result ≡ trimmed (part input.now at n)) }
 {
     let mut k = without_fours(input, at, n);
     while 0 < k {

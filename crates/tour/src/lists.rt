@@ -5,7 +5,7 @@ use super::{layouts, plan_lines, reals, templates};
 use tour_text::{lines, print};
 
 // What the examples of a list show.
-#[derive(Drop)]
+#[derive(Clone, Copy)]
 pub enum Show {
     Records,
     Reals,

@@ -5,7 +5,7 @@ use super::{joined_lines, lossless_lines};
 use tour_text::{lines, print};
 
 // What the examples of a list show.
-#[derive(Drop)]
+#[derive(Clone, Copy)]
 pub enum Show {
     Lossless,
     Joined,

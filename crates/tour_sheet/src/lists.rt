@@ -4,7 +4,7 @@ use super::sheets::examples;
 use tour_text::lines;
 
 // What the examples of a list show.
-#[derive(Drop)]
+#[derive(Clone, Copy)]
 pub enum Show {
     Sheets,
     Means,

@@ -2,7 +2,7 @@
 // patterns in angle brackets, and `-` for a slot that is not set, as in `"abc" {3 -3 128} <3ff0000000000000> -`.
 
 // How many numbers of the slot run and how many bytes of the area are in use.
-#[derive(Drop)]
+#[derive(Clone, Copy)]
 pub struct Used {
     pub slots: usize,
     pub area: usize,
@@ -10,7 +10,7 @@ pub struct Used {
 
 // What has been read of the text: the kind of the value that stands open (UNSET: none), where it starts in the area and its
 // items so far; the digits of an item so far.
-#[derive(Drop)]
+#[derive(Clone, Copy)]
 struct State {
     open: u32,
     start: usize,

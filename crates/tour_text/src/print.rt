@@ -3,7 +3,7 @@ use libc::STDOUT_FILENO;
 use record::ReadAnswer;
 
 // How a byte is shown: as a character or `\x` and two digits, or as a space and two digits.
-#[derive(Drop)]
+#[derive(Clone, Copy)]
 pub enum Style {
     Escaped,
     Hex,

@@ -1,6 +1,5 @@
 -- What a table shows of its first slots, as the code finds it there.
 use Rattle.std.specs.Prelude.{ℕ, ◌*◌, ◌≤◌, ◌<◌, List, [], ◌∷◌, map, length, take, drop}
-use Rattle.layout.specs.Lent.{Lent, before}
 use Rattle.record.specs.Bytes.{part}
 use Rattle.record.specs.declared.slots.Slot.{Slot}
 use Rattle.record.specs.Table.{slot_width, max_area, slots_of, item_size}
@@ -26,8 +25,8 @@ unfolding slots_of
 shown_bytes slots area n = map (bytes_shown area) (take n (slots_of slots))
 
 -- the bytes that the first n slots show of a table and an area that are lent to a call; and the finding of field i
-abbrev pub shown_lent : Lent → Lent → ℕ → List (List ℕ)
-shown_lent slots area n = shown_bytes (before slots) (before area) n
+abbrev pub shown_lent : List ℕ → List ℕ → ℕ → List (List ℕ)
+shown_lent slots area n = shown_bytes slots area n
 
 abbrev pub finding_at : ℕ → List (List ℕ) → List (List ℕ) → List ℕ
 finding_at i first second = finding_of (drop i first) (drop i second)

@@ -3,7 +3,6 @@
 use Rattle.std.specs.Prelude.{ℕ, ◌*◌, ◌/◌, ◌≤◌, ◌≡◌, true, eqb}
 use Rattle.layout.specs.declared.Refusal.TheVariants.{BadSize}
 use Rattle.layout.specs.Refusals.{if◌then◌else◌}
-use Rattle.layout.specs.Lent.{Lent, before, after}
 use Rattle.record.specs.declared.Answer.{Answer}
 use Rattle.record.specs.Packing.{refusal}
 use Rattle.reader.specs.inside.Checks.{read_checked}
@@ -16,10 +15,10 @@ abbrev pub second_cut : Answer → Answer
 second_cut a = if eqb a.number 0 then refusal BadSize 0 else a
 
 -- the answer `second_cut` is returned as r, and written into the reply
-abbrev pub SecondRefused : Lent → Lent → Lent → Lent → Lent → ℕ → Type 0
-SecondRefused layout first slots area reply r =
-    let a = second_cut (read_checked (before layout) (before first) (before slots) (before area) 0) in
-    (r ≡ a.number) × (after reply ≡ reply_of a)
+abbrev pub SecondRefused : List ℕ → List ℕ → List ℕ → List ℕ → List ℕ → List ℕ → ℕ → Type 0
+SecondRefused layout first slots area reply reply' r =
+    let a = second_cut (read_checked layout first slots area 0) in
+    (r ≡ a.number) × (reply' ≡ reply_of a)
 
 -- tables of `first` and `second` bytes have at most eight slots, those of the second whole, and a report of `report`
 -- bytes has room for at most their findings

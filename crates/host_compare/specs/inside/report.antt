@@ -1,7 +1,6 @@
 -- What is written back of a comparison on numbers: the bytes of its slots and findings, and the reply.
 use Rattle.std.specs.Prelude.{ℕ, ◌+◌, ◌*◌, ◌≤◌, ◌≡◌, List, eqb, length, take}
 use Rattle.layout.specs.Refusals.{if◌then◌else◌}
-use Rattle.layout.specs.Lent.{Lent, before, after}
 use Rattle.record.specs.declared.Answer.{Answer}
 use Rattle.record.specs.Bytes.{part, store_at}
 use Rattle.record.specs.Table.{slot_width}
@@ -19,8 +18,8 @@ unfoldable pub put_back : Answer → List ℕ → List ℕ → List ℕ
 put_back a lent bytes = if eqb a.number 0 then store_at lent 0 bytes else lent
 
 -- what both tables and the report hold, once the answer a is given
-abbrev pub WrittenBack : Lent → Lent → Lent → Lent → Lent → Lent → Answer → Type 0
-WrittenBack fslots sslots report ns ms ks a =
-    (after fslots ≡ put_back a (before fslots) (numbers_bytes (take (a.first * slot_width) (before ns))))
-    × (after sslots ≡ put_back a (before sslots) (numbers_bytes (take (a.first * slot_width) (before ms))))
-    × (after report ≡ put_back a (before report) (numbers_bytes (part (before ks) 0 (report_width * a.first))))
+abbrev pub WrittenBack : List ℕ → List ℕ → List ℕ → List ℕ → List ℕ → List ℕ → List ℕ → List ℕ → List ℕ → Answer → Type 0
+WrittenBack fslots fslots' sslots sslots' report report' ns ms ks a =
+    (fslots' ≡ put_back a fslots (numbers_bytes (take (a.first * slot_width) ns)))
+    × (sslots' ≡ put_back a sslots (numbers_bytes (take (a.first * slot_width) ms)))
+    × (report' ≡ put_back a report (numbers_bytes (part ks 0 (report_width * a.first))))

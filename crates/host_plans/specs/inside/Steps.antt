@@ -3,7 +3,6 @@ use Rattle.std.specs.Prelude.{ℕ, ◌*◌, ◌/◌, ◌%◌, ◌≤◌, ◌≡�
 use Rattle.layout.specs.declared.Parsed.{Parsed}
 use Rattle.layout.specs.Refusals.{ok}
 use Rattle.layout.specs.Layout.{slot_count}
-use Rattle.layout.specs.Lent.{Lent, before, after}
 use Rattle.layout.specs.inside.Parsing.{decoded, Parses}
 use Rattle.record.specs.declared.Answer.{Answer}
 use Rattle.record.specs.Table.{slot_width, max_record}
@@ -28,10 +27,10 @@ pub record PackJudged (p : Parsed) (plan slots area output : List ℕ) : Type 0 
   pub fine : lengths_fit (length plan) (length slots / number_size) (length output) (length area) ≡ true
   pub parsed : Parses (plan_fields true plan) p plan
 
-abbrev pub PacksByPlan : Lent → Lent → Lent → Lent → Answer → Type 0
-PacksByPlan plan slots area out a =
-    record { answer = a; output = after out }
-    ≡ pack_plan (before plan) (numbers_in (before slots)) (before area) (before out)
+abbrev pub PacksByPlan : List ℕ → List ℕ → List ℕ → List ℕ → List ℕ → Answer → Type 0
+PacksByPlan plan slots area out out' a =
+    record { answer = a; output = out' }
+    ≡ pack_plan plan (numbers_in slots) area out
 
 -- the first n numbers of the plan are fields, and there is a slot for each that takes one
 pub record Packable (n : ℕ) (plan slots output : List ℕ) : Type 0 where
@@ -39,10 +38,10 @@ pub record Packable (n : ℕ) (plan slots output : List ℕ) : Type 0 where
   pub prepared : Prepared n plan (numbers_in slots)
   pub room : length output ≤ max_record
 
-abbrev pub PlanPacks : ℕ → Lent → Lent → Lent → Lent → Answer → Type 0
-PlanPacks n plan slots area out a =
-    record { answer = a; output = after out }
-    ≡ finishes (before plan) n (numbers_in (before slots)) (before area) (before out)
+abbrev pub PlanPacks : ℕ → List ℕ → List ℕ → List ℕ → List ℕ → List ℕ → Answer → Type 0
+PlanPacks n plan slots area out out' a =
+    record { answer = a; output = out' }
+    ≡ finishes plan n (numbers_in slots) area out
 
 -- ---- reading
 
@@ -53,10 +52,10 @@ pub record ReadJudged (p : Parsed) (plan bytes slots area : List ℕ) (mark : �
   pub fine : read_lent_fits (length plan) (length slots / number_size) (length bytes) (length area) mark ≡ true
   pub parsed : Parses (plan_fields false plan) p plan
 
-abbrev pub ReadsByPlan : Lent → Lent → Lent → Lent → ℕ → Lent → ℕ → Type 0
-ReadsByPlan plan bytes slots area mark reply r =
-    record { returned = r; slots = after slots; area = after area; reply = after reply }
-    ≡ steps_call (before slots) (read_plan (before plan) (before bytes) (numbers_in (before slots)) (before area) mark)
+abbrev pub ReadsByPlan : List ℕ → List ℕ → List ℕ → List ℕ → List ℕ → List ℕ → ℕ → List ℕ → List ℕ → ℕ → Type 0
+ReadsByPlan plan bytes slots slots' area area' mark reply reply' r =
+    record { returned = r; slots = slots'; area = area'; reply = reply' }
+    ≡ steps_call slots (read_plan plan bytes (numbers_in slots) area mark)
 
 -- the plan has n fields, of which `taken` take a slot
 pub record PlanReady (n taken : ℕ) (plan bytes slots area : List ℕ) (mark : ℕ) (reply : List ℕ) : Type 0 where

@@ -14,7 +14,7 @@ use Rattle.layout.specs.declared.Parsed.TheVariants.{Fields, Refused}
 use Rattle.layout.specs.declared.Found.{Found}
 use Rattle.layout.specs.declared.Found.TheVariants.{Item, Bad}
 use Rattle.layout.specs.Refusals.{if◌then◌else◌, Result, ok, refused}
-use Rattle.layout.specs.Layout.{max_layout, max_count, real_size, to_nat, takes_slot, slots_taken, flagged, digit_run, decimal, count_of, count_length, Step, field, bad, step_of, fields_from, slot_count}
+use Rattle.layout.specs.Layout.{max_layout, max_count, real_size, to_nat, slots_taken, flagged, digit_run, decimal, count_of, count_length, Step, field, bad, step_of, fields_from, slot_count}
 use Rattle.layout.specs.Codes.{last_integers, last_single, last_data, last_type, width_numbered, type_numbered, known, field_of, code_for}
 
 -- the bytes of a layout that is read into a small array; both ways of reading it answer the same

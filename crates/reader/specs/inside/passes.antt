@@ -3,7 +3,6 @@ use Rattle.std.specs.Prelude.{ℕ, ◌-◌, ◌*◌, ◌/◌, ◌≤◌, ◌≡�
 use Rattle.layout.specs.Refusals.{if◌then◌else◌}
 use Rattle.layout.specs.Layout.{max_layout, slot_count}
 use Rattle.layout.specs.inside.Parsing.{decoded}
-use Rattle.layout.specs.Lent.{Lent, before, after}
 use Rattle.record.specs.declared.Answer.{Answer}
 use Rattle.record.specs.declared.ReadAnswer.{ReadAnswer}
 use Rattle.record.specs.Table.{slot_width, max_slots, max_record, max_area, value_bytes}
@@ -42,7 +41,7 @@ read_codes n taken codes bs slots area mark =
     (put_all n codes bs slots area mark) slots area
 
 -- the answer r, the slots and the area are what a reading by the codes leaves
-abbrev pub ReadsCodes : ℕ → ℕ → Lent → Lent → Lent → Lent → ℕ → ReadAnswer → Type 0
-ReadsCodes n taken codes bytes slots area mark r =
-    record { answer = r; slots = after slots; area = after area }
-    ≡ read_codes n taken (before codes) (before bytes) (before slots) (before area) mark
+abbrev pub ReadsCodes : ℕ → ℕ → List ℕ → List ℕ → List ℕ → List ℕ → List ℕ → List ℕ → ℕ → ReadAnswer → Type 0
+ReadsCodes n taken codes bytes slots slots' area area' mark r =
+    record { answer = r; slots = slots'; area = area' }
+    ≡ read_codes n taken codes bytes slots area mark

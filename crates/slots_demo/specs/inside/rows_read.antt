@@ -1,6 +1,5 @@
 -- Reading over a part of a table of slot records.
 use Rattle.std.specs.Prelude.{ℕ, ◌≡◌, List, ◌++◌, take, drop}
-use Rattle.layout.specs.Lent.{Lent, before, after}
 use Rattle.slots.specs.declared.SlotRecord.{SlotRecord}
 use Rattle.slots.specs.Reading.{ReadSlots, read_slots}
 use Rattle.slots_demo.specs.declared.rows_read.Outcome.{Outcome}
@@ -15,7 +14,7 @@ unfolding read_slots
 read_part layout bs slots n area mark = with_rest (drop n slots) (read_slots layout bs (take n slots) area mark)
 
 -- what `read_part` leaves, as an outcome and the area
-abbrev pub ReadsRows : Lent → Lent → List SlotRecord → ℕ → Lent → ℕ → Outcome → Type 0
-ReadsRows layout bytes slots n area mark r =
-    record { answer = r.answer; slots = r.slots; area = after area }
-    ≡ read_part (before layout) (before bytes) slots n (before area) mark
+abbrev pub ReadsRows : List ℕ → List ℕ → List SlotRecord → ℕ → List ℕ → List ℕ → ℕ → Outcome → Type 0
+ReadsRows layout bytes slots n area area' mark r =
+    record { answer = r.answer; slots = r.slots; area = area' }
+    ≡ read_part layout bytes slots n area mark
