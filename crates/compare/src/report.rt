@@ -88,7 +88,7 @@ pub fn write(
     second_area: &[u8],
     m: usize,
 )
-    requires fields_in_bounds { report_width * fields ≤ length report.old }
+    requires room { report_width * fields ≤ length report.old }
     requires shows { Shows first_slots.now first_area.now n × Shows second_slots.now second_area.now m }
     ensures { report.new
         ≡ store_at report.old 0

@@ -80,7 +80,7 @@ pub fn load_binary(area: &mut [u8], to: usize, bytes: &[u8], at: usize, n: usize
     requires { (n ≤ max_area) × (to + n ≤ length area.old) × (at + ceil_div n 8 ≤ length bytes.now) }
     ensures within { area.new
         ≡ (steps (showing high bytes.now at to) n area.old (binary_budget n)).bytes }
-    ensures area_value { (u : Bool)
+    ensures effect { (u : Bool)
         → area.new
         ≡ store_at area.old to (loaded (Digits false high) u n (part bytes.now at (ceil_div n 8))).items }
 {
@@ -91,7 +91,7 @@ pub fn load_binary(area: &mut [u8], to: usize, bytes: &[u8], at: usize, n: usize
 fn write_hex(area: &mut [u8], to: usize, b: u8, left: usize, high: bool) -> usize
     requires { to + min 2 left ≤ length area.old }
     ensures count { result ≡ min 2 left }
-    ensures area_value { area.new ≡ store_at area.old to (take result (chars_of true high b)) }
+    ensures effect { area.new ≡ store_at area.old to (take result (chars_of true high b)) }
 {
     if left < 2 {
         super::chars::write(area, to, b, left, true, high);

@@ -134,7 +134,7 @@ pub fn store_binary(
         × FirstBits n area.now start len }
     ensures within { out.new
         ≡ (steps (storing high (part area.now start len) at) n out.old (binary_budget n)).bytes }
-    ensures out_value { out.new
+    ensures effect { out.new
         ≡ store_at out.old at (stored (Digits false high) n (part area.now start len)) }
 {
     store_steps(out, at, area, start, len, n, high, n / 8 + super::SPARE)

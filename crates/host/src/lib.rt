@@ -1,5 +1,7 @@
 // What the calls for a C host share: the sizes of the runs of bytes that are lent, and the replies. The numbers of a
 // run are in `numbers`.
+#![tactic(auto)]
+
 ghost use Rattle.std.specs.Prelude.{◌≡◌, eqb, length};
 ghost use Rattle.host.specs.Host.{reply_size, long_reply_size, reply_of, long_reply};
 ghost use Rattle.host.specs.inside.Small.{slot_bytes_fit, is_small};

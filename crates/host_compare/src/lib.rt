@@ -50,11 +50,11 @@ fn compare_by(
     second_room: &mut [u32],
     findings: &mut [u32],
 ) -> u32
-    requires reply_len { (length reply.old ≡ reply_size)
+    requires reply_size { (length reply.old ≡ reply_size)
         × (length findings.old ≡ min (length report.old / number_size) (report_width * max_slots)) }
-    requires first_slots_len { (length first_slots.old ≡ length first_room.old * number_size)
+    requires first_whole { (length first_slots.old ≡ length first_room.old * number_size)
         × (length first_room.old % slot_width ≡ 0) }
-    requires second_slots_len { (length second_slots.old ≡ length second_room.old * number_size)
+    requires second_whole { (length second_slots.old ≡ length second_room.old * number_size)
         × (length second_room.old % slot_width ≡ 0) }
     ensures { CompareServed layout.now first.now second.now first_slots.old first_slots.new first_area.old first_area.new second_slots.old second_slots.new second_area.old second_area.new report.old report.new
         reply.old reply.new result }

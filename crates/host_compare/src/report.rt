@@ -17,7 +17,7 @@ pub fn write_back(
     findings: &[u32],
     a: Answer,
 ) -> u32
-    requires reply_len { length reply.old ≡ reply_size }
+    requires reply_size { length reply.old ≡ reply_size }
     requires fits { a.number ≡ 0
         → Fits a.first first_slots.old second_slots.old report.old first_room.now second_room.now
         findings.now }

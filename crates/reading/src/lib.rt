@@ -37,7 +37,7 @@ pub fn fill(
     area: &mut [u8],
     mark: usize,
 ) -> ReadAnswer
-    requires n_in_bounds { (n ≤ length codes.now) × (length codes.now ≤ max_layout) × (length bytes.now ≤ max_record) }
+    requires sizes { (n ≤ length codes.now) × (length codes.now ≤ max_layout) × (length bytes.now ≤ max_record) }
     requires table_room { TableRoom (values_of n codes.now bytes.now) slots.old area.old mark }
     ensures { record { answer = result; slots = slots.new; area = area.new }
         ≡ put_all n codes.now bytes.now slots.old area.old mark }

@@ -21,7 +21,7 @@ pub fn put(
     u: bool,
     n: usize,
 ) -> usize
-    requires d_le_last_data { (d ≤ last_data) × Inside bytes.now at (shape_numbered d) n }
+    requires inside { (d ≤ last_data) × Inside bytes.now at (shape_numbered d) n }
     requires put_room { PutRoom (value_at bytes.now at (shape_numbered d) u n) slots.old k area.old to }
     ensures { PutAs (value_at bytes.now at (shape_numbered d) u n) at slots.old k area.old to result
         slots.new area.new }

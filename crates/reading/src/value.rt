@@ -43,7 +43,7 @@ fn text_len(bytes: &[u8], at: usize, n: usize, pad: u8) -> usize
 // Puts the value of a text of n bytes into the area.
 fn text(area: &mut [u8], to: usize, bytes: &[u8], at: usize, n: usize, pad: u8) -> Loaded
     requires inside { Inside bytes.now at (Text pad) n }
-    requires n_in_bounds { to + length (area_bytes (value_at bytes.now at (Text pad) false n)) ≤ length area.old }
+    requires room { to + length (area_bytes (value_at bytes.now at (Text pad) false n)) ≤ length area.old }
     ensures { (u : Bool) → LoadedAs (value_at bytes.now at (Text pad) u n) area.old to result area.new }
 {
     let k = text_len(bytes, at, n, pad);
@@ -66,7 +66,7 @@ fn digits(
     high: bool,
 ) -> Loaded
     requires inside { Inside bytes.now at (Digits hex high) n }
-    requires n_in_bounds { to + n ≤ length area.old }
+    requires room { to + n ≤ length area.old }
     ensures { (u : Bool)
         → LoadedAs (value_at bytes.now at (Digits hex high) u n) area.old to result area.new }
 {
@@ -108,8 +108,8 @@ fn integers(
     u: bool,
 ) -> Loaded
     requires inside { Inside bytes.now at (Integers w big) n }
-    requires n_in_bounds { to + n * 8 ≤ length area.old }
-    requires w_value { 8 % w ≡ 0 }
+    requires room { to + n * 8 ≤ length area.old }
+    requires whole { 8 % w ≡ 0 }
     ensures { LoadedAs (value_at bytes.now at (Integers w big) u n) area.old to result area.new }
 {
     integers::load::load(area, to, bytes, at, n, w, big, u);
@@ -131,7 +131,7 @@ fn reals(
     big: bool,
 ) -> Loaded
     requires inside { Inside bytes.now at (Reals single big) n }
-    requires n_in_bounds { to + n * 8 ≤ length area.old }
+    requires room { to + n * 8 ≤ length area.old }
     ensures { (u : Bool)
         → LoadedAs (value_at bytes.now at (Reals single big) u n) area.old to result area.new }
 {
@@ -154,8 +154,8 @@ pub fn load(
     u: bool,
     n: usize,
 ) -> Loaded
-    requires d_le_last_data { (d ≤ last_data) × Inside bytes.now at (shape_numbered d) n }
-    requires n_in_bounds { to + length (area_bytes (value_at bytes.now at (shape_numbered d) u n)) ≤ length area.old }
+    requires inside { (d ≤ last_data) × Inside bytes.now at (shape_numbered d) n }
+    requires room { to + length (area_bytes (value_at bytes.now at (shape_numbered d) u n)) ≤ length area.old }
     ensures { LoadedAs (value_at bytes.now at (shape_numbered d) u n) area.old to result area.new }
 {
     match d {

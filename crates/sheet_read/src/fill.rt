@@ -40,7 +40,7 @@ fn put(
     at: usize,
     w: usize,
 ) -> usize
-    requires w_le_integer_size { (w ≤ integer_size) × (begins_entry w (drop at sheet.now) ≡ true) × (at ≤ length sheet.now) }
+    requires entry { (w ≤ integer_size) × (begins_entry w (drop at sheet.now) ≡ true) × (at ≤ length sheet.now) }
     requires put_room { PutRoom (entry_in w (drop at sheet.now)) slots.old k area.old to }
     ensures { PutAs (entry_in w (drop at sheet.now)) slots.old k area.old to result slots.new
         area.new }
@@ -75,7 +75,7 @@ pub fn fill(
     area: &mut [u8],
     mark: usize,
 ) -> Answer
-    requires w_le_integer_size { (w ≤ integer_size) × (header_size w ≤ length sheet.now) × (count ≤ length (entries_at w sheet.now)) }
+    requires entries { (w ≤ integer_size) × (header_size w ≤ length sheet.now) × (count ≤ length (entries_at w sheet.now)) }
     requires room { Room (front_of w count sheet.now) slots.old area.old mark }
     ensures { record { answer = result; slots = slots.new; area = area.new }
         ≡ put_front w count sheet.now slots.old area.old mark }
