@@ -1,4 +1,6 @@
 // Binary and hex digits, `b B h H`: which characters are digits, and where a digit stands in its byte.
+#![tactic(auto)]
+
 ghost use Rattle.std.specs.Prelude.{◌≡◌, ◌&&◌, ◌+◌, ◌≤◌, ◌<◌, leb, ltb, length};
 ghost use Rattle.record.specs.Bytes.{part};
 ghost use Rattle.record.specs.Geometry.{base};

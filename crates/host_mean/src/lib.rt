@@ -1,4 +1,6 @@
 // The mean of the marked legs for a C host.
+#![tactic(auto)]
+
 ghost use Rattle.std.specs.Prelude.{◌≡◌, ◌*◌, ◌%◌, eqb, length};
 ghost use Rattle.record.specs.Table.{slot_width};
 ghost use Rattle.host.specs.Numbers.{number_size};

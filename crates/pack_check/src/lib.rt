@@ -1,4 +1,5 @@
 // The first pass of a packing: every argument checked, the length measured, nothing written.
+#![tactic(auto)]
 
 // The exact check of one argument.
 pub mod arguments;

@@ -1,5 +1,7 @@
 // The reader (Tcl's `binary scan`): the values that a layout shows of a record, put into a table of slots and a value
 // area. All is decided before anything is written.
+#![tactic(auto)]
+
 ghost use Rattle.std.specs.Prelude.{◌≡◌};
 ghost use Rattle.record.specs.Reading.{read_all};
 

@@ -1,5 +1,7 @@
 // The second pass of a reading over the fields: the values go into the area, and what the slots say of them into the
 // table.
+#![tactic(auto)]
+
 ghost use Rattle.std.specs.Prelude.{◌≡◌, ◌≤◌, length};
 ghost use Rattle.layout.specs.Layout.{max_layout};
 ghost use Rattle.record.specs.Table.{max_slots, max_record, max_area};

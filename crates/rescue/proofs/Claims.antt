@@ -6,7 +6,7 @@ use mathlib.Core.Bool.{true, ◌&&◌}
 use mathlib.Core.List.{List, [], ◌∷◌, map}
 use borrow.Author.Tests.{le-leb}
 use lib.Dec.{leb, ltb}
-use lib.ListN.{length, take, drop, length-take, take-append-drop}
+use lib.ListN.{length, take, drop, length-take}
 use lib.Seq.{take-append_seam, take_all, take-length, drop-nil, length-take-le}
 use Rattle.layout.specs.declared.Refusal.TheVariants.{BadSlot}
 use Rattle.layout.specs.Refusals.{ok}
@@ -18,12 +18,12 @@ use Rattle.record.specs.Reading.{Read}
 use Rattle.record.proofs.Tables.{slots-take, length-slots}
 use Rattle.sheet.specs.Entries.{Entry, body_bytes, entry_values, entries_in}
 use Rattle.sheet.specs.Sheet.{width_of, version_for, header_size, max_sheet, sheet_bytes, entry_of, entries_of, slot_writable, slots_writable, entries_numbers, version_of, version_known, width_in, entries_at, put_entries, read_sheet, write_sheet}
-use Rattle.sheet.specs.Claims.{seen, sheet_of, Stored}
+use Rattle.sheet.specs.Claims.{seen, sheet_of}
 use Rattle.sheet.specs.inside.Steps.{sheet_lent_fits, table_sheet}
 use Rattle.sheet.proofs.Entries.{AllSound}
-use Rattle.sheet.proofs.Tables.{slots-sound, same_seen, length-slot-numbers, front-few}
+use Rattle.sheet.proofs.Tables.{slots-sound, same_seen, length-slot-numbers}
 use Rattle.sheet.proofs.Calls.{lengths, lent, Wrote, wrote, wrote-short, write_done, header-there, ReadIt, read-it, read-put}
-use Rattle.sheet.proofs.Claims.{put_entries_lem, put_fit, length-entries, true-is, version-known, sheet-is, table_kept}
+use Rattle.sheet.proofs.Claims.{put_entries_lem, put_fit, length-entries, true-is, version-known, table_kept}
 use Rattle.rescue.specs.Rescue.{kept_in, dropped_of, filled_up, saved, Outcome, keeping, rescue}
 use Rattle.rescue.specs.Claims.{all_kept, SoundRead, WrittenSaved, slots_set_by, RescuedSaved, entries_for, CutStored, SavesFront, CutSaved}
 use Rattle.rescue.proofs.fill.Calls.{rescue-put, rescued-it}

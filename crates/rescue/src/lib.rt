@@ -1,5 +1,7 @@
 // Rescuing a damaged sheet (document 02, M-109 and M-111): what is whole at its front goes into the table, and the
 // slots after it are cleared. Here are the tests before that; `fill` does it.
+#![tactic(auto)]
+
 ghost use Rattle.std.specs.Prelude.{◌≡◌, ◌+◌, ◌≤◌, length, leb};
 ghost use Rattle.record.specs.Table.{integer_size};
 ghost use Rattle.rescue.specs.Rescue.{rescue};

@@ -1,5 +1,7 @@
 // A sheet read into a table of slots (document 02, M-100 and M-111). The first pass over the entries checks and
 // measures, the second writes. So a refusal writes nothing.
+#![tactic(auto)]
+
 ghost use Rattle.std.specs.Prelude.{◌≡◌};
 ghost use Rattle.sheet.specs.Sheet.{read_sheet};
 ghost use Rattle.sheet_read.specs.inside.Steps.{OpenedAs};

@@ -1,5 +1,7 @@
 // A table of slots stored as a sheet (document 02, M-100 and M-111). The first pass over the slots checks and measures,
 // the second writes (module `store`). So a refusal writes nothing.
+#![tactic(auto)]
+
 ghost use Rattle.std.specs.Prelude.{◌≡◌, ◌≤◌, ◌<◌};
 ghost use Rattle.record.specs.Table.{max_slots, number_limit};
 ghost use Rattle.sheet.specs.Sheet.{write_sheet};

@@ -1,5 +1,5 @@
 -- The bytes of the area that values take at most, by the fields alone.
-use Prim.Native.Nat.{ℕ, suc, ◌+◌, ◌-◌, ◌*◌, ◌/◌, ◌%◌, ◌≤◌, ◌<◌}
+use Prim.Native.Nat.{ℕ, ◌+◌, ◌-◌, ◌*◌, ◌/◌, ◌%◌, ◌≤◌, ◌<◌}
 use native.Mathlib.Nat.{le_refl, le_trans, le-div_iff_mul-le, div-mul-le_self, mul-le-mul}
 use native.Mathlib.Omega.{arith}
 use mathlib.Core.Path.{◌≡◌, refl}
@@ -14,7 +14,7 @@ use Rattle.layout.specs.declared.Shape.TheVariants.{Text, Digits, Integers, Real
 use Rattle.layout.specs.declared.Count.{Count}
 use Rattle.layout.specs.declared.Count.TheVariants.{Absent, Star, Times}
 use Rattle.layout.specs.declared.Field.{Field}
-use Rattle.layout.specs.Layout.{takes_slot, to_nat, real_size}
+use Rattle.layout.specs.Layout.{takes_slot, to_nat}
 use Rattle.layout.specs.Codes.{last_text, last_digits, last_integers, last_data, field_of, count_from, flag_unit, count_unit}
 use Rattle.layout.specs.inside.Parsing.{shape_numbered, decoded, FitRole}
 use Rattle.layout.proofs.Decoded.{code_shape, code-count, code-slotless, next_field, no_field}
