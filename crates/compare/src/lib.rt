@@ -1,5 +1,7 @@
 // Two copies of one record compared by their layout: for each value field whether both show the same value, and if not
 // where and how far they differ. Both readings are checked before anything is written.
+#![tactic(auto)]
+
 ghost use Rattle.compare.specs.Comparing.{Compares};
 ghost use Rattle.compare.specs.inside.Steps.{LayoutOpened};
 

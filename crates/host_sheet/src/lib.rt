@@ -1,4 +1,5 @@
 // Sheets for a C host: `write::write`, `read::read` and, for damaged ones, `damaged::rescue`.
+#![tactic(auto)]
 
 pub mod damaged;
 pub mod read;

@@ -1,4 +1,5 @@
 // The second pass of a packing: every field stored.
+#![tactic(auto)]
 
 // One value stored.
 pub mod stores;

@@ -1,5 +1,7 @@
 // The packer: a layout and a table of arguments become a record (Tcl's `binary format`). Everything is decided before
 // anything is written: sizes, layout, slot count, arguments and length; then the fields are stored.
+#![tactic(auto)]
+
 ghost use Rattle.std.specs.Prelude.{◌≡◌};
 ghost use Rattle.record.specs.Packing.{pack};
 ghost use Rattle.packer.specs.inside.Whole.{PackReady, PacksAsRead};

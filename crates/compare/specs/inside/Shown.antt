@@ -1,5 +1,5 @@
 -- What a table shows of its first slots, as the code finds it there.
-use Rattle.std.specs.Prelude.{ℕ, ◌*◌, ◌≤◌, ◌<◌, List, [], ◌∷◌, map, length, take, drop}
+use Rattle.std.specs.Prelude.{ℕ, ◌*◌, ◌≤◌, ◌<◌, List, map, length, take, drop}
 use Rattle.record.specs.Bytes.{part}
 use Rattle.record.specs.declared.slots.Slot.{Slot}
 use Rattle.record.specs.Table.{slot_width, max_area, slots_of, item_size}
@@ -7,7 +7,6 @@ use Rattle.record.specs.Packing.{next_slot}
 use Rattle.record.specs.Slots.{slot_at, value_end}
 use Rattle.compare.specs.Report.{finding_of}
 use Rattle.compare.specs.declared.report.Span.{Span}
-use Rattle.compare.specs.declared.difference.Finding.{Finding}
 
 -- how many bytes of the area a slot's value takes, where those of slot i lie, and which they are
 abbrev pub size_of : Slot → ℕ

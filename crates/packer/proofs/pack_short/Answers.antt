@@ -1,0 +1,28 @@
+-- A long layout is left to `pack`. A short one has room in the codes; the rest is as in `pack`.
+use mathlib.Core.Path.{◌≡◌, sym, ◌∙◌}
+use mathlib.Core.Bool.{true}
+use native.Mathlib.Omega.{arith}
+use lib.ListN.{length}
+use Rattle.record.specs.Geometry.{lengths_fit}
+use Rattle.packer.proofs.WholeLaws.{layout-sizes, layout-read, layout-packed}
+use borrow.Author.Rules.{rules}
+use Rattle.packer.proofs.pack_short.Goals as goal
+
+pub returns-then-layout-gt-SHORT_LAYOUT : goal.returns-then-layout-gt-SHORT_LAYOUT
+returns-then-layout-gt-SHORT_LAYOUT c = c.pack.ensures
+
+pub returns-then-not-lengths_fit : goal.returns-then-not-lengths_fit
+returns-then-not-lengths_fit c = rw c.refused.ensures (layout-sizes _ _ _ _ (sym c.lengths_fit.ensures ∙ c.if-not-lengths_fit.true))
+
+pub parse-p-requires : goal.parse-p-requires
+parse-p-requires c = (omega (arith, c.if-layout-gt-SHORT_LAYOUT.false), search rules)
+
+pub packed-requires : goal.packed-requires
+packed-requires c =
+    let fine : lengths_fit (length c.args.layout.now) (length c.args.slots.now) (length c.args.output.now) (length c.args.area.now) ≡ true = sym c.lengths_fit.ensures ∙ c.if-not-lengths_fit.false in
+    (_, _, layout-read _ _ _ _ (fine) c.parse-p.ensures)
+
+pub returns : goal.returns
+returns c =
+    let fine : lengths_fit (length c.args.layout.now) (length c.args.slots.now) (length c.args.output.now) (length c.args.area.now) ≡ true = sym c.lengths_fit.ensures ∙ c.if-not-lengths_fit.false in
+    layout-packed _ _ _ _ (fine) c.parse-p.ensures c.packed.ensures
