@@ -1,6 +1,6 @@
 # make                 proves the library and writes target/staticlib/libcurlew.a, the manual pages target/man3 and the command target/curlew
 # make demo            the same, and runs the exam-server example and the command
-# make test            proves everything from nothing and runs all tests; the last line is 'N passed, 0 failed'. It says which
+# make test            proves everything by rt ci and runs all tests; the last line is 'N passed, 0 failed'. It says which
 #                      programs are missing, and installs them where INSTALL=1 or CI is set
 # make check-c         the tests of hosts, installed copy, command, packages and Python, without proving again
 # make check-browser   looks at the page of `curlew show --html` in Chromium, for whoever changes that page; not part of make test
