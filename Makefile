@@ -79,11 +79,12 @@ demo: target/demo/exam_server target/curlew
 	@target/demo/exam_server
 	@examples/office.sh target/curlew
 
+# Under its other names it is copied, since rt ci refuses a checkout with links in it.
 $(SHARED): $(ARCHIVE) tools/curlew.map
 	@mkdir -p target/shared
 	$(CC) $(LDFLAGS) -shared -Wl,-soname,$(SONAME) -Wl,--version-script=tools/curlew.map -Wl,-z,defs,-z,relro,-z,now \
 		-Wl,--whole-archive $(ARCHIVE) -Wl,--no-whole-archive -o $@
-	@ln -sf $(OBJECT) target/shared/$(SONAME) && ln -sf $(SONAME) target/shared/libcurlew.so
+	@cp $@ target/shared/$(SONAME) && cp $@ target/shared/libcurlew.so
 
 shared: $(SHARED)
 
