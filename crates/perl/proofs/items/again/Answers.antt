@@ -1,5 +1,5 @@
 -- Every byte put is the one a text before it, so that the text goes on again and again.
-use Prim.Native.Nat.{suc, ◌-◌, ◌*◌, ◌≤◌}
+use Prim.Native.Nat.{ℕ, suc, ◌-◌, ◌*◌, ◌≤◌}
 use mathlib.Core.Path.{refl, sym, ◌∙◌}
 use native.Mathlib.Omega.{arith}
 use lib.ListN.{length-set}
@@ -9,21 +9,31 @@ use Rattle.perl.specs.Tokens.{max_repeat}
 use Rattle.perl.proofs.items.Blocks.{at_least_one, again-over, again-none, again-more, again-done}
 use Rattle.perl.proofs.items.again.Goals as goal
 
+-- nothing wraps
+small : (to end times : ℕ) → end ≤ suc max_layout → times ≤ max_repeat
+    → times * (end - to) ≤ max_repeat * suc max_layout
+small to end times h k = product_small times (end - to) max_repeat (suc max_layout) k (omega arith)
+
 pub overflow_mul-all : goal.overflow_mul-all
 overflow_mul-all c =
-    let small : c.args.times * (c.args.end - c.args.to) ≤ max_repeat * suc max_layout = product_small _ _ max_repeat (suc max_layout) c.requires.3 (let h : c.args.end - c.args.to ≤ suc max_layout = omega arith in h) in record { fits = omega (arith, small) }
+    record { fits = omega (arith, small c.args.to c.args.end c.args.times c.requires.1 c.requires.3) }
 
 pub overflow_add-to : goal.overflow_add-to
-overflow_add-to c =
-    let small : c.args.times * (c.args.end - c.args.to) ≤ max_repeat * suc max_layout = product_small _ _ max_repeat (suc max_layout) c.requires.3 (let h : c.args.end - c.args.to ≤ suc max_layout = omega arith in h) in record { fits = omega (arith, small) }
+overflow_add-to c = record { fits = omega (arith, small c.args.to c.args.end c.args.times c.requires.1 c.requires.3) }
 
 pub returns-then-to-all-gt-MAX_LAYOUT : goal.returns-then-to-all-gt-MAX_LAYOUT
-returns-then-to-all-gt-MAX_LAYOUT c = λ s d st. again-over s d _ _ _ _ c.requires.0 c.requires.2 (sym st.long ∙ c.requires.4) st c.if-to-all-gt-MAX_LAYOUT.true
+returns-then-to-all-gt-MAX_LAYOUT c =
+    let p = c.requires in
+    λ s d st. again-over s d _ _ _ _ p.0 p.2 (sym st.long ∙ p.4) st c.if-to-all-gt-MAX_LAYOUT.true
 
 pub loop-j-init : goal.loop-j-init
 loop-j-init c =
-    let p = c.requires in
-    (omega arith, at_least_one _ _ p.2, refl, λ s d st. again-none s d _ _ _ _ p.0 p.2 (sym st.long ∙ p.4) st c.if-to-all-gt-MAX_LAYOUT.false)
+    let p = c.requires in (
+      omega arith,
+      at_least_one _ _ p.2,
+      refl,
+      λ s d st. again-none s d _ _ _ _ p.0 p.2 (sym st.long ∙ p.4) st c.if-to-all-gt-MAX_LAYOUT.false,
+    )
 
 pub loop-j-preserved : goal.loop-j-preserved
 loop-j-preserved c =
@@ -32,14 +42,13 @@ loop-j-preserved c =
       omega arith,
       omega arith,
       simp length-set l.2,
-      λ s d st. again-more s d _ _ _ _ p.0 p.2 (sym st.long ∙ p.4) st c.if-to-all-gt-MAX_LAYOUT.false _ _ (l.3 s d st) l.0 c.loop-j-test.true,
+      λ s d st. again-more s d _ _ _ _ p.0 p.2 (sym st.long ∙ p.4) st c.if-to-all-gt-MAX_LAYOUT.false _ _ (l.3 s d st)
+          l.0 c.loop-j-test.true,
     )
-
-pub shape_of-out : goal.shape_of-out
-shape_of-out c = c.loop-j.invariant.2
 
 pub returns : goal.returns
 returns c =
     let l = c.loop-j.invariant in
     let p = c.requires in
-    λ s d st. again-done s d _ _ _ _ p.0 p.2 (sym st.long ∙ p.4) st c.if-to-all-gt-MAX_LAYOUT.false _ _ (l.3 s d st) (omega arith)
+    λ s d st. again-done s d _ _ _ _ p.0 p.2 (sym st.long ∙ p.4) st c.if-to-all-gt-MAX_LAYOUT.false _ _ (l.3 s d st)
+    (omega arith)

@@ -11,9 +11,12 @@ overflow_add-end c = record { fits = omega (arith, flag-short c.args.flagged) }
 
 pub returns-then-end-gt-MAX_LAYOUT : goal.returns-then-end-gt-MAX_LAYOUT
 returns-then-end-gt-MAX_LAYOUT c =
-    put-over c.args.out.now c.args.text.now c.args.to c.args.letter c.args.flagged c.args.start c.args.n _ c.letter_size.ensures c.requires.0 c.if-end-gt-MAX_LAYOUT.true
+    let a = c.args in
+    put-over a.out.now a.text.now a.to a.letter a.flagged a.start a.n _ c.letter_size.ensures c.requires.0
+    c.if-end-gt-MAX_LAYOUT.true
 
 pub returns : goal.returns
 returns c =
-    put_whole c.args.out.now c.args.text.now c.args.to c.args.letter c.args.flagged c.args.start c.args.n _ c.letter_size.ensures c.requires.0 c.requires.2
+    let a = c.args in
+    put_whole a.out.now a.text.now a.to a.letter a.flagged a.start a.n _ c.letter_size.ensures c.requires.0 c.requires.2
     c.if-end-gt-MAX_LAYOUT.false c.put_letter.ensures c.copy.ensures

@@ -2,6 +2,7 @@
 -- more, and each return is what the definition says of the piece that stands there.
 use native.Mathlib.Omega.{arith}
 use mathlib.Core.Path.{◌∙◌}
+use borrow.Author.Rules.{rules}
 use Rattle.perl.proofs.tokens.Numbers.{repeats}
 use Rattle.perl.proofs.readers.Turns.{letter-item, too-deep, group-bounds, group-stray, group-written, turn-space, turn-item, item-after, ends-top, ends_open, ends_close, ends-unopened, ends-empty, ends-bad}
 use Rattle.perl.proofs.readers.+item_sequence.Goals as goal
@@ -14,14 +15,14 @@ item-returns-then-depth-ge-MAX_DEPTH t c = too-deep _ _ _ _ _ c.if-c-ne40.false 
 
 pub item-overflow_add-close : goal.item-overflow_add-close
 item-overflow_add-close t c =
-    let h = group-bounds _ _ _ c.if-c-ne40.false c.if-depth-ge-MAX_DEPTH.false c.requires.0 _ _ _ _ c.sequence-inside.ensures
-    _ _ c.in-Read.is c.requires.3 in
+    let h = group-bounds _ _ _ c.if-c-ne40.false c.if-depth-ge-MAX_DEPTH.false c.requires.0 _ _ _ _
+    c.sequence-inside.ensures _ _ c.in-Read.is c.requires.3 in
     record { fits = omega (arith, h.0, c.requires.1) }
 
 pub item-again-all-requires : goal.item-again-all-requires
 item-again-all-requires t c =
-    let h = group-bounds _ _ _ c.if-c-ne40.false c.if-depth-ge-MAX_DEPTH.false c.requires.0 _ _ _ _ c.sequence-inside.ensures
-    _ _ c.in-Read.is c.requires.3 in
+    let h = group-bounds _ _ _ c.if-c-ne40.false c.if-depth-ge-MAX_DEPTH.false c.requires.0 _ _ _ _
+    c.sequence-inside.ensures _ _ c.in-Read.is c.requires.3 in
     let n = repeats _ _ _ c.number-n.ensures.0 c.repeat_of-times.ensures in
     (h.1, h.2, n.0, n.1, c.sequence-inside.ensures.long ∙ c.requires.2)
 
@@ -52,7 +53,7 @@ sequence-returns-then-filled t c =
 pub sequence-returns-then-c-eq41 : goal.sequence-returns-then-c-eq41
 sequence-returns-then-c-eq41 t c =
     ends-empty _ _ _ _ _ _ _ _ _ c.loop-i.invariant c.loop-i-test.true c.if-c-eq32.false c.if-c-eq41.true
-    c.if-depth-eq0.false c.if-filled.false
+    c.if-depth-eq0.false (search rules)
 
 pub sequence-returns-in-Stray : goal.sequence-returns-in-Stray
 sequence-returns-in-Stray t c =
@@ -61,8 +62,8 @@ sequence-returns-in-Stray t c =
 
 pub sequence-loop-i-smaller : goal.sequence-loop-i-smaller
 sequence-loop-i-smaller t c =
-    let after = item-after _ _ _ _ _ _ _ _ _ c.loop-i.invariant c.loop-i-test.true c.if-c-eq32.false c.if-c-eq41.false _ _
-    c.item-found.ensures _ _ c.in-Read.is in
+    let after = item-after _ _ _ _ _ _ _ _ _ c.loop-i.invariant c.loop-i-test.true c.if-c-eq32.false c.if-c-eq41.false
+    _ _ c.item-found.ensures _ _ c.in-Read.is in
     omega (arith, after)
 
 pub sequence-loop-i-preserved : goal.sequence-loop-i-preserved
