@@ -2,8 +2,8 @@
 use Prim.Native.Nat.{ℕ, ◌≤◌, ◌<◌, min}
 use native.Mathlib.Nat.{zero-add}
 use native.Mathlib.Omega.{arith}
-use mathlib.Core.Path.{◌≡◌, sym, ◌∙◌, subst, ap}
-use mathlib.Core.Bool.{Bool, false, ◌&&◌, and-false}
+use mathlib.Core.Path.{◌≡◌, ◌∙◌, subst, ap}
+use mathlib.Core.Bool.{false, ◌&&◌, and-false}
 use mathlib.Core.List.{List, ◌++◌}
 use borrow.Author.Tests.{le-leb, lt-leb}
 use lib.Dec.{leb}
@@ -16,7 +16,7 @@ use Rattle.record.specs.Packing.{accepted, refusal}
 use Rattle.record.proofs.Fields.{split}
 use Rattle.perl.specs.declared.items.Span.{Span}
 use Rattle.perl.specs.declared.items.Span.TheVariants.{Read, Stray}
-use Rattle.perl.specs.Template.{Template, ReadTo, read, stray, template_of}
+use Rattle.perl.specs.Template.{Template, ReadTo, read, template_of}
 use Rattle.perl.specs.inside.Readers.{items_from, template_text, Stored, Written}
 use Rattle.perl.proofs.items.Letters.{was_read, was-stray}
 use Rattle.perl.proofs.readers.Readings.{Ends, items-end}

@@ -1,5 +1,7 @@
 // Perl pack templates become our layout text (document 02, M-105).
 // The text is put into a block of its own by `readers`, so that nothing is written before all is decided.
+#![tactic(auto)]
+
 ghost use Rattle.std.specs.Prelude.{◌≡◌};
 ghost use Rattle.perl.specs.Conversion.{from_perl};
 

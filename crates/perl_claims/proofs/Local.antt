@@ -10,7 +10,7 @@ use Rattle.layout.specs.Refusals.{if◌then◌else◌}
 use Rattle.perl.specs.declared.tokens.Letter.{Letter}
 use Rattle.perl.specs.declared.tokens.Letter.TheVariants.{Taken, Unknown}
 use Rattle.perl.specs.Tokens.{max_template_count, max_depth, max_repeat, letter_of, continues, with_digit, number_in, digits_in}
-use Rattle.perl.specs.Template.{Template, Item, done, ReadTo, read, stray, letter_at, group_at, item_at, Piece, space, close, item, bad, piece_from, piece_at, piece_extra, is_item, and_then, piece_then, sequence}
+use Rattle.perl.specs.Template.{Template, Item, ReadTo, read, stray, letter_at, group_at, item_at, Piece, space, close, item, bad, piece_from, piece_at, piece_extra, is_item, and_then, piece_then, sequence}
 use Rattle.perl.proofs.readers.Readings.{Ends, StepEnds, ends, step_from, extra-within}
 
 -- the place after what was read, or of the stray byte

@@ -10,7 +10,7 @@ use Rattle.layout.specs.Layout.{max_layout}
 use Rattle.perl.specs.Tokens.{max_repeat, max_depth, letter_of, number_in, digits_in, repeat_of}
 use Rattle.perl.specs.declared.items.Span.{Span}
 use Rattle.perl.specs.declared.items.Span.TheVariants.{Read, Stray}
-use Rattle.perl.specs.Template.{Template, Item, done, next, group, ReadTo, read, stray, letter_at, group_at, and_then}
+use Rattle.perl.specs.Template.{Template, Item, done, group, ReadTo, read, stray, letter_at, group_at, and_then}
 use Rattle.perl.specs.Writing.{repeated}
 use Rattle.perl.specs.inside.Readers.{items_from, item_from, template_text, item_text, Stored, Again, Written}
 use Rattle.perl.proofs.items.Texts.{text-done, text-next, text-group}
