@@ -1,9 +1,11 @@
 // Both calls over slot records, without a walk by hand: a table of slots goes by value. A record is packed, read back,
 // and refused, a line for each; then none, one, the most and one more than the most slots go beside the same slots as
 // numbers: the two lines of a pair are the same.
-use libc::STDOUT_FILENO;
+#![tactic(auto)]
+
 use record::{Answer, ReadAnswer};
 use slots::SlotRecord;
+use std::io;
 
 // Packing from a table by value.
 mod rows_pack;
@@ -16,43 +18,43 @@ fn digit(n: u32) -> u8 {
 }
 
 // Writes the last three digits of a number, after a space.
-fn write_number(n: u32) {
+fn write_number(rt: &impl Print, n: u32) -> io::Result<()> {
     let text = [b' ', digit(n / 100), digit(n / 10), digit(n)];
-    io::write_all(STDOUT_FILENO, &text);
+    rt.write_all(&text)
 }
 
-fn write_answer(name: &[u8], a: Answer) {
-    io::write_all(STDOUT_FILENO, name);
-    write_number(a.number);
-    write_number(a.first);
-    write_number(a.second);
+fn write_answer(rt: &impl Print, name: &[u8], a: Answer) -> io::Result<()> {
+    rt.write_all(name)?;
+    write_number(rt, a.number)?;
+    write_number(rt, a.first)?;
+    write_number(rt, a.second)
 }
 
-fn write_read(name: &[u8], r: ReadAnswer) {
-    write_answer(name, r.answer);
-    write_number(r.steps);
+fn write_read(rt: &impl Print, name: &[u8], r: ReadAnswer) -> io::Result<()> {
+    write_answer(rt, name, r.answer)?;
+    write_number(rt, r.steps)
 }
 
-fn write_slot(s: SlotRecord) {
-    io::write_all(STDOUT_FILENO, b" ;");
-    write_number(s.kind);
-    write_number(s.start);
-    write_number(s.length);
-    write_number(s.position);
+fn write_slot(rt: &impl Print, s: SlotRecord) -> io::Result<()> {
+    rt.write_all(b" ;")?;
+    write_number(rt, s.kind)?;
+    write_number(rt, s.start)?;
+    write_number(rt, s.length)?;
+    write_number(rt, s.position)
 }
 
-fn write_byte(b: u8) {
-    write_number(b as u32);
+fn write_byte(rt: &impl Print, b: u8) -> io::Result<()> {
+    write_number(rt, b as u32)
 }
 
-fn write_record(bytes: &[u8; 5]) {
-    io::write_all(STDOUT_FILENO, b" ;");
-    write_byte(bytes[0]);
-    write_byte(bytes[1]);
-    write_byte(bytes[2]);
-    write_byte(bytes[3]);
-    write_byte(bytes[4]);
-    io::write_all(STDOUT_FILENO, b"\n");
+fn write_record(rt: &impl Print, bytes: &[u8; 5]) -> io::Result<()> {
+    rt.write_all(b" ;")?;
+    write_byte(rt, bytes[0])?;
+    write_byte(rt, bytes[1])?;
+    write_byte(rt, bytes[2])?;
+    write_byte(rt, bytes[3])?;
+    write_byte(rt, bytes[4])?;
+    rt.write_all(b"\n")
 }
 
 fn pair(first: SlotRecord, second: SlotRecord) -> [SlotRecord; slots::ROWS] {
@@ -62,7 +64,13 @@ fn pair(first: SlotRecord, second: SlotRecord) -> [SlotRecord; slots::ROWS] {
 }
 
 // Packs two slots over "abc", and the integers 5 and -3.
-fn show_pack(name: &[u8], first: SlotRecord, second: SlotRecord, bytes: &mut [u8; 5]) {
+fn show_pack(
+    rt: &impl Print,
+    name: &[u8],
+    first: SlotRecord,
+    second: SlotRecord,
+    bytes: &mut [u8; 5],
+) -> io::Result<()> {
     let a = rows_pack::pack_some(
         b"a3c2",
         pair(first, second),
@@ -70,19 +78,26 @@ fn show_pack(name: &[u8], first: SlotRecord, second: SlotRecord, bytes: &mut [u8
         b"abc\x00\x00\x00\x00\x00\x00\x00\x05\xff\xff\xff\xff\xff\xff\xff\xfd",
         bytes,
     );
-    write_answer(name, a);
-    write_record(bytes);
+    write_answer(rt, name, a)?;
+    write_record(rt, bytes)
 }
 
 // Reads into two slots, from the mark 4 on.
-fn show_read(name: &[u8], layout: &[u8], bytes: &[u8; 5], first: SlotRecord, second: SlotRecord) {
+fn show_read(
+    rt: &impl Print,
+    name: &[u8],
+    layout: &[u8],
+    bytes: &[u8; 5],
+    first: SlotRecord,
+    second: SlotRecord,
+) -> io::Result<()> {
     let mut area: [u8; 32] = [0; 32];
     let read = rows_read::read_some(layout, bytes, pair(first, second), 2, &mut area, 4);
-    write_read(name, read.answer);
+    write_read(rt, name, read.answer)?;
     let s = read.slots;
-    write_slot(s[0]);
-    write_slot(s[1]);
-    io::write_all(STDOUT_FILENO, b"\n");
+    write_slot(rt, s[0])?;
+    write_slot(rt, s[1])?;
+    rt.write_all(b"\n")
 }
 
 // The numbers of the rows of a table.
@@ -113,11 +128,11 @@ fn numbers() -> [u32; NUMBERS] {
     ns
 }
 
-fn write_bytes(first: u8, last: u8) {
-    io::write_all(STDOUT_FILENO, b" ;");
-    write_byte(first);
-    write_byte(last);
-    io::write_all(STDOUT_FILENO, b"\n");
+fn write_bytes(rt: &impl Print, first: u8, last: u8) -> io::Result<()> {
+    rt.write_all(b" ;")?;
+    write_byte(rt, first)?;
+    write_byte(rt, last)?;
+    rt.write_all(b"\n")
 }
 
 // Both calls over the first `end` numbers, or over all where there are fewer.
@@ -155,22 +170,22 @@ fn numbers_of(count: usize) -> usize {
     count * record::SLOT_WIDTH
 }
 
-fn pack_slots(layout: &[u8], count: usize) {
+fn pack_slots(rt: &impl Print, layout: &[u8], count: usize) -> io::Result<()> {
     let mut output: [u8; slots::ROWS] = [0; slots::ROWS];
     let a = rows_pack::pack_some(layout, table(), count, b"xyz", &mut output);
-    write_answer(b"pack", a);
-    write_bytes(output[0], output[record::MAX_SLOTS - 1]);
+    write_answer(rt, b"pack", a)?;
+    write_bytes(rt, output[0], output[record::MAX_SLOTS - 1])
 }
 
-fn pack_same(layout: &[u8], count: usize) {
+fn pack_same(rt: &impl Print, layout: &[u8], count: usize) -> io::Result<()> {
     let mut output: [u8; slots::ROWS] = [0; slots::ROWS];
     let ns = numbers();
     let a = pack_numbers(layout, &ns, numbers_of(count), &mut output);
-    write_answer(b"pack", a);
-    write_bytes(output[0], output[record::MAX_SLOTS - 1]);
+    write_answer(rt, b"pack", a)?;
+    write_bytes(rt, output[0], output[record::MAX_SLOTS - 1])
 }
 
-fn read_slots(layout: &[u8], count: usize) {
+fn read_slots(rt: &impl Print, layout: &[u8], count: usize) -> io::Result<()> {
     let mut area: [u8; 4 + slots::ROWS] = [0; 4 + slots::ROWS];
     let read = rows_read::read_some(
         layout,
@@ -180,48 +195,51 @@ fn read_slots(layout: &[u8], count: usize) {
         &mut area,
         4,
     );
-    write_read(b"read", read.answer);
+    write_read(rt, b"read", read.answer)?;
     let s = read.slots;
-    write_slot(s[0]);
-    write_slot(s[record::MAX_SLOTS - 1]);
-    write_bytes(area[4], area[3 + record::MAX_SLOTS]);
+    write_slot(rt, s[0])?;
+    write_slot(rt, s[record::MAX_SLOTS - 1])?;
+    write_bytes(rt, area[4], area[3 + record::MAX_SLOTS])
 }
 
 // Writes the row whose numbers start at a place.
-fn write_row(ns: &[u32], at: usize) {
+fn write_row(rt: &impl Print, ns: &[u32], at: usize) -> io::Result<()> {
     if ns.len() < 4 {
-        return;
+        return Ok(());
     }
     if ns.len() - 4 < at {
-        return;
+        return Ok(());
     }
-    write_slot(SlotRecord {
-        kind: ns[at],
-        start: ns[at + 1],
-        length: ns[at + 2],
-        position: ns[at + 3],
-    });
+    write_slot(
+        rt,
+        SlotRecord {
+            kind: ns[at],
+            start: ns[at + 1],
+            length: ns[at + 2],
+            position: ns[at + 3],
+        },
+    )
 }
 
-fn write_rows(ns: &[u32; NUMBERS]) {
-    write_row(ns, 0);
-    write_row(ns, record::MAX_NUMBERS - 4);
+fn write_rows(rt: &impl Print, ns: &[u32; NUMBERS]) -> io::Result<()> {
+    write_row(rt, ns, 0)?;
+    write_row(rt, ns, record::MAX_NUMBERS - 4)
 }
 
-fn read_same(layout: &[u8], count: usize) {
+fn read_same(rt: &impl Print, layout: &[u8], count: usize) -> io::Result<()> {
     let mut area: [u8; 4 + slots::ROWS] = [0; 4 + slots::ROWS];
     let mut ns = numbers();
     let answer = read_numbers(layout, &mut ns, numbers_of(count), &mut area);
-    write_read(b"read", answer);
-    write_rows(&ns);
-    write_bytes(area[4], area[3 + record::MAX_SLOTS]);
+    write_read(rt, b"read", answer)?;
+    write_rows(rt, &ns)?;
+    write_bytes(rt, area[4], area[3 + record::MAX_SLOTS])
 }
 
-fn each(layout: &[u8], count: usize) {
-    pack_slots(layout, count);
-    pack_same(layout, count);
-    read_slots(layout, count);
-    read_same(layout, count);
+fn each(rt: &impl Print, layout: &[u8], count: usize) -> io::Result<()> {
+    pack_slots(rt, layout, count)?;
+    pack_same(rt, layout, count)?;
+    read_slots(rt, layout, count)?;
+    read_same(rt, layout, count)
 }
 
 fn part(layout: &[u8], fields: usize) -> &[u8] {
@@ -232,9 +250,9 @@ fn part(layout: &[u8], fields: usize) -> &[u8] {
 }
 
 // All four calls by a layout of `fields` strings of one byte, over `count` slots.
-fn all(fields: usize, count: usize) {
+fn all(rt: &impl Print, fields: usize, count: usize) -> io::Result<()> {
     let layout: [u8; slots::ROWS] = [b'a'; slots::ROWS];
-    each(part(&layout, fields), count);
+    each(rt, part(&layout, fields), count)
 }
 
 fn string() -> SlotRecord {
@@ -264,26 +282,26 @@ fn unset() -> SlotRecord {
     }
 }
 
-fn readings(bytes: &[u8; 5]) {
-    show_read(b"read", b"a3c2", bytes, unset(), unset());
-    show_read(b"short", b"a4c2", bytes, unset(), unset());
-    show_read(b"refused", b"a3z", bytes, string(), integers());
+fn readings(rt: &impl Print, bytes: &[u8; 5]) -> io::Result<()> {
+    show_read(rt, b"read", b"a3c2", bytes, unset(), unset())?;
+    show_read(rt, b"short", b"a4c2", bytes, unset(), unset())?;
+    show_read(rt, b"refused", b"a3z", bytes, string(), integers())
 }
 
-fn two() {
+fn two(rt: &impl Print) -> io::Result<()> {
     let mut bytes: [u8; 5] = [0; 5];
-    show_pack(b"packed", string(), integers(), &mut bytes);
-    show_pack(b"refused", integers(), string(), &mut bytes);
-    readings(&bytes);
+    show_pack(rt, b"packed", string(), integers(), &mut bytes)?;
+    show_pack(rt, b"refused", integers(), string(), &mut bytes)?;
+    readings(rt, &bytes)
 }
 
-fn main() {
-    two();
-    all(0, 0);
-    all(1, 0);
-    all(1, 1);
-    all(2, 1);
-    all(record::MAX_SLOTS, record::MAX_SLOTS);
-    all(slots::ROWS, record::MAX_SLOTS);
-    all(slots::ROWS, slots::ROWS);
+fn main(rt: HostRuntime) -> io::Result<()> {
+    two(&rt)?;
+    all(&rt, 0, 0)?;
+    all(&rt, 1, 0)?;
+    all(&rt, 1, 1)?;
+    all(&rt, 2, 1)?;
+    all(&rt, record::MAX_SLOTS, record::MAX_SLOTS)?;
+    all(&rt, slots::ROWS, record::MAX_SLOTS)?;
+    all(&rt, slots::ROWS, slots::ROWS)
 }

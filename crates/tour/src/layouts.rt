@@ -7,39 +7,40 @@ use super::lists::Show;
 use byte_runs::big_endian;
 use describe::fields;
 use promises::Told;
+use std::io;
 use tour_text::print;
 use tour_text::print::Style;
 
-fn show(layout: &[u8], told: &[u8]) {
+fn show(rt: &impl Print, layout: &[u8], told: &[u8]) -> io::Result<()> {
     let a = describe::describe(layout);
-    print::call(b"describe", layout);
-    print::lent(told);
-    print::answer(a.number, a.first, a.second);
-    print::text(b"\n");
+    print::call(rt, b"describe", layout)?;
+    print::lent(rt, told)?;
+    print::answer(rt, a.number, a.first, a.second)?;
+    print::text(rt, b"\n")
 }
 
-fn told(t: Told) {
+fn told(rt: &impl Print, t: Told) -> io::Result<()> {
     let a = t.answer;
-    print::answer(a.number, a.first, a.second);
-    print::numbers(&[t.fourth]);
-    print::text(b"\n");
+    print::answer(rt, a.number, a.first, a.second)?;
+    print::numbers(rt, &[t.fourth])?;
+    print::text(rt, b"\n")
 }
 
-fn promises(layout: &[u8]) {
+fn promises(rt: &impl Print, layout: &[u8]) -> io::Result<()> {
     let t = promises::promises(layout);
-    print::call(b"promises", layout);
-    told(t);
+    print::call(rt, b"promises", layout)?;
+    told(rt, t)
 }
 
 // Asks whether a new layout extends an old one.
-fn extends(old: &[u8], new: &[u8]) {
+fn extends(rt: &impl Print, old: &[u8], new: &[u8]) -> io::Result<()> {
     let t = promises::extends(old, new);
-    print::text(b"extends '");
-    print::bytes(old, Style::Escaped);
-    print::text(b"|");
-    print::bytes(new, Style::Escaped);
-    print::text(b"'");
-    told(t);
+    print::text(rt, b"extends '")?;
+    print::bytes(rt, old, Style::Escaped)?;
+    print::text(rt, b"|")?;
+    print::bytes(rt, new, Style::Escaped)?;
+    print::text(rt, b"'")?;
+    told(rt, t)
 }
 
 // The eight numbers of a row, each four bytes.
@@ -50,39 +51,44 @@ const NUMBER_SIZE: usize = 4;
 const ROW_SIZE: usize = ROW_NUMBERS * NUMBER_SIZE;
 
 // A number of a row.
-fn number(n: u64) {
+fn number(rt: &impl Print, n: u64) -> io::Result<()> {
     match n {
-        4294967295 => print::text(b" -"),
-        4294967294 => print::text(b" *"),
+        4294967295 => print::text(rt, b" -"),
+        4294967294 => print::text(rt, b" *"),
         _ => {
-            print::text(b" ");
-            print::number(n);
+            print::text(rt, b" ")?;
+            print::number(rt, n)
         }
     }
 }
 
 // The number i of all rows: the first of a row begins a line, and the third is a character.
-fn shown(i: usize, n: u64) {
+fn shown(rt: &impl Print, i: usize, n: u64) -> io::Result<()> {
     match i % ROW_NUMBERS {
         0 => {
-            print::text(b"\n ");
-            number(n);
+            print::text(rt, b"\n ")?;
+            number(rt, n)
         }
         2 => {
-            print::text(b" ");
-            print::text(&[(n % 256) as u8]);
+            print::text(rt, b" ")?;
+            print::text(rt, &[(n % 256) as u8])
         }
-        _ => number(n),
+        _ => number(rt, n),
     }
 }
 
-fn rows(run: &[u8]) {
+fn rows(rt: &impl Print, run: &[u8]) -> io::Result<()> {
     let n = run.len() / NUMBER_SIZE;
     let mut i = 0;
     while i < n {
-        shown(i, big_endian::number_at(run, i * NUMBER_SIZE, NUMBER_SIZE));
+        shown(
+            rt,
+            i,
+            big_endian::number_at(run, i * NUMBER_SIZE, NUMBER_SIZE),
+        )?;
         i += 1;
     }
+    Ok(())
 }
 
 fn wide(b: u8) -> u64 {
@@ -90,42 +96,43 @@ fn wide(b: u8) -> u64 {
 }
 
 // The rows in the first `bytes` bytes of a run, and the byte after them.
-fn filled(run: &[u8], bytes: usize) {
+fn filled(rt: &impl Print, run: &[u8], bytes: usize) -> io::Result<()> {
     if run.len() <= bytes {
-        return;
+        return Ok(());
     }
-    rows(&run[0..bytes]);
-    print::text(b"\n  then");
-    number(wide(run[bytes]));
+    rows(rt, &run[0..bytes])?;
+    print::text(rt, b"\n  then")?;
+    number(rt, wide(run[bytes]))
 }
 
 // The fields of a layout, in a run of bytes 170.
-fn list(layout: &[u8], run: &mut [u8], told: &[u8]) {
+fn list(rt: &impl Print, layout: &[u8], run: &mut [u8], told: &[u8]) -> io::Result<()> {
     let a = fields::fields(layout, run);
-    print::call(b"fields", layout);
-    print::lent(told);
-    print::answer(a.number, a.first, a.second);
+    print::call(rt, b"fields", layout)?;
+    print::lent(rt, told)?;
+    print::answer(rt, a.number, a.first, a.second)?;
     if a.number == 0 {
-        filled(run, a.first as usize * ROW_SIZE);
+        filled(rt, run, a.first as usize * ROW_SIZE)?;
     }
-    print::text(b"\n");
+    print::text(rt, b"\n")
 }
 
 // An example: `d` and a layout that is described, `f` and one whose fields are listed, `s` and one whose fields are
 // listed in a run that holds one row, `p` and one whose promises are asked for, or `e`, an old layout and a new one.
-pub fn example(kind: u8, layout: &[u8], rest: &[u8]) {
+pub fn example(rt: &impl Print, kind: u8, layout: &[u8], rest: &[u8]) -> io::Result<()> {
     match kind {
-        b'd' => show(layout, b""),
-        b'p' => promises(layout),
-        b'e' => extends(layout, rest),
-        b'f' => list(layout, &mut [170; 16 * ROW_SIZE], b""),
-        b's' => list(layout, &mut [170; 2 * ROW_SIZE - 1], b"run of 63 bytes"),
-        _ => (),
+        b'd' => show(rt, layout, b""),
+        b'p' => promises(rt, layout),
+        b'e' => extends(rt, layout, rest),
+        b'f' => list(rt, layout, &mut [170; 16 * ROW_SIZE], b""),
+        b's' => list(rt, layout, &mut [170; 2 * ROW_SIZE - 1], b"run of 63 bytes"),
+        _ => Ok(()),
     }
 }
 
-fn counts() {
+fn counts(rt: &impl Print) -> io::Result<()> {
     lists::run(
+        rt,
         Show::Layouts,
         b"
 h |Layouts described: layout -> 0, slots, length
@@ -154,19 +161,20 @@ d a5@2a1@*a3@10a1|
 h |
 h |Limits
 ",
-    );
+    )
 }
 
 // Layouts of the full length, and one longer.
-fn limits() {
-    show(&[b'x'; 256], b"layout of 256 bytes");
-    show(&[b'c'; 256], b"layout of 256 bytes");
-    show(&[b'x'; 257], b"layout of 257 bytes");
+fn limits(rt: &impl Print) -> io::Result<()> {
+    show(rt, &[b'x'; 256], b"layout of 256 bytes")?;
+    show(rt, &[b'c'; 256], b"layout of 256 bytes")?;
+    show(rt, &[b'x'; 257], b"layout of 257 bytes")
 }
 
 // A shortest record that is longer than a record may be; then layouts that packing would refuse.
-fn refusals() {
+fn refusals(rt: &impl Print) -> io::Result<()> {
     lists::run(
+        rt,
         Show::Layouts,
         b"
 d w4096w4096|
@@ -181,12 +189,13 @@ d @|
 d x*|
 d a2x*|
 ",
-    );
+    )
 }
 
 // What layouts promise; 4294967295 stands for no place.
-fn promised() {
+fn promised(rt: &impl Print) -> io::Result<()> {
     lists::run(
+        rt,
         Show::Layouts,
         b"
 h |
@@ -213,26 +222,27 @@ e w32768|w32768
 e k|k
 e c|c x*
 ",
-    );
-    limit(&[b'c'; 64], b"64 fields");
-    limit(&[b'c'; 65], b"65 fields");
+    )?;
+    limit(rt, &[b'c'; 64], b"64 fields")?;
+    limit(rt, &[b'c'; 65], b"65 fields")
 }
 
 // A layout at the limit of slots: what it promises, and whether it is the empty layout with fields added.
-fn limit(layout: &[u8], size: &[u8]) {
+fn limit(rt: &impl Print, layout: &[u8], size: &[u8]) -> io::Result<()> {
     let p = promises::promises(layout);
-    print::call(b"promises", layout);
-    print::lent(size);
-    told(p);
+    print::call(rt, b"promises", layout)?;
+    print::lent(rt, size)?;
+    told(rt, p)?;
     let e = promises::extends(b"", layout);
-    print::call(b"extends", b"|..");
-    print::lent(size);
-    told(e);
+    print::call(rt, b"extends", b"|..")?;
+    print::lent(rt, size)?;
+    told(rt, e)
 }
 
 // Fields: place and bytes in the text, type, flag, count, slot, position, bytes in the record.
-fn listed() {
+fn listed(rt: &impl Print) -> io::Result<()> {
     lists::run(
+        rt,
         Show::Layouts,
         b"
 h |
@@ -258,25 +268,26 @@ s c|
 s cs|
 s c@|
 ",
-    );
+    )
 }
 
 // No field, and a layout of more fields than the run has rows.
-fn rooms() {
-    list(b"", &mut [0; 0], b"no run");
+fn rooms(rt: &impl Print) -> io::Result<()> {
+    list(rt, b"", &mut [0; 0], b"no run")?;
     list(
+        rt,
         &[b'c'; 256],
         &mut [170; 256 * ROW_SIZE - 1],
         b"run of 8191 bytes",
-    );
-    list(&[b'c'; 257], &mut [170; 1], b"layout of 257 bytes");
+    )?;
+    list(rt, &[b'c'; 257], &mut [170; 1], b"layout of 257 bytes")
 }
 
-pub fn main() {
-    counts();
-    limits();
-    refusals();
-    promised();
-    listed();
-    rooms();
+pub fn main(rt: &impl Print) -> io::Result<()> {
+    counts(rt)?;
+    limits(rt)?;
+    refusals(rt)?;
+    promised(rt)?;
+    listed(rt)?;
+    rooms(rt)
 }

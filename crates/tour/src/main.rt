@@ -1,4 +1,7 @@
 // The run-through program of packing, reading and layouts: a line for each call, held to the stored output.
+#![tactic(auto)]
+
+use std::io;
 
 // The manual's examples and the edges of document 01.
 mod records;
@@ -13,10 +16,10 @@ mod templates;
 // Lists of examples of them.
 mod lists;
 
-fn main() {
-    records::main();
-    reals::main();
-    layouts::main();
-    plan_lines::main();
-    templates::main();
+fn main(rt: HostRuntime) -> io::Result<()> {
+    records::main(&rt)?;
+    reals::main(&rt)?;
+    layouts::main(&rt)?;
+    plan_lines::main(&rt)?;
+    templates::main(&rt)
 }

@@ -4,26 +4,27 @@ use super::lists;
 use super::lists::Show;
 use layout::MAX_LAYOUT;
 use record::{MAX_NUMBERS, SLOT_WIDTH};
+use std::io;
 use tour_text::print::Style;
 use tour_text::{notation, print, values};
 
 // Prepares a layout into the run `room`, and prints the line.
-fn prepare(layout: &[u8], room: &mut [u32]) {
+fn prepare(rt: &impl Print, layout: &[u8], room: &mut [u32]) -> io::Result<()> {
     let a = plans::prepare(layout, room);
-    print::call(b"prepare", layout);
-    print::answer(a.number, a.first, a.second);
-    print::text(b"\n");
+    print::call(rt, b"prepare", layout)?;
+    print::answer(rt, a.number, a.first, a.second)?;
+    print::text(rt, b"\n")
 }
 
 // Prepares a layout into two numbers; and into as many as a layout can have fields.
-fn short(layout: &[u8]) {
+fn short(rt: &impl Print, layout: &[u8]) -> io::Result<()> {
     let mut room = [0u32; 2];
-    prepare(layout, &mut room);
+    prepare(rt, layout, &mut room)
 }
 
-fn long(layout: &[u8]) {
+fn long(rt: &impl Print, layout: &[u8]) -> io::Result<()> {
     let mut room = [0u32; MAX_LAYOUT];
-    prepare(layout, &mut room);
+    prepare(rt, layout, &mut room)
 }
 
 // The numbers of the plan that a layout has; none where it is refused.
@@ -36,97 +37,113 @@ fn fields(layout: &[u8], plan: &mut [u32]) -> usize {
 }
 
 // Packs by the first n numbers of a plan, which has as many, and prints the line.
-fn pack_by(plan: &[u32], n: usize, layout: &[u8], told: &[u8], slots: &[u32], area: &[u8]) {
+fn pack_by(
+    rt: &impl Print,
+    plan: &[u32],
+    n: usize,
+    layout: &[u8],
+    told: &[u8],
+    slots: &[u32],
+    area: &[u8],
+) -> io::Result<()> {
     if plan.len() < n {
-        return;
+        return Ok(());
     }
     let mut out = [0u8; 48];
     let a = plans::pack(&plan[0..n], slots, area, &mut out);
-    print::call(b"pack", layout);
-    print::lent(told);
-    print::answer(a.number, a.first, a.second);
-    print::result(a.number, a.first as usize, &out);
-    print::text(b"\n");
+    print::call(rt, b"pack", layout)?;
+    print::lent(rt, told)?;
+    print::answer(rt, a.number, a.first, a.second)?;
+    print::result(rt, a.number, a.first as usize, &out)?;
+    print::text(rt, b"\n")
 }
 
-fn packed(layout: &[u8], told: &[u8], slots: &[u32], area: &[u8]) {
+fn packed(
+    rt: &impl Print,
+    layout: &[u8],
+    told: &[u8],
+    slots: &[u32],
+    area: &[u8],
+) -> io::Result<()> {
     let mut plan = [0u32; MAX_LAYOUT];
     let n = fields(layout, &mut plan);
-    pack_by(&plan, n, layout, told, slots, area);
+    pack_by(rt, &plan, n, layout, told, slots, area)
 }
 
 // Packs the arguments that a text names.
-fn pack(layout: &[u8], told: &[u8]) {
+fn pack(rt: &impl Print, layout: &[u8], told: &[u8]) -> io::Result<()> {
     let mut slots = [0u32; MAX_NUMBERS];
     let mut area = [0u8; 64];
     let used = notation::parse(told, &mut slots, &mut area);
     packed(
+        rt,
         layout,
         told,
         notation::slots(&slots, used),
         notation::area(&area, used),
-    );
+    )
 }
 
 // Reads into three slots that are not set, by the first n numbers of a plan.
-fn read_by(plan: &[u32], n: usize, layout: &[u8], bytes: &[u8]) {
+fn read_by(rt: &impl Print, plan: &[u32], n: usize, layout: &[u8], bytes: &[u8]) -> io::Result<()> {
     if plan.len() < n {
-        return;
+        return Ok(());
     }
     let mut slots = [0u32; 3 * SLOT_WIDTH];
     let mut area = [7u8; 32];
     let r = plans::read(&plan[0..n], bytes, &mut slots, &mut area, 0);
     let a = r.answer;
-    print::call(b"read", layout);
-    print::shortened(bytes, Style::Hex);
-    print::read_answer(r);
-    values::result(a.number, &slots, &area);
-    print::text(b"\n");
+    print::call(rt, b"read", layout)?;
+    print::shortened(rt, bytes, Style::Hex)?;
+    print::read_answer(rt, r)?;
+    values::result(rt, a.number, &slots, &area)?;
+    print::text(rt, b"\n")
 }
 
-fn read(layout: &[u8], bytes: &[u8]) {
+fn read(rt: &impl Print, layout: &[u8], bytes: &[u8]) -> io::Result<()> {
     let mut plan = [0u32; MAX_LAYOUT];
     let n = fields(layout, &mut plan);
-    read_by(&plan, n, layout, bytes);
+    read_by(rt, &plan, n, layout, bytes)
 }
 
 // Packs no slots and reads no bytes by any numbers.
-fn forged(plan: &[u32]) {
+fn forged(rt: &impl Print, plan: &[u32]) -> io::Result<()> {
     let mut slots = [0u32; SLOT_WIDTH];
     let mut area = [0u8; 8];
     let mut out = [0u8; 8];
     let a = plans::pack(plan, &slots[..0], &area, &mut out);
-    print::text(b"plan");
-    print::numbers(plan);
-    print::answer(a.number, a.first, a.second);
+    print::text(rt, b"plan")?;
+    print::numbers(rt, plan)?;
+    print::answer(rt, a.number, a.first, a.second)?;
     let r = plans::read(plan, b"", &mut slots, &mut area, 0);
-    print::read_answer(r);
-    print::text(b"\n");
+    print::read_answer(rt, r)?;
+    print::text(rt, b"\n")
 }
 
-fn one(n: u32) {
+fn one(rt: &impl Print, n: u32) -> io::Result<()> {
     let plan = [n];
-    forged(&plan);
+    forged(rt, &plan)
 }
 
-fn two(n: u32, m: u32) {
+fn two(rt: &impl Print, n: u32, m: u32) -> io::Result<()> {
     let plan = [n, m];
-    forged(&plan);
+    forged(rt, &plan)
 }
 
-pub fn example(kind: u8, layout: &[u8], rest: &[u8]) {
+pub fn example(rt: &impl Print, kind: u8, layout: &[u8], rest: &[u8]) -> io::Result<()> {
     match kind {
-        b'r' => read(layout, rest),
-        b's' => short(layout),
-        b'm' => long(layout),
-        _ => pack(layout, rest),
+        b'r' => read(rt, layout, rest),
+        b's' => short(rt, layout),
+        b'm' => long(rt, layout),
+        _ => pack(rt, layout, rest),
     }
 }
 
 // Examples: `m`, a layout and a bar to prepare it into a long run, `s` into one of two numbers; `p`, a layout, a bar and
 // the arguments to pack by its plan; or `r`, a layout, a bar and the record to read by it.
-pub fn main() {
+pub fn main(rt: &impl Print) -> io::Result<()> {
     lists::run(
+        rt,
         Show::Plans,
         b"
 h |Layouts prepared: numbers of the plan, slots
@@ -164,17 +181,17 @@ r c c c c|\x01\x02
 h |
 h |Any numbers as a plan: packing, then reading
 ",
-    );
-    one(25);
-    one(255);
-    one(26);
-    one(16778776);
-    one(16778778);
-    one(4294967295);
-    two(25, 7);
-    two(26, 7);
+    )?;
+    one(rt, 25)?;
+    one(rt, 255)?;
+    one(rt, 26)?;
+    one(rt, 16778776)?;
+    one(rt, 16778778)?;
+    one(rt, 4294967295)?;
+    two(rt, 25, 7)?;
+    two(rt, 26, 7)?;
     let all = [25u32; MAX_LAYOUT];
-    forged(&all);
+    forged(rt, &all)?;
     let more = [25u32; MAX_LAYOUT + 1];
-    forged(&more);
+    forged(rt, &more)
 }

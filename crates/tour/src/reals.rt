@@ -3,56 +3,65 @@
 use super::lists;
 use super::lists::Show;
 use record::{MAX_NUMBERS, SLOT_WIDTH};
+use std::io;
 use tour_text::print::Style;
 use tour_text::{notation, print, values};
 
 // Packs, and prints the line.
-fn packed(layout: &[u8], told: &[u8], slots: &[u32], area: &[u8]) {
+fn packed(
+    rt: &impl Print,
+    layout: &[u8],
+    told: &[u8],
+    slots: &[u32],
+    area: &[u8],
+) -> io::Result<()> {
     let mut out = [0u8; 48];
     let a = packer::pack(layout, slots, area, &mut out);
-    print::call(b"pack", layout);
-    print::lent(told);
-    print::answer(a.number, a.first, a.second);
-    print::result(a.number, a.first as usize, &out);
-    print::text(b"\n");
+    print::call(rt, b"pack", layout)?;
+    print::lent(rt, told)?;
+    print::answer(rt, a.number, a.first, a.second)?;
+    print::result(rt, a.number, a.first as usize, &out)?;
+    print::text(rt, b"\n")
 }
 
 // Packs the arguments that a text names.
-fn pack(layout: &[u8], told: &[u8]) {
+fn pack(rt: &impl Print, layout: &[u8], told: &[u8]) -> io::Result<()> {
     let mut slots = [0u32; MAX_NUMBERS];
     let mut area = [0u8; 64];
     let used = notation::parse(told, &mut slots, &mut area);
     packed(
+        rt,
         layout,
         told,
         notation::slots(&slots, used),
         notation::area(&area, used),
-    );
+    )
 }
 
 // Reads into one slot that is not set.
-fn read(layout: &[u8], bytes: &[u8]) {
+fn read(rt: &impl Print, layout: &[u8], bytes: &[u8]) -> io::Result<()> {
     let mut slots = [0u32; SLOT_WIDTH];
     let mut area = [7u8; 32];
     let r = reader::read(layout, bytes, &mut slots, &mut area, 0);
     let a = r.answer;
-    print::call(b"read", layout);
-    print::shortened(bytes, Style::Hex);
-    print::read_answer(r);
-    values::result(a.number, &slots, &area);
-    print::text(b"\n");
+    print::call(rt, b"read", layout)?;
+    print::shortened(rt, bytes, Style::Hex)?;
+    print::read_answer(rt, r)?;
+    values::result(rt, a.number, &slots, &area)?;
+    print::text(rt, b"\n")
 }
 
-pub fn example(kind: u8, layout: &[u8], rest: &[u8]) {
+pub fn example(rt: &impl Print, kind: u8, layout: &[u8], rest: &[u8]) -> io::Result<()> {
     match kind {
-        b'r' => read(layout, rest),
-        _ => pack(layout, rest),
+        b'r' => read(rt, layout, rest),
+        _ => pack(rt, layout, rest),
     }
 }
 
 // Examples: `p`, a layout, a bar and the arguments to pack; or `r`, a layout, a bar and the record to read.
-pub fn main() {
+pub fn main(rt: &impl Print) -> io::Result<()> {
     lists::run(
+        rt,
         Show::Reals,
         b"
 h |Reals: examples of 001 to 003
@@ -120,5 +129,5 @@ h |Narrowed once and read, stored the same again
 r R|\x3f\xcc\xcc\xcd
 p R|<3ff99999a0000000>
 ",
-    );
+    )
 }

@@ -4,14 +4,16 @@ pub mod examples;
 mod packing;
 mod reading;
 
-pub fn main() {
-    examples::packings();
-    packing::sizes();
-    examples::outputs_and_readings();
-    reading::kept();
-    examples::places_and_refusals();
-    reading::sizes();
-    reading::areas();
-    examples::marks();
-    cuts::table();
+use std::io;
+
+pub fn main(rt: &impl Print) -> io::Result<()> {
+    examples::packings(rt)?;
+    packing::sizes(rt)?;
+    examples::outputs_and_readings(rt)?;
+    reading::kept(rt)?;
+    examples::places_and_refusals(rt)?;
+    reading::sizes(rt)?;
+    reading::areas(rt)?;
+    examples::marks(rt)?;
+    cuts::table(rt)
 }

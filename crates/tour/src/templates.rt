@@ -3,38 +3,40 @@
 use super::lists;
 use super::lists::Show;
 use layout::MAX_LAYOUT;
+use std::io;
 use tour_text::print;
 use tour_text::print::Style;
 
 // The layout of an accepted call, in quotes.
-fn result(number: u32, length: usize, layout: &[u8]) {
+fn result(rt: &impl Print, number: u32, length: usize, layout: &[u8]) -> io::Result<()> {
     if number != 0 {
-        return;
+        return Ok(());
     }
     if layout.len() < length {
-        return;
+        return Ok(());
     }
-    print::call(b":", &layout[0..length]);
+    print::call(rt, b":", &layout[0..length])
 }
 
 // Turns a template into a layout, and prints the line; `told` names what is lent.
-fn show(template: &[u8], told: &[u8], layout: &mut [u8]) {
+fn show(rt: &impl Print, template: &[u8], told: &[u8], layout: &mut [u8]) -> io::Result<()> {
     let a = perl::from_perl(template, layout);
-    print::call(b"perl", template);
-    print::lent(told);
-    print::answer(a.number, a.first, a.second);
-    result(a.number, a.first as usize, layout);
-    print::text(b"\n");
+    print::call(rt, b"perl", template)?;
+    print::lent(rt, told)?;
+    print::answer(rt, a.number, a.first, a.second)?;
+    result(rt, a.number, a.first as usize, layout)?;
+    print::text(rt, b"\n")
 }
 
 // Turns a template into a layout, in a buffer of the longest layout. In a list it stands between `t` and a bar.
-pub fn one(template: &[u8]) {
-    show(template, b"", &mut [0; MAX_LAYOUT]);
+pub fn one(rt: &impl Print, template: &[u8]) -> io::Result<()> {
+    show(rt, template, b"", &mut [0; MAX_LAYOUT])
 }
 
 // The request's own template; every letter, alone and with a count.
-fn letters() {
+fn letters(rt: &impl Print) -> io::Result<()> {
     lists::run(
+        rt,
         Show::Templates,
         b"
 t (n2a3)2 C|
@@ -54,12 +56,13 @@ t a1b2B3h4H5x6C7n8N9v10V11|
 t a4096|
 t V4096|
 ",
-    );
+    )
 }
 
 // A group written once, many times, inside others, and eight deep; spaces around items.
-fn groups() {
+fn groups(rt: &impl Print) -> io::Result<()> {
     lists::run(
+        rt,
         Show::Templates,
         b"
 t (a)|
@@ -79,12 +82,13 @@ t |
 t   |
 t  a |
 ",
-    );
+    )
 }
 
 // Number 15 in a count or a repeat, or where none can stand.
-fn bad_numbers() {
+fn bad_numbers(rt: &impl Print) -> io::Result<()> {
     lists::run(
+        rt,
         Show::Templates,
         b"
 t a4097|
@@ -104,12 +108,13 @@ t (2)|
 t a*|
 t (a)*|
 ",
-    );
+    )
 }
 
 // Number 15 at a letter or another byte.
-fn bad_letters() {
+fn bad_letters(rt: &impl Print) -> io::Result<()> {
     lists::run(
+        rt,
         Show::Templates,
         b"
 t A|
@@ -128,14 +133,15 @@ t au|
 t a,b|
 t a\tb|
 ",
-    );
-    one(b"a\nb");
-    one(b"a\x00");
+    )?;
+    one(rt, b"a\nb")?;
+    one(rt, b"a\x00")
 }
 
 // Number 15 at a parenthesis, or at the end of a template that stops too soon.
-fn bad_groups() {
+fn bad_groups(rt: &impl Print) -> io::Result<()> {
     lists::run(
+        rt,
         Show::Templates,
         b"
 t ()|
@@ -153,12 +159,13 @@ t (a)2(|
 t ( )|
 t (a |
 ",
-    );
+    )
 }
 
 // Number 11, which comes after 15; lengths far above any number of 32 bits.
-fn long_results() {
+fn long_results(rt: &impl Print) -> io::Result<()> {
     lists::run(
+        rt,
         Show::Templates,
         b"
 t ((a)64)4b|
@@ -168,65 +175,68 @@ t ((a)64)5(|
 t ((((((((a)64)64)64)64)64)64)64)64|
 t ((((((((a4096)64)64)64)64)64)64)64)64|
 ",
-    );
+    )
 }
 
 // Number 1, which comes before 15.
-fn long_templates() {
-    show(&[b'a'; 256], b"256 bytes", &mut [0; MAX_LAYOUT]);
-    show(&[b'a'; 257], b"257 bytes", &mut [0; MAX_LAYOUT]);
-    show(&[b' '; 256], b"256 bytes", &mut [0; MAX_LAYOUT]);
-    show(&[b'A'; 257], b"257 bytes", &mut [0; MAX_LAYOUT]);
+fn long_templates(rt: &impl Print) -> io::Result<()> {
+    show(rt, &[b'a'; 256], b"256 bytes", &mut [0; MAX_LAYOUT])?;
+    show(rt, &[b'a'; 257], b"257 bytes", &mut [0; MAX_LAYOUT])?;
+    show(rt, &[b' '; 256], b"256 bytes", &mut [0; MAX_LAYOUT])?;
+    show(rt, &[b'A'; 257], b"257 bytes", &mut [0; MAX_LAYOUT])
 }
 
 // Buffers as long as the result, shorter, empty, and longer than any layout.
-fn buffers() {
-    show(b"n2a3", b"buffer of 5 bytes", &mut [0; 5]);
-    show(b"n2a3", b"buffer of 4 bytes", &mut [0; 4]);
-    show(b"a", b"buffer of 0 bytes", &mut [0; 0]);
-    show(b" ", b"buffer of 0 bytes", &mut [0; 0]);
-    show(b"((a)64)4", b"buffer of 300 bytes", &mut [0; 300]);
-    show(b"((a)64)4b", b"buffer of 300 bytes", &mut [0; 300]);
+fn buffers(rt: &impl Print) -> io::Result<()> {
+    show(rt, b"n2a3", b"buffer of 5 bytes", &mut [0; 5])?;
+    show(rt, b"n2a3", b"buffer of 4 bytes", &mut [0; 4])?;
+    show(rt, b"a", b"buffer of 0 bytes", &mut [0; 0])?;
+    show(rt, b" ", b"buffer of 0 bytes", &mut [0; 0])?;
+    show(rt, b"((a)64)4", b"buffer of 300 bytes", &mut [0; 300])?;
+    show(rt, b"((a)64)4b", b"buffer of 300 bytes", &mut [0; 300])
 }
 
 // Turns a template into a layout in eight bytes aa, and prints all that they then hold.
-fn whole(template: &[u8]) {
+fn whole(rt: &impl Print, template: &[u8]) -> io::Result<()> {
     let mut layout = [0xaau8; 8];
     let a = perl::from_perl(template, &mut layout);
-    print::call(b"perl", template);
-    print::lent(b"buffer of eight bytes aa");
-    print::answer(a.number, a.first, a.second);
-    print::text(b"; buffer");
-    print::bytes(&layout, Style::Hex);
-    print::text(b"\n");
+    print::call(rt, b"perl", template)?;
+    print::lent(rt, b"buffer of eight bytes aa")?;
+    print::answer(rt, a.number, a.first, a.second)?;
+    print::text(rt, b"; buffer")?;
+    print::bytes(rt, &layout, Style::Hex)?;
+    print::text(rt, b"\n")
 }
 
 // What a call does not touch: the buffer after the layout, and all of it after a refusal.
-fn kept() {
-    whole(b"n2");
-    whole(b"");
-    whole(b"(a)8");
-    whole(b"(a)9");
-    whole(b"n2A");
-    whole(b"(n2");
+fn kept(rt: &impl Print) -> io::Result<()> {
+    whole(rt, b"n2")?;
+    whole(rt, b"")?;
+    whole(rt, b"(a)8")?;
+    whole(rt, b"(a)9")?;
+    whole(rt, b"n2A")?;
+    whole(rt, b"(n2")
 }
 
-fn refusals() {
-    print::heading(b"\nRefused: 15 and its place");
-    bad_numbers();
-    bad_letters();
-    bad_groups();
-    print::heading(b"\nRefused: 11, and 1");
-    long_results();
-    long_templates();
+fn refusals(rt: &impl Print) -> io::Result<()> {
+    print::heading(rt, b"\nRefused: 15 and its place")?;
+    bad_numbers(rt)?;
+    bad_letters(rt)?;
+    bad_groups(rt)?;
+    print::heading(rt, b"\nRefused: 11, and 1")?;
+    long_results(rt)?;
+    long_templates(rt)
 }
 
-pub fn main() {
-    print::heading(b"Perl templates: template -> number, first, second: layout");
-    letters();
-    groups();
-    refusals();
-    print::heading(b"\nBuffers");
-    buffers();
-    kept();
+pub fn main(rt: &impl Print) -> io::Result<()> {
+    print::heading(
+        rt,
+        b"Perl templates: template -> number, first, second: layout",
+    )?;
+    letters(rt)?;
+    groups(rt)?;
+    refusals(rt)?;
+    print::heading(rt, b"\nBuffers")?;
+    buffers(rt)?;
+    kept(rt)
 }

@@ -3,16 +3,18 @@
 mod comparing;
 pub mod examples;
 
-fn refusals() {
-    comparing::short_tables();
-    comparing::ragged_tables();
-    comparing::short_areas();
-    comparing::long_areas();
-    comparing::records();
+use std::io;
+
+fn refusals(rt: &impl Print) -> io::Result<()> {
+    comparing::short_tables(rt)?;
+    comparing::ragged_tables(rt)?;
+    comparing::short_areas(rt)?;
+    comparing::long_areas(rt)?;
+    comparing::records(rt)
 }
 
-pub fn main() {
-    examples::verdicts();
-    refusals();
-    examples::reports();
+pub fn main(rt: &impl Print) -> io::Result<()> {
+    examples::verdicts(rt)?;
+    refusals(rt)?;
+    examples::reports(rt)
 }

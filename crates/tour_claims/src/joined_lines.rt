@@ -3,92 +3,112 @@
 use super::lists;
 use super::lists::Show;
 use record::{Answer, MAX_NUMBERS, SLOT_WIDTH};
+use std::io;
 use tour_text::print::Style;
 use tour_text::{notation, print};
 
 // The rest of a line.
-fn ended(told: &[u8], a: Answer, out: &[u8]) {
-    print::lent(told);
-    print::answer(a.number, a.first, a.second);
-    print::text(b"; output");
-    print::bytes(out, Style::Hex);
-    print::text(b"\n");
+fn ended(rt: &impl Print, told: &[u8], a: Answer, out: &[u8]) -> io::Result<()> {
+    print::lent(rt, told)?;
+    print::answer(rt, a.number, a.first, a.second)?;
+    print::text(rt, b"; output")?;
+    print::bytes(rt, out, Style::Hex)?;
+    print::text(rt, b"\n")
 }
 
 fn parts(
+    rt: &impl Print,
     first: &[u8],
     first_slots: &[u32],
     second: &[u8],
     second_slots: &[u32],
     area: &[u8],
     told: &[u8],
-) {
+) -> io::Result<()> {
     let mut out = [0xaau8; 16];
     let a = joining::pack_both::pack_both(first, first_slots, second, second_slots, area, &mut out);
-    print::call(b"both", first);
-    print::call(b"", second);
-    ended(told, a, &out);
+    print::call(rt, b"both", first)?;
+    print::call(rt, b"", second)?;
+    ended(rt, told, a, &out)
 }
 
-fn whole(layout: &[u8], slots: &[u32], area: &[u8], told: &[u8]) {
+fn whole(
+    rt: &impl Print,
+    layout: &[u8],
+    slots: &[u32],
+    area: &[u8],
+    told: &[u8],
+) -> io::Result<()> {
     let mut out = [0xaau8; 16];
     let a = packer::pack(layout, slots, area, &mut out);
-    print::call(b"pack", layout);
-    ended(told, a, &out);
+    print::call(rt, b"pack", layout)?;
+    ended(rt, told, a, &out)
 }
 
 // Both lines: the first k bytes of the joined text are the first template, and the first n numbers of the slots are its
 // own.
-fn both(layout: &[u8], k: usize, slots: &[u32], n: usize, area: &[u8], told: &[u8]) {
+fn both(
+    rt: &impl Print,
+    layout: &[u8],
+    k: usize,
+    slots: &[u32],
+    n: usize,
+    area: &[u8],
+    told: &[u8],
+) -> io::Result<()> {
     if layout.len() < k {
-        return;
+        return Ok(());
     }
     if slots.len() < n {
-        return;
+        return Ok(());
     }
     parts(
+        rt,
         &layout[0..k],
         &slots[0..n],
         &layout[k..],
         &slots[n..],
         area,
         told,
-    );
-    whole(layout, slots, area, told);
+    )?;
+    whole(rt, layout, slots, area, told)
 }
 
 // The arguments that a text names.
-fn show(layout: &[u8], k: usize, n: usize, told: &[u8]) {
+fn show(rt: &impl Print, layout: &[u8], k: usize, n: usize, told: &[u8]) -> io::Result<()> {
     let mut slots = [0u32; MAX_NUMBERS];
     let mut area = [0u8; 64];
     let used = notation::parse(told, &mut slots, &mut area);
     both(
+        rt,
         layout,
         k,
         notation::slots(&slots, used),
         n,
         notation::area(&area, used),
         told,
-    );
+    )
 }
 
 // The low half of a digit's byte is its number.
-pub fn example(slots: u8, layout: &[u8], rest: &[u8]) {
+pub fn example(rt: &impl Print, slots: u8, layout: &[u8], rest: &[u8]) -> io::Result<()> {
     if rest.len() < 2 {
-        return;
+        return Ok(());
     }
     show(
+        rt,
         layout,
         (rest[0] % 16) as usize,
         (slots % 16) as usize * SLOT_WIDTH,
         &rest[2..],
-    );
+    )
 }
 
 // Examples: the number of slots that are the first template's, the texts joined, a bar, the number of bytes that are the
 // first template's, and the arguments.
-pub fn main() {
+pub fn main(rt: &impl Print) -> io::Result<()> {
     lists::run(
+        rt,
         Show::Joined,
         br#"
 h |Both, and joined: layouts, arguments -> number, first, second; output of sixteen bytes aa
@@ -121,5 +141,5 @@ The place of a refusal is one of the part.
 1 a2c|2 "ok" "no"
 1 a9a9|2 "one" "two"
 "#,
-    );
+    )
 }

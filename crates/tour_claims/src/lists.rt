@@ -2,6 +2,7 @@
 // bar is no example.
 use super::compare_lines::examples;
 use super::{joined_lines, lossless_lines};
+use std::io;
 use tour_text::{lines, print};
 
 // What the examples of a list show.
@@ -12,34 +13,35 @@ pub enum Show {
     Compared,
 }
 
-fn example(show: Show, letter: u8, layout: &[u8], rest: &[u8]) {
+fn example(rt: &impl Print, show: Show, letter: u8, layout: &[u8], rest: &[u8]) -> io::Result<()> {
     if letter == b'h' {
-        print::heading(rest);
-        return;
+        return print::heading(rt, rest);
     }
     match show {
-        Show::Lossless => lossless_lines::example(letter, layout, rest),
-        Show::Joined => joined_lines::example(letter, layout, rest),
-        Show::Compared => examples::records(letter, layout, rest),
+        Show::Lossless => lossless_lines::example(rt, letter, layout, rest),
+        Show::Joined => joined_lines::example(rt, letter, layout, rest),
+        Show::Compared => examples::records(rt, letter, layout, rest),
     }
 }
 
-fn line(show: Show, text: &[u8]) {
+fn line(rt: &impl Print, show: Show, text: &[u8]) -> io::Result<()> {
     if text.len() < 2 {
-        return;
+        return Ok(());
     }
     let bar = lines::find(text, 2, b'|');
     if bar < text.len() {
         let rest = bar + 1;
-        example(show, text[0], &text[2..bar], &text[rest..]);
+        example(rt, show, text[0], &text[2..bar], &text[rest..])?;
     }
+    Ok(())
 }
 
-pub fn run(show: Show, list: &[u8]) {
+pub fn run(rt: &impl Print, show: Show, list: &[u8]) -> io::Result<()> {
     let mut at = 0;
     while at < list.len() {
         let end = lines::find(list, at, b'\n');
-        line(show, &list[at..end]);
+        line(rt, show, &list[at..end])?;
         at = end + 1;
     }
+    Ok(())
 }

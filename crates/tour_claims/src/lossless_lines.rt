@@ -3,48 +3,56 @@
 use super::lists;
 use super::lists::Show;
 use record::SLOT_WIDTH;
+use std::io;
 use tour_text::print::Style;
 use tour_text::{print, values};
 
 // Reads from the mark 3 on, packs again, and prints the line; `told` names the table where it is not one slot for each
 // field.
-fn show(layout: &[u8], bytes: &[u8], told: &[u8], slots: &mut [u32]) {
+fn show(
+    rt: &impl Print,
+    layout: &[u8],
+    bytes: &[u8],
+    told: &[u8],
+    slots: &mut [u32],
+) -> io::Result<()> {
     let mut area = [7u8; 64];
     let mut out = [9u8; 16];
     let a = lossless::pack_again::read_and_pack(layout, bytes, slots, &mut area, 3, &mut out);
-    print::call(b"again", layout);
-    print::shortened(bytes, Style::Hex);
-    print::lent(told);
-    print::answer(a.number, a.first, a.second);
-    print::result(a.number, a.first as usize, &out);
-    values::result(a.number, slots, &area);
-    print::text(b"\n");
+    print::call(rt, b"again", layout)?;
+    print::shortened(rt, bytes, Style::Hex)?;
+    print::lent(rt, told)?;
+    print::answer(rt, a.number, a.first, a.second)?;
+    print::result(rt, a.number, a.first as usize, &out)?;
+    values::result(rt, a.number, slots, &area)?;
+    print::text(rt, b"\n")
 }
 
 // One layout of five fields, flagged or not.
-fn form(bytes: &[u8]) {
-    show(b"a2 SuB8hu2c", bytes, b"", &mut [9; 5 * SLOT_WIDTH]);
+fn form(rt: &impl Print, bytes: &[u8]) -> io::Result<()> {
+    show(rt, b"a2 SuB8hu2c", bytes, b"", &mut [9; 5 * SLOT_WIDTH])
 }
 
-fn one(layout: &[u8], bytes: &[u8]) {
-    show(layout, bytes, b"", &mut [9; SLOT_WIDTH]);
+fn one(rt: &impl Print, layout: &[u8], bytes: &[u8]) -> io::Result<()> {
+    show(rt, layout, bytes, b"", &mut [9; SLOT_WIDTH])
 }
 
-fn two(layout: &[u8], bytes: &[u8]) {
-    show(layout, bytes, b"two slots", &mut [9; 2 * SLOT_WIDTH]);
+fn two(rt: &impl Print, layout: &[u8], bytes: &[u8]) -> io::Result<()> {
+    show(rt, layout, bytes, b"two slots", &mut [9; 2 * SLOT_WIDTH])
 }
 
-pub fn example(kind: u8, layout: &[u8], rest: &[u8]) {
+pub fn example(rt: &impl Print, kind: u8, layout: &[u8], rest: &[u8]) -> io::Result<()> {
     match kind {
-        b'f' => form(rest),
-        b'2' => two(layout, rest),
-        _ => one(layout, rest),
+        b'f' => form(rt, rest),
+        b'2' => two(rt, layout, rest),
+        _ => one(rt, layout, rest),
     }
 }
 
 // Examples: the number of slots, a layout, a bar and the record; or `f`, a bar and a record of the form.
-pub fn main() {
+pub fn main(rt: &impl Print) -> io::Result<()> {
     lists::run(
+        rt,
         Show::Lossless,
         b"
 h |Read and packed again: layout, record -> number, first, second: bytes: values
@@ -71,5 +79,5 @@ A byte past the last field, and a slot over.
 1 c|\x07\x08
 2 c|\x07
 ",
-    );
+    )
 }

@@ -1,4 +1,7 @@
 // The run-through program of several calls together: a line for each, held to the stored output.
+#![tactic(auto)]
+
+use std::io;
 
 // Records read and packed again.
 mod lossless_lines;
@@ -9,8 +12,8 @@ mod compare_lines;
 // Lists of examples of them.
 mod lists;
 
-fn main() {
-    lossless_lines::main();
-    joined_lines::main();
-    compare_lines::main();
+fn main(rt: HostRuntime) -> io::Result<()> {
+    lossless_lines::main(&rt)?;
+    joined_lines::main(&rt)?;
+    compare_lines::main(&rt)
 }

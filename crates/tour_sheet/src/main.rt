@@ -1,4 +1,7 @@
 // The run-through program of sheets and marks: a line for each call, held to the stored output.
+#![tactic(auto)]
+
+use std::io;
 
 // Tables stored as sheets and read back.
 mod sheets;
@@ -9,8 +12,8 @@ mod means;
 // Lists of examples of them.
 mod lists;
 
-fn main() {
-    sheets::main();
-    rescues::main();
-    means::main();
+fn main(rt: HostRuntime) -> io::Result<()> {
+    sheets::main(&rt)?;
+    rescues::main(&rt)?;
+    means::main(&rt)
 }

@@ -6,6 +6,7 @@ use super::lists;
 use super::lists::Show;
 use mean::marks::{LegMean, Marks};
 use record::{MAX_AREA, MAX_NUMBERS, SLOT_WIDTH};
+use std::io;
 use tour_text::{notation, print};
 
 // The bit pattern of a mean; 0 where there is none.
@@ -25,51 +26,52 @@ fn is_marked(m: LegMean) -> bool {
     }
 }
 
-fn mean_told(m: LegMean)
+fn mean_told(rt: &impl Print, m: LegMean) -> io::Result<()>
     requires { Numeric m }
 {
     if is_marked(m) {
-        print::pattern(bits(m));
-        return;
+        return print::pattern(rt, bits(m));
     }
-    print::text(b"no leg marked");
+    print::text(rt, b"no leg marked")
 }
 
 // The line of a call; `told` names the table.
-fn line(told: &[u8], marks: Marks)
+fn line(rt: &impl Print, told: &[u8], marks: Marks) -> io::Result<()>
     requires { Numeric marks.mean }
 {
     let a = marks.answer;
     let m = marks.mean;
-    print::text(b"mean");
-    print::lent(told);
-    print::answer(a.number, a.first, a.second);
-    print::text(b": ");
-    mean_told(m);
-    print::text(b"\n");
+    print::text(rt, b"mean")?;
+    print::lent(rt, told)?;
+    print::answer(rt, a.number, a.first, a.second)?;
+    print::text(rt, b": ")?;
+    mean_told(rt, m)?;
+    print::text(rt, b"\n")
 }
 
-fn show(told: &[u8], slots: &[u32], area: &[u8]) {
+fn show(rt: &impl Print, told: &[u8], slots: &[u32], area: &[u8]) -> io::Result<()> {
     let marks = mean::mean(slots, area);
-    line(told, marks);
+    line(rt, told, marks)
 }
 
 // The table that a text names.
-pub fn example(told: &[u8]) {
+pub fn example(rt: &impl Print, told: &[u8]) -> io::Result<()> {
     let mut slots = [0u32; MAX_NUMBERS];
     let mut area = [0u8; 256];
     let used = notation::parse(told, &mut slots, &mut area);
     show(
+        rt,
         told,
         notation::slots(&slots, used),
         notation::area(&area, used),
-    );
+    )
 }
 
 // A leg that is not set changes the count alone, a leg of 0 the mean; quotients that are exact and that are not; a sum
 // above 24 bits.
-fn means() {
+fn means(rt: &impl Print) -> io::Result<()> {
     lists::run(
+        rt,
         Show::Means,
         b"{40} {60}
 {40} - {60}
@@ -86,25 +88,32 @@ fn means() {
 {999999} {1000000}
 {1000000} {1000000} {1000000} {1000000} {1000000} {1000000} {1000000} {1000000} {1000000} {1000000} {1000000} {1000000} {1000000} {1000000} {1000000} {1000000} {1000000}
 ",
-    );
+    )
 }
 
 // Tables of legs that nobody marked, and the table of no slots.
-fn unmarked() {
+fn unmarked(rt: &impl Print) -> io::Result<()> {
     lists::run(
+        rt,
         Show::Means,
         b"-
 - - -
 ",
-    );
-    example(b"");
-    show(b"slot 0 4294967295 7", &[0, 4294967295, 7, 0], b"");
-    show(b"as many slots as can be, none set", &[0; MAX_NUMBERS], b"");
+    )?;
+    example(rt, b"")?;
+    show(rt, b"slot 0 4294967295 7", &[0, 4294967295, 7, 0], b"")?;
+    show(
+        rt,
+        b"as many slots as can be, none set",
+        &[0; MAX_NUMBERS],
+        b"",
+    )
 }
 
 // Numbers 8, 9 and 14; within a slot in that order, and slot by slot.
-fn bad_legs() {
+fn bad_legs(rt: &impl Print) -> io::Result<()> {
     lists::run(
+        rt,
         Show::Means,
         br#""40"
 ""
@@ -119,63 +128,73 @@ fn bad_legs() {
 {5} "x" {1000001}
 {5} {1 2} {-1}
 "#,
-    );
+    )
 }
 
 // A table over the eight bytes of the integer 50.
-fn placed(told: &[u8], slots: &[u32]) {
-    show(told, slots, b"\x00\x00\x00\x00\x00\x00\x00\x32");
+fn placed(rt: &impl Print, told: &[u8], slots: &[u32]) -> io::Result<()> {
+    show(rt, told, slots, b"\x00\x00\x00\x00\x00\x00\x00\x32")
 }
 
 // Kind 3; number 8 for kind 4; number 7 for a kind, a start and a length.
-fn bad_slots() {
-    placed(b"slot 3 0 1 over {50}", &[3, 0, 1, 0]);
-    placed(b"slot 4 0 1 over {50}", &[4, 0, 1, 0]);
-    placed(b"slot 5 0 1 over {50}", &[5, 0, 1, 0]);
-    placed(b"slot 2 1 1 over {50}", &[2, 1, 1, 0]);
+fn bad_slots(rt: &impl Print) -> io::Result<()> {
+    placed(rt, b"slot 3 0 1 over {50}", &[3, 0, 1, 0])?;
+    placed(rt, b"slot 4 0 1 over {50}", &[4, 0, 1, 0])?;
+    placed(rt, b"slot 5 0 1 over {50}", &[5, 0, 1, 0])?;
+    placed(rt, b"slot 2 1 1 over {50}", &[2, 1, 1, 0])?;
     placed(
+        rt,
         b"slots 2 0 1, 2 0 1, 5 0 1 over {50}",
         &[2, 0, 1, 0, 2, 0, 1, 0, 5, 0, 1, 0],
-    );
+    )
 }
 
 // Number 7 comes before 8 and 9.
-fn bad_ends() {
-    placed(b"slot 2 0 2 over {50}", &[2, 0, 2, 0]);
-    placed(b"slot 1 8 1 over {50}", &[1, 8, 1, 0]);
-    placed(b"slot 2 9 0 over {50}", &[2, 9, 0, 0]);
-    placed(b"slot 2 8 0 over {50}", &[2, 8, 0, 0]);
+fn bad_ends(rt: &impl Print) -> io::Result<()> {
+    placed(rt, b"slot 2 0 2 over {50}", &[2, 0, 2, 0])?;
+    placed(rt, b"slot 1 8 1 over {50}", &[1, 8, 1, 0])?;
+    placed(rt, b"slot 2 9 0 over {50}", &[2, 9, 0, 0])?;
+    placed(rt, b"slot 2 8 0 over {50}", &[2, 8, 0, 0])
 }
 
 // A long array is lent as an array, and only its borrower takes it for a slice: where an array is made, the prover
 // counts a slice of it byte by byte.
-fn longer(area: &[u8; MAX_AREA + 1]) {
-    show(b"area over its size", &[4; SLOT_WIDTH], area);
+fn longer(rt: &impl Print, area: &[u8; MAX_AREA + 1]) -> io::Result<()> {
+    show(rt, b"area over its size", &[4; SLOT_WIDTH], area)
 }
 
 // Number 1, which comes before every slot.
-fn sizes() {
+fn sizes(rt: &impl Print) -> io::Result<()> {
     show(
+        rt,
         b"a slot more than can be",
         &[4; MAX_NUMBERS + SLOT_WIDTH],
         b"",
-    );
-    show(b"a number more than a slot", &[4; SLOT_WIDTH + 1], b"");
-    longer(&[0; MAX_AREA + 1]);
-    show(b"slot 3 0 1 over eight bytes 80", &[3, 0, 1, 0], &[0x80; 8]);
+    )?;
+    show(rt, b"a number more than a slot", &[4; SLOT_WIDTH + 1], b"")?;
+    longer(rt, &[0; MAX_AREA + 1])?;
+    show(
+        rt,
+        b"slot 3 0 1 over eight bytes 80",
+        &[3, 0, 1, 0],
+        &[0x80; 8],
+    )
 }
 
-fn refusals() {
-    print::heading(b"\nRefusals and limits");
-    bad_legs();
-    bad_slots();
-    bad_ends();
-    sizes();
+fn refusals(rt: &impl Print) -> io::Result<()> {
+    print::heading(rt, b"\nRefusals and limits")?;
+    bad_legs(rt)?;
+    bad_slots(rt)?;
+    bad_ends(rt)?;
+    sizes(rt)
 }
 
-pub fn main() {
-    print::heading(b"Means: table -> number, first, second: bits of the mean");
-    means();
-    unmarked();
-    refusals();
+pub fn main(rt: &impl Print) -> io::Result<()> {
+    print::heading(
+        rt,
+        b"Means: table -> number, first, second: bits of the mean",
+    )?;
+    means(rt)?;
+    unmarked(rt)?;
+    refusals(rt)
 }

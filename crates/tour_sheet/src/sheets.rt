@@ -4,20 +4,21 @@ pub mod examples;
 mod reading;
 mod writing;
 
+use std::io;
 use tour_text::print;
 
-fn written() {
-    examples::written();
-    writing::slots();
-    print::heading(b"\nWriting: refusals and limits");
-    writing::refusals();
-    writing::sizes();
-    writing::kept();
+fn written(rt: &impl Print) -> io::Result<()> {
+    examples::written(rt)?;
+    writing::slots(rt)?;
+    print::heading(rt, b"\nWriting: refusals and limits")?;
+    writing::refusals(rt)?;
+    writing::sizes(rt)?;
+    writing::kept(rt)
 }
 
-pub fn main() {
-    written();
-    examples::read();
-    reading::sizes();
-    examples::kept();
+pub fn main(rt: &impl Print) -> io::Result<()> {
+    written(rt)?;
+    examples::read(rt)?;
+    reading::sizes(rt)?;
+    examples::kept(rt)
 }

@@ -1,6 +1,6 @@
 // What a program prints: runs of bytes, numbers and answers, each written out at once.
-use libc::STDOUT_FILENO;
 use record::ReadAnswer;
+use std::io;
 
 // How a byte is shown: as a character or `\x` and two digits, or as a space and two digits.
 #[derive(Clone, Copy)]
@@ -9,25 +9,25 @@ pub enum Style {
     Hex,
 }
 
-pub fn text(run: &[u8]) {
-    io::write_all(STDOUT_FILENO, run);
+pub fn text(rt: &impl Print, run: &[u8]) -> io::Result<()> {
+    rt.write_all(run)
 }
 
-pub fn number(n: u64) {
-    io::print_decimal(STDOUT_FILENO, n);
+pub fn number(rt: &impl Print, n: u64) -> io::Result<()> {
+    rt.print(n)
 }
 
-fn small(n: u32) {
-    number(n as u64);
+fn small(rt: &impl Print, n: u32) -> io::Result<()> {
+    number(rt, n as u64)
 }
 
 // A pattern of 64 bits, as sixteen digits.
-pub fn pattern(bits: u64) {
-    io::print_hex(STDOUT_FILENO, bits, 16);
+pub fn pattern(rt: &impl Print, bits: u64) -> io::Result<()> {
+    print!(rt; "{bits:016x}")
 }
 
-fn hex_pair(b: u8) {
-    io::print_hex(STDOUT_FILENO, b as u64, 2);
+fn hex_pair(rt: &impl Print, b: u8) -> io::Result<()> {
+    print!(rt; "{b:02x}")
 }
 
 fn is_printable(b: u8) -> bool {
@@ -37,112 +37,112 @@ fn is_printable(b: u8) -> bool {
     b < 127
 }
 
-fn escaped(b: u8) {
+fn escaped(rt: &impl Print, b: u8) -> io::Result<()> {
     if is_printable(b) {
-        text(&[b]);
-        return;
+        return text(rt, &[b]);
     }
-    text(b"\\x");
-    hex_pair(b);
+    text(rt, b"\\x")?;
+    hex_pair(rt, b)
 }
 
-fn styled(b: u8, style: Style) {
+fn styled(rt: &impl Print, b: u8, style: Style) -> io::Result<()> {
     match style {
-        Style::Escaped => escaped(b),
+        Style::Escaped => escaped(rt, b),
         Style::Hex => {
-            text(b" ");
-            hex_pair(b);
+            text(rt, b" ")?;
+            hex_pair(rt, b)
         }
     }
 }
 
-pub fn bytes(run: &[u8], style: Style) {
+pub fn bytes(rt: &impl Print, run: &[u8], style: Style) -> io::Result<()> {
     let mut i = 0;
     while i < run.len() {
-        styled(run[i], style);
+        styled(rt, run[i], style)?;
         i += 1;
     }
+    Ok(())
 }
 
-fn gap(style: Style) {
+fn gap(rt: &impl Print, style: Style) -> io::Result<()> {
     match style {
-        Style::Escaped => text(b" .. "),
-        Style::Hex => text(b" .."),
+        Style::Escaped => text(rt, b" .. "),
+        Style::Hex => text(rt, b" .."),
     }
 }
 
 // A run of bytes; of a long one its first and last eight.
-pub fn shortened(run: &[u8], style: Style) {
+pub fn shortened(rt: &impl Print, run: &[u8], style: Style) -> io::Result<()> {
     if run.len() <= 48 {
-        bytes(run, style);
-        return;
+        return bytes(rt, run, style);
     }
     let last = run.len() - 8;
-    bytes(&run[0..8], style);
-    gap(style);
-    bytes(&run[last..], style);
+    bytes(rt, &run[0..8], style)?;
+    gap(rt, style)?;
+    bytes(rt, &run[last..], style)
 }
 
 // The bytes that an accepted call wrote at the front of a run.
-pub fn result(number: u32, length: usize, run: &[u8]) {
+pub fn result(rt: &impl Print, number: u32, length: usize, run: &[u8]) -> io::Result<()> {
     if number != 0 {
-        return;
+        return Ok(());
     }
     if run.len() < length {
-        return;
+        return Ok(());
     }
-    text(b":");
-    shortened(&run[0..length], Style::Hex);
+    text(rt, b":")?;
+    shortened(rt, &run[0..length], Style::Hex)
 }
 
 // A line of its own.
-pub fn heading(title: &[u8]) {
-    text(title);
-    text(b"\n");
+pub fn heading(rt: &impl Print, title: &[u8]) -> io::Result<()> {
+    text(rt, title)?;
+    text(rt, b"\n")
 }
 
 // What is called, and its layout or template in quotes.
-pub fn call(name: &[u8], layout: &[u8]) {
-    text(name);
-    text(b" '");
-    shortened(layout, Style::Escaped);
-    text(b"'");
+pub fn call(rt: &impl Print, name: &[u8], layout: &[u8]) -> io::Result<()> {
+    text(rt, name)?;
+    text(rt, b" '")?;
+    shortened(rt, layout, Style::Escaped)?;
+    text(rt, b"'")
 }
 
 // What is lent besides, if there is anything to say of it.
-pub fn lent(told: &[u8]) {
+pub fn lent(rt: &impl Print, told: &[u8]) -> io::Result<()> {
     if told.len() == 0 {
-        return;
+        return Ok(());
     }
-    text(b" ");
-    bytes(told, Style::Escaped);
+    text(rt, b" ")?;
+    bytes(rt, told, Style::Escaped)
 }
 
 // The three numbers of an answer.
-pub fn answer(n: u32, first: u32, second: u32) {
-    text(b" -> ");
-    small(n);
-    spaced(first);
-    spaced(second);
+pub fn answer(rt: &impl Print, n: u32, first: u32, second: u32) -> io::Result<()> {
+    text(rt, b" -> ")?;
+    small(rt, n)?;
+    spaced(rt, first)?;
+    spaced(rt, second)
 }
 
 // The three numbers of a reading's answer, and its steps.
-pub fn read_answer(r: ReadAnswer) {
+pub fn read_answer(rt: &impl Print, r: ReadAnswer) -> io::Result<()> {
     let a = r.answer;
-    answer(a.number, a.first, a.second);
-    spaced(r.steps);
+    answer(rt, a.number, a.first, a.second)?;
+    spaced(rt, r.steps)
 }
 
-fn spaced(n: u32) {
-    text(b" ");
-    small(n);
+fn spaced(rt: &impl Print, n: u32) -> io::Result<()> {
+    text(rt, b" ")?;
+    small(rt, n)
 }
 
 // Numbers, a space before each.
-pub fn numbers(run: &[u32]) {
+pub fn numbers(rt: &impl Print, run: &[u32]) -> io::Result<()> {
     let mut i = 0;
     while i < run.len() {
-        spaced(run[i]);
+        spaced(rt, run[i])?;
         i += 1;
     }
+    Ok(())
 }

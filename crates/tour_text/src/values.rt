@@ -4,6 +4,7 @@ use super::print;
 use super::print::Style;
 use byte_runs::big_endian;
 use record::{INTEGER_SIZE, SLOT_WIDTH};
+use std::io;
 
 // Of a table longer than this, only a few slots at either end are shown.
 const LONG: usize = 8 * SLOT_WIDTH;
@@ -21,80 +22,79 @@ fn part(run: &[u8], start: usize, n: usize) -> &[u8] {
     &run[start..end]
 }
 
-fn integer(n: u64, kind: u32) {
+fn integer(rt: &impl Print, n: u64, kind: u32) -> io::Result<()> {
     if kind == record::slots::REAL {
-        print::pattern(n);
-        return;
+        return print::pattern(rt, n);
     }
     if kind == record::slots::SIGNED {
         if 9223372036854775807 < n {
-            print::text(b"-");
-            print::number(18446744073709551615 - n + 1);
-            return;
+            print::text(rt, b"-")?;
+            return print::number(rt, 18446744073709551615 - n + 1);
         }
     }
-    print::number(n);
+    print::number(rt, n)
 }
 
 // What stands before an item: nothing before the first, else a space, after a comma or not.
-fn between(i: usize, comma: bool) {
+fn between(rt: &impl Print, i: usize, comma: bool) -> io::Result<()> {
     if i == 0 {
-        return;
+        return Ok(());
     }
     if comma {
-        print::text(b",");
+        print::text(rt, b",")?;
     }
-    print::text(b" ");
+    print::text(rt, b" ")
 }
 
-fn integers(run: &[u8], kind: u32) {
+fn integers(rt: &impl Print, run: &[u8], kind: u32) -> io::Result<()> {
     let n = run.len() / INTEGER_SIZE;
     let mut i = 0;
     while i < n {
-        between(i, false);
+        between(rt, i, false)?;
         integer(
+            rt,
             big_endian::number_at(run, i * INTEGER_SIZE, INTEGER_SIZE),
             kind,
-        );
+        )?;
         i += 1;
     }
+    Ok(())
 }
 
 // The integers in a run of bytes; of a long run the first two and the last two.
-fn few_integers(run: &[u8], kind: u32) {
+fn few_integers(rt: &impl Print, run: &[u8], kind: u32) -> io::Result<()> {
     if run.len() <= 128 {
-        integers(run, kind);
-        return;
+        return integers(rt, run, kind);
     }
     let last = run.len() - 16;
-    integers(&run[0..16], kind);
-    print::text(b" .. ");
-    integers(&run[last..], kind);
+    integers(rt, &run[0..16], kind)?;
+    print::text(rt, b" .. ")?;
+    integers(rt, &run[last..], kind)
 }
 
-fn list(run: &[u8], kind: u32) {
+fn list(rt: &impl Print, run: &[u8], kind: u32) -> io::Result<()> {
     if kind == record::slots::REAL {
-        print::text(b"<");
-        few_integers(run, kind);
-        print::text(b">");
-        return;
+        print::text(rt, b"<")?;
+        few_integers(rt, run, kind)?;
+        return print::text(rt, b">");
     }
-    print::text(b"{");
-    few_integers(run, kind);
-    print::text(b"}");
+    print::text(rt, b"{")?;
+    few_integers(rt, run, kind)?;
+    print::text(rt, b"}")
 }
 
-fn string(run: &[u8]) {
-    print::text(b"\"");
-    print::shortened(run, Style::Escaped);
-    print::text(b"\"");
+fn string(rt: &impl Print, run: &[u8]) -> io::Result<()> {
+    print::text(rt, b"\"")?;
+    print::shortened(rt, run, Style::Escaped)?;
+    print::text(rt, b"\"")
 }
 
-fn value(kind: u32, start: u32, length: u32, area: &[u8]) {
+fn value(rt: &impl Print, kind: u32, start: u32, length: u32, area: &[u8]) -> io::Result<()> {
     match kind {
-        record::slots::UNSET => print::text(b"not set"),
-        record::slots::STRING => string(part(area, start as usize, length as usize)),
+        record::slots::UNSET => print::text(rt, b"not set"),
+        record::slots::STRING => string(rt, part(area, start as usize, length as usize)),
         _ => list(
+            rt,
             part(area, start as usize, length as usize * INTEGER_SIZE),
             kind,
         ),
@@ -102,50 +102,50 @@ fn value(kind: u32, start: u32, length: u32, area: &[u8]) {
 }
 
 // The value of the slot whose numbers start at k, if there is one.
-fn slot(slots: &[u32], k: usize, area: &[u8]) {
+fn slot(rt: &impl Print, slots: &[u32], k: usize, area: &[u8]) -> io::Result<()> {
     if slots.len() < SLOT_WIDTH {
-        return;
+        return Ok(());
     }
     if slots.len() - SLOT_WIDTH < k {
-        return;
+        return Ok(());
     }
-    value(slots[k], slots[k + 1], slots[k + 2], area);
+    value(rt, slots[k], slots[k + 1], slots[k + 2], area)
 }
 
-fn all(slots: &[u32], area: &[u8]) {
+fn all(rt: &impl Print, slots: &[u32], area: &[u8]) -> io::Result<()> {
     let mut k = 0;
     while k < slots.len() {
-        between(k, true);
-        slot(slots, k, area);
+        between(rt, k, true)?;
+        slot(rt, slots, k, area)?;
         k += SLOT_WIDTH;
     }
+    Ok(())
 }
 
 // The values of a table; of a long one the first two and the last two.
-pub fn table(slots: &[u32], area: &[u8]) {
+pub fn table(rt: &impl Print, slots: &[u32], area: &[u8]) -> io::Result<()> {
     if slots.len() <= LONG {
-        all(slots, area);
-        return;
+        return all(rt, slots, area);
     }
     let last = slots.len() - FEW;
-    all(&slots[0..FEW], area);
-    print::text(b", .. ");
-    all(&slots[last..], area);
+    all(rt, &slots[0..FEW], area)?;
+    print::text(rt, b", .. ")?;
+    all(rt, &slots[last..], area)
 }
 
 // The values that an accepted call left.
-pub fn result(number: u32, slots: &[u32], area: &[u8]) {
+pub fn result(rt: &impl Print, number: u32, slots: &[u32], area: &[u8]) -> io::Result<()> {
     if number != 0 {
-        return;
+        return Ok(());
     }
-    print::text(b": ");
-    table(slots, area);
+    print::text(rt, b": ")?;
+    table(rt, slots, area)
 }
 
 // Every number and every byte of a table.
-pub fn whole(slots: &[u32], area: &[u8]) {
-    print::text(b"; slots");
-    print::numbers(slots);
-    print::text(b"; area");
-    print::bytes(area, Style::Hex);
+pub fn whole(rt: &impl Print, slots: &[u32], area: &[u8]) -> io::Result<()> {
+    print::text(rt, b"; slots")?;
+    print::numbers(rt, slots)?;
+    print::text(rt, b"; area")?;
+    print::bytes(rt, area, Style::Hex)
 }

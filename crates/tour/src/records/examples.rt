@@ -4,33 +4,35 @@
 use super::super::lists;
 use super::super::lists::Show;
 use super::{packing, reading};
+use std::io;
 
-fn packed(kind: u8, layout: &[u8], rest: &[u8]) {
+fn packed(rt: &impl Print, kind: u8, layout: &[u8], rest: &[u8]) -> io::Result<()> {
     match kind {
-        b'k' => packing::whole(layout),
-        b's' => packing::placed(layout, rest),
-        b'q' => packing::position(layout, rest),
-        b'f' => packing::far(layout, rest),
-        b'u' => packing::unsigned(layout, rest),
-        b'o' => packing::two(layout, rest),
-        b'l' => packing::at_limit(layout, rest),
-        b'a' => packing::above_limit(layout, rest),
-        _ => packing::example(layout, rest),
+        b'k' => packing::whole(rt, layout),
+        b's' => packing::placed(rt, layout, rest),
+        b'q' => packing::position(rt, layout, rest),
+        b'f' => packing::far(rt, layout, rest),
+        b'u' => packing::unsigned(rt, layout, rest),
+        b'o' => packing::two(rt, layout, rest),
+        b'l' => packing::at_limit(rt, layout, rest),
+        b'a' => packing::above_limit(rt, layout, rest),
+        _ => packing::example(rt, layout, rest),
     }
 }
 
-pub fn example(kind: u8, layout: &[u8], rest: &[u8]) {
+pub fn example(rt: &impl Print, kind: u8, layout: &[u8], rest: &[u8]) -> io::Result<()> {
     match kind {
-        b'1' => reading::one(layout, rest),
-        b'2' => reading::two(layout, rest),
-        b'8' => reading::eight(layout, rest),
-        b'w' => reading::whole(layout),
-        _ => packed(kind, layout, rest),
+        b'1' => reading::one(rt, layout, rest),
+        b'2' => reading::two(rt, layout, rest),
+        b'8' => reading::eight(rt, layout, rest),
+        b'w' => reading::whole(rt, layout),
+        _ => packed(rt, kind, layout, rest),
     }
 }
 
-pub fn packings() {
+pub fn packings(rt: &impl Print) -> io::Result<()> {
     lists::run(
+        rt,
         Show::Records,
         b"
 h |Packing: layout, arguments -> number, first, second: bytes of the result
@@ -114,11 +116,12 @@ s a*|slot 1 3 0, area of 2 bytes
 f a|slot 1 4294967295 1, area of 2 bytes
 s c|slot 2 0 1, area of 2 bytes
 ",
-    );
+    )
 }
 
-pub fn outputs_and_readings() {
+pub fn outputs_and_readings(rt: &impl Print) -> io::Result<()> {
     lists::run(
+        rt,
         Show::Records,
         b"
 
@@ -204,11 +207,12 @@ The examples of 01, and what it rules beyond them.
 h |
 h |Reading: a table that holds an earlier reading
 ",
-    );
+    )
 }
 
-pub fn places_and_refusals() {
+pub fn places_and_refusals(rt: &impl Print) -> io::Result<()> {
     lists::run(
+        rt,
         Show::Records,
         b"
 h |
@@ -226,11 +230,12 @@ h |Reading: refusals and limits
 1 a@|ab
 1 cc|
 ",
-    );
+    )
 }
 
-pub fn marks() {
+pub fn marks(rt: &impl Print) -> io::Result<()> {
     lists::run(
+        rt,
         Show::Records,
         b"
 
@@ -247,5 +252,5 @@ w a2z|
 h |
 h |Demand 3: both records, every cut, both layouts
 ",
-    );
+    )
 }

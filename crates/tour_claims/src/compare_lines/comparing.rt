@@ -1,24 +1,32 @@
 // Calls on two tables and areas.
 use record::{MAX_AREA, MAX_RECORD, SLOT_WIDTH};
+use std::io;
 use tour_text::print::Style;
 use tour_text::{print, values};
 
 // The layout, both records, and what is lent besides.
-fn lent(layout: &[u8], first: &[u8], second: &[u8], told: &[u8]) {
-    print::call(b"compare", layout);
-    print::shortened(first, Style::Hex);
-    print::text(b" with");
-    print::shortened(second, Style::Hex);
-    print::lent(told);
+fn lent(
+    rt: &impl Print,
+    layout: &[u8],
+    first: &[u8],
+    second: &[u8],
+    told: &[u8],
+) -> io::Result<()> {
+    print::call(rt, b"compare", layout)?;
+    print::shortened(rt, first, Style::Hex)?;
+    print::text(rt, b" with")?;
+    print::shortened(rt, second, Style::Hex)?;
+    print::lent(rt, told)
 }
 
-fn report_told(report: &[u32]) {
-    print::text(b"; report");
-    print::numbers(report);
+fn report_told(rt: &impl Print, report: &[u32]) -> io::Result<()> {
+    print::text(rt, b"; report")?;
+    print::numbers(rt, report)
 }
 
 // Compares, and prints the line; `told` names what is lent besides.
 fn show(
+    rt: &impl Print,
     layout: &[u8],
     first: &[u8],
     second: &[u8],
@@ -28,7 +36,7 @@ fn show(
     second_slots: &mut [u32],
     second_area: &mut [u8],
     report: &mut [u32],
-) {
+) -> io::Result<()> {
     let a = compare::compare(
         layout,
         first,
@@ -39,14 +47,22 @@ fn show(
         second_area,
         report,
     );
-    lent(layout, first, second, told);
-    print::answer(a.number, a.first, a.second);
-    report_told(report);
+    lent(rt, layout, first, second, told)?;
+    print::answer(rt, a.number, a.first, a.second)?;
+    report_told(rt, report)
 }
 
 // Compares into tables and areas of its own: three value fields at most.
-pub fn own(layout: &[u8], first: &[u8], second: &[u8], told: &[u8], report: &mut [u32]) {
+pub fn own(
+    rt: &impl Print,
+    layout: &[u8],
+    first: &[u8],
+    second: &[u8],
+    told: &[u8],
+    report: &mut [u32],
+) -> io::Result<()> {
     show(
+        rt,
         layout,
         first,
         second,
@@ -56,19 +72,21 @@ pub fn own(layout: &[u8], first: &[u8], second: &[u8], told: &[u8], report: &mut
         &mut [0; 3 * SLOT_WIDTH],
         &mut [0; 64],
         report,
-    );
-    print::text(b"\n");
+    )?;
+    print::text(rt, b"\n")
 }
 
 // Compares a record of two value fields with itself.
 fn same(
+    rt: &impl Print,
     told: &[u8],
     first_slots: &mut [u32],
     first_area: &mut [u8],
     second_slots: &mut [u32],
     second_area: &mut [u8],
-) {
+) -> io::Result<()> {
     show(
+        rt,
         b"a2c",
         b"xy\x07",
         b"xy\x07",
@@ -78,121 +96,147 @@ fn same(
         second_slots,
         second_area,
         &mut [9; 6],
-    );
-    print::text(b"\n");
+    )?;
+    print::text(rt, b"\n")
 }
 
-fn table(told: &[u8], first: &mut [u32], second: &mut [u32]) {
-    same(told, first, &mut [0; 64], second, &mut [0; 64]);
+fn table(rt: &impl Print, told: &[u8], first: &mut [u32], second: &mut [u32]) -> io::Result<()> {
+    same(rt, told, first, &mut [0; 64], second, &mut [0; 64])
 }
 
 // Number 5, of either table.
-pub fn short_tables() {
+pub fn short_tables(rt: &impl Print) -> io::Result<()> {
     table(
+        rt,
         b"two slots each",
         &mut [0; 2 * SLOT_WIDTH],
         &mut [0; 2 * SLOT_WIDTH],
-    );
+    )?;
     table(
+        rt,
         b"one slot first",
         &mut [0; SLOT_WIDTH],
         &mut [0; 2 * SLOT_WIDTH],
-    );
+    )?;
     table(
+        rt,
         b"one slot second",
         &mut [0; 2 * SLOT_WIDTH],
         &mut [0; SLOT_WIDTH],
-    );
+    )
 }
 
 // Number 1, of either table; of the second after number 5 of the first.
-pub fn ragged_tables() {
+pub fn ragged_tables(rt: &impl Print) -> io::Result<()> {
     table(
+        rt,
         b"a number more first",
         &mut [0; 2 * SLOT_WIDTH + 1],
         &mut [0; 2 * SLOT_WIDTH],
-    );
+    )?;
     table(
+        rt,
         b"a number more second",
         &mut [0; 2 * SLOT_WIDTH],
         &mut [0; 2 * SLOT_WIDTH + 1],
-    );
+    )?;
     table(
+        rt,
         b"one slot first, a number more second",
         &mut [0; SLOT_WIDTH],
         &mut [0; SLOT_WIDTH + 1],
-    );
+    )
 }
 
-fn area(told: &[u8], first: &mut [u8], second: &mut [u8]) {
+fn area(rt: &impl Print, told: &[u8], first: &mut [u8], second: &mut [u8]) -> io::Result<()> {
     same(
+        rt,
         told,
         &mut [0; 2 * SLOT_WIDTH],
         first,
         &mut [0; 2 * SLOT_WIDTH],
         second,
-    );
+    )
 }
 
 // Number 11, of either area.
-pub fn short_areas() {
-    area(b"areas of 10 bytes", &mut [0; 10], &mut [0; 10]);
-    area(b"areas of 9 and 10 bytes", &mut [0; 9], &mut [0; 10]);
-    area(b"areas of 10 and 9 bytes", &mut [0; 10], &mut [0; 9]);
+pub fn short_areas(rt: &impl Print) -> io::Result<()> {
+    area(rt, b"areas of 10 bytes", &mut [0; 10], &mut [0; 10])?;
+    area(rt, b"areas of 9 and 10 bytes", &mut [0; 9], &mut [0; 10])?;
+    area(rt, b"areas of 10 and 9 bytes", &mut [0; 10], &mut [0; 9])
 }
 
 // Number 1, of the second area, after number 11 of the first. A long array is lent as an array, and only its borrower
 // takes it for a slice: where an array is made, the prover counts a slice of it byte by byte.
-fn longer(told: &[u8], first: &mut [u8], second: &mut [u8; MAX_AREA + 1]) {
-    area(told, first, second);
+fn longer(
+    rt: &impl Print,
+    told: &[u8],
+    first: &mut [u8],
+    second: &mut [u8; MAX_AREA + 1],
+) -> io::Result<()> {
+    area(rt, told, first, second)
 }
 
-pub fn long_areas() {
+pub fn long_areas(rt: &impl Print) -> io::Result<()> {
     longer(
+        rt,
         b"second area over its size",
         &mut [0; 10],
         &mut [0; MAX_AREA + 1],
-    );
+    )?;
     longer(
+        rt,
         b"first area of 9 bytes, second over its size",
         &mut [0; 9],
         &mut [0; MAX_AREA + 1],
-    );
+    )
 }
 
-fn longest_records(first: &[u8; MAX_RECORD], second: &[u8; MAX_RECORD]) {
+fn longest_records(
+    rt: &impl Print,
+    first: &[u8; MAX_RECORD],
+    second: &[u8; MAX_RECORD],
+) -> io::Result<()> {
     own(
+        rt,
         b"@32767a",
         first,
         second,
         b"records of the longest size",
         &mut [9; 3],
-    );
+    )
 }
 
-fn longer_first(first: &[u8; MAX_RECORD + 1]) {
-    own(b"a", first, b"x", b"a byte more first", &mut [9; 3]);
+fn longer_first(rt: &impl Print, first: &[u8; MAX_RECORD + 1]) -> io::Result<()> {
+    own(rt, b"a", first, b"x", b"a byte more first", &mut [9; 3])
 }
 
-fn longer_second(layout: &[u8], second: &[u8; MAX_RECORD + 1]) {
-    own(layout, b"x", second, b"a byte more second", &mut [9; 3]);
+fn longer_second(rt: &impl Print, layout: &[u8], second: &[u8; MAX_RECORD + 1]) -> io::Result<()> {
+    own(rt, layout, b"x", second, b"a byte more second", &mut [9; 3])
 }
 
 // Records at their limit and above: number 1, after every refusal of the first.
-pub fn records() {
-    longest_records(&[b'x'; MAX_RECORD], &[b'y'; MAX_RECORD]);
-    longer_first(&[b'x'; MAX_RECORD + 1]);
-    longer_second(b"a", &[b'x'; MAX_RECORD + 1]);
-    longer_second(b"a9z", &[b'x'; MAX_RECORD + 1]);
+pub fn records(rt: &impl Print) -> io::Result<()> {
+    longest_records(rt, &[b'x'; MAX_RECORD], &[b'y'; MAX_RECORD])?;
+    longer_first(rt, &[b'x'; MAX_RECORD + 1])?;
+    longer_second(rt, b"a", &[b'x'; MAX_RECORD + 1])?;
+    longer_second(rt, b"a9z", &[b'x'; MAX_RECORD + 1])
 }
 
 // Compares into slots of 9 and areas of bytes aa, and prints all that they then hold.
-pub fn whole(layout: &[u8], first: &[u8], second: &[u8], report: &mut [u32]) {
+pub fn whole(
+    rt: &impl Print,
+    layout: &[u8],
+    first: &[u8],
+    second: &[u8],
+    report: &mut [u32],
+) -> io::Result<()> {
     let mut first_slots = [9u32; 2 * SLOT_WIDTH];
     let mut second_slots = [9u32; 2 * SLOT_WIDTH];
     let mut first_area = [0xaau8; 12];
     let mut second_area = [0xaau8; 12];
     show(
+        rt,
         layout,
         first,
         second,
@@ -202,8 +246,8 @@ pub fn whole(layout: &[u8], first: &[u8], second: &[u8], report: &mut [u32]) {
         &mut second_slots,
         &mut second_area,
         report,
-    );
-    values::whole(&first_slots, &first_area);
-    values::whole(&second_slots, &second_area);
-    print::text(b"\n");
+    )?;
+    values::whole(rt, &first_slots, &first_area)?;
+    values::whole(rt, &second_slots, &second_area)?;
+    print::text(rt, b"\n")
 }

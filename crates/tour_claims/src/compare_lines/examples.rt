@@ -4,39 +4,50 @@
 use super::super::lists;
 use super::super::lists::Show;
 use super::comparing;
+use std::io;
 use tour_text::lines;
 
-fn call(kind: u8, layout: &[u8], first: &[u8], second: &[u8], told: &[u8]) {
+fn call(
+    rt: &impl Print,
+    kind: u8,
+    layout: &[u8],
+    first: &[u8],
+    second: &[u8],
+    told: &[u8],
+) -> io::Result<()> {
     match kind {
-        b'0' => comparing::own(layout, first, second, told, &mut [9; 0]),
-        b'5' => comparing::own(layout, first, second, told, &mut [9; 5]),
-        b'6' => comparing::own(layout, first, second, told, &mut [9; 6]),
-        b'v' => comparing::whole(layout, first, second, &mut [9; 5]),
-        b'w' => comparing::whole(layout, first, second, &mut [9; 7]),
-        _ => comparing::own(layout, first, second, told, &mut [9; 9]),
+        b'0' => comparing::own(rt, layout, first, second, told, &mut [9; 0]),
+        b'5' => comparing::own(rt, layout, first, second, told, &mut [9; 5]),
+        b'6' => comparing::own(rt, layout, first, second, told, &mut [9; 6]),
+        b'v' => comparing::whole(rt, layout, first, second, &mut [9; 5]),
+        b'w' => comparing::whole(rt, layout, first, second, &mut [9; 7]),
+        _ => comparing::own(rt, layout, first, second, told, &mut [9; 9]),
     }
 }
 
 // What follows the second bar.
-fn last(kind: u8, layout: &[u8], first: &[u8], rest: &[u8]) {
+fn last(rt: &impl Print, kind: u8, layout: &[u8], first: &[u8], rest: &[u8]) -> io::Result<()> {
     let bar = lines::find(rest, 0, b'|');
     if bar < rest.len() {
         let told = bar + 1;
-        call(kind, layout, first, &rest[0..bar], &rest[told..]);
+        call(rt, kind, layout, first, &rest[0..bar], &rest[told..])?;
     }
+    Ok(())
 }
 
 // What follows the first bar.
-pub fn records(kind: u8, layout: &[u8], rest: &[u8]) {
+pub fn records(rt: &impl Print, kind: u8, layout: &[u8], rest: &[u8]) -> io::Result<()> {
     let bar = lines::find(rest, 0, b'|');
     if bar < rest.len() {
         let second = bar + 1;
-        last(kind, layout, &rest[0..bar], &rest[second..]);
+        last(rt, kind, layout, &rest[0..bar], &rest[second..])?;
     }
+    Ok(())
 }
 
-pub fn verdicts() {
+pub fn verdicts(rt: &impl Print) -> io::Result<()> {
     lists::run(
+        rt,
         Show::Compared,
         b"
 h |Comparing: layout, first and second record -> number, first, second; report
@@ -87,11 +98,12 @@ Numbers 2, 3, 4 and 5.
 9 a@|ab|ab|
 9 cccc|abcd|abcd|
 ",
-    );
+    )
 }
 
-pub fn reports() {
+pub fn reports(rt: &impl Print) -> io::Result<()> {
     lists::run(
+        rt,
         Show::Compared,
         b"
 
@@ -109,5 +121,5 @@ w a2z|xy|xy\x07|
 w a*|xy|xyxyxyxyxyxyx|
 v a2c|xy|xy\x07|
 ",
-    );
+    )
 }

@@ -3,27 +3,29 @@
 use super::super::lists;
 use super::super::lists::Show;
 use super::{reading, writing};
+use std::io;
 use tour_text::print;
 
-fn example(kind: u8, rest: &[u8]) {
+fn example(rt: &impl Print, kind: u8, rest: &[u8]) -> io::Result<()> {
     match kind {
-        b'h' => print::heading(rest),
-        b'w' => writing::example(rest),
-        b'r' => reading::example(rest),
-        b'k' => reading::whole(rest),
-        _ => (),
+        b'h' => print::heading(rt, rest),
+        b'w' => writing::example(rt, rest),
+        b'r' => reading::example(rt, rest),
+        b'k' => reading::whole(rt, rest),
+        _ => Ok(()),
     }
 }
 
-pub fn line(text: &[u8]) {
+pub fn line(rt: &impl Print, text: &[u8]) -> io::Result<()> {
     if text.len() < 2 {
-        return;
+        return Ok(());
     }
-    example(text[0], &text[2..]);
+    example(rt, text[0], &text[2..])
 }
 
-pub fn written() {
+pub fn written(rt: &impl Print) -> io::Result<()> {
     lists::run(
+        rt,
         Show::Sheets,
         b"
 h Writing: table -> number, first, second: sheet. Keeping: the same, then read from the mark 4 on: values
@@ -35,11 +37,12 @@ w \"\" {} -
 w {0} - {0}
 w {1 258} - \"a\"
 ",
-    );
+    )
 }
 
-pub fn read() {
+pub fn read(rt: &impl Print) -> io::Result<()> {
     lists::run(
+        rt,
         Show::Sheets,
         b"
 h\x20
@@ -95,11 +98,12 @@ r \x02\x00\x00\x00\x05\x00\x00\x00\x01\x00
 r \x02\x00\x00\x00\x05\x00\x00\x00\x01\x09
 r \x02\x00\x00\x00\x14\x00\x00\x00\x01\x00\x00\x00\x00\x01\x00\x00\x00\x00\x01\x00\x00\x00\x00\x01\x00
 ",
-    );
+    )
 }
 
-pub fn kept() {
+pub fn kept(rt: &impl Print) -> io::Result<()> {
     lists::run(
+        rt,
         Show::Sheets,
         b"
 
@@ -112,5 +116,5 @@ k \x01\x00\x07\x00\x02\x01x\x00\x01\x05
 k \x01\x00\x0c\x00\x01\x01\x00\x01\x01\x00\x01\x01\x00\x01\x01
 k \x01\x00\x0b\x00\x09\x02\x00\x00\x00\x00\x00\x00\x00\x07
 ",
-    );
+    )
 }
