@@ -3,22 +3,19 @@
 -- the calls, whose readings do not depend on where they put the values.
 use Prim.Native.Nat.{ℕ, zero, suc, ◌+◌, ◌*◌}
 use mathlib.Core.Path.{◌≡◌, refl, sym, ap, ap₂, ◌∙◌}
-use mathlib.Core.Bool.{Bool, true, false, ◌&&◌, true≢false}
+use mathlib.Core.Bool.{Bool, true, false, true≢false}
 use mathlib.Core.List.{List, [], ◌∷◌, ◌++◌, map, append_assoc}
 use borrow.Author.Tests.{eq-eqb, ne_eqb, eqb-true, eqb-false}
-use lib.Dec.{T, eqb, leb}
-use lib.ListN.{length, drop}
-use Rattle.layout.specs.declared.Field.{Field}
-use Rattle.layout.specs.declared.Refusal.TheVariants.{NoRoom}
-use Rattle.layout.specs.Refusals.{if◌then◌else◌, Result, ok, refused}
-use Rattle.layout.specs.Layout.{fields_of, slot_count}
-use Rattle.layout.proofs.Laws.{bound, demanded, no-number-zero}
+use lib.Dec.{T, eqb}
+use lib.ListN.{drop}
+use Rattle.layout.specs.Refusals.{if◌then◌else◌, ok}
+use Rattle.layout.specs.Layout.{slot_count}
 use Rattle.record.specs.Table.{Value, area_bytes}
 use Rattle.record.specs.Reading.{values_from, reads}
 use Rattle.record.proofs.Bytes.{and-true}
 use Rattle.compare.specs.Difference.{same_bytes, first_difference, differing, bits_of, differing_bits, report_width, both_same, only_first, only_second, in_neither, both_differ, plain_finding, both_finding}
 use Rattle.compare.specs.Report.{finding_of, findings}
-use Rattle.compare.specs.Comparing.{Shown, compares, compare_effect, compare}
+use Rattle.compare.specs.Comparing.{compare_effect}
 use Rattle.compare_claims.specs.Claims.{SameIsEqual, ones_of_xor, BitsAreOnes, same_or_neither, WithItself, swapped, other_way, OtherWayRound}
 use Rattle.compare.proofs.difference.Bits.{xor-bits, bits-cons, bits_none, none-bits}
 use Rattle.compare.proofs.Calls.{accepted-reads, Accepted, accepted-call, left}

@@ -1,11 +1,11 @@
 -- The examples hold: one statement, which the checker computes. Then the theorems on one record each: their premises
 -- can be met.
 use native.Mathlib.Omega.{arith}
-use mathlib.Core.List.{List, []}
+use mathlib.Core.List.{List}
 use mathlib.Core.Path.{◌≡◌, refl}
 use Prim.Native.Nat.{ℕ, ◌*◌}
 use lib.Dec.{T}
-use lib.ListN.{replicate, take}
+use lib.ListN.{replicate}
 use Rattle.layout.specs.Quoted.{bytes}
 use Rattle.record.specs.Table.{slot_width}
 use Rattle.compare.specs.Comparing.{Compared, compare}

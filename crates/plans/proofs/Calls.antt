@@ -2,7 +2,7 @@
 use Prim.Native.Nat.{ℕ, suc, ◌+◌, ◌/◌, ◌%◌, ◌≤◌, ◌<◌}
 use native.Mathlib.Nat.{zero-add}
 use native.Mathlib.Omega.{arith}
-use mathlib.Core.Path.{◌≡◌, refl, sym, ap, ◌∙◌}
+use mathlib.Core.Path.{◌≡◌, ◌∙◌}
 use mathlib.Core.Bool.{Bool, true, false}
 use mathlib.Core.List.{List, [], ◌∷◌, ◌++◌}
 use lib.ListN.{length, take, drop}
@@ -11,16 +11,16 @@ use Rattle.layout.specs.declared.Field.{Field}
 use Rattle.layout.specs.declared.Refusal.{Refusal}
 use Rattle.layout.specs.declared.Refusal.TheVariants.{BadSize, BadType, BadCount, BadMove, NoRoom}
 use Rattle.layout.specs.declared.Parsed.{Parsed}
-use Rattle.layout.specs.declared.Parsed.TheVariants.{Fields, Refused}
+use Rattle.layout.specs.declared.Parsed.TheVariants.{Fields}
 use Rattle.layout.specs.Refusals.{if◌then◌else◌, Result, ok, refused, ◌>>=◌, demand}
 use Rattle.layout.specs.Layout.{max_layout, takes_slot, fields_of, slot_count, in_limit, has_meaning}
-use Rattle.layout.specs.Codes.{count_unit, flag_unit, count_from, field_of, code_for}
+use Rattle.layout.specs.Codes.{count_unit, flag_unit, count_from, field_of}
 use Rattle.layout.specs.inside.Parsing.{decoded, Parses}
 use Rattle.layout.proofs.Decoded.{Learnt, parsed-fields, parsed-plan, decoded-length}
 use Rattle.record.specs.declared.Answer.{Answer}
 use Rattle.record.specs.Bytes.{store_at}
 use Rattle.record.specs.Geometry.{lengths_fit}
-use Rattle.record.specs.Packing.{accepted, refusal, pack_fields}
+use Rattle.record.specs.Packing.{accepted, refusal}
 use Rattle.record.specs.Reading.{reads_fields, ReadAll}
 use Rattle.reader.proofs.checking.Calls.{Fit}
 use Rattle.reader.specs.inside.passes.{read_codes}

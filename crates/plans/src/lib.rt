@@ -1,5 +1,7 @@
 // Layouts prepared once: a layout is read into a plan, a run of numbers with one for each field, and records are packed
 // and read by the plan. A plan may hold any numbers: each call checks them.
+#![tactic(auto)]
+
 ghost use Rattle.std.specs.Prelude.{◌≡◌, ◌++◌, ◌≤◌, length, take, drop};
 ghost use Rattle.layout.specs.Layout.{max_layout};
 ghost use Rattle.layout.specs.inside.Parsing.{Parses};
