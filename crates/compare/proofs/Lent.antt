@@ -1,6 +1,7 @@
 -- What a caller may rely on that lends slots and report in another form and writes back what a call left: which slots
 -- stay, and that the report's length counts only up to the findings that there can be. An accepted call sets no slot
 -- past those of its fields, of which there are no more than slots.
+use Rattle.std.specs.Prelude.{if◌then◌else◌}
 use Prim.Native.Nat.{ℕ, ◌+◌, ◌-◌, ◌*◌, ◌≤◌, min}
 use native.Mathlib.Omega.{arith}
 use mathlib.Core.Path.{◌≡◌, refl, sym, ap, ◌∙◌, subst}
@@ -12,7 +13,7 @@ use lib.ListN.{length, take, drop, length-append, length-drop}
 use lib.Seq.{take_at, drop-drop, drop-append-add}
 use Rattle.layout.specs.declared.Field.{Field}
 use Rattle.layout.specs.Layout.{fields_of, slot_count}
-use Rattle.layout.specs.Refusals.{if◌then◌else◌, number_of, Result, ok, refused}
+use Rattle.layout.specs.Refusals.{number_of, Result, ok, refused}
 use Rattle.layout.proofs.Laws.{no-number-zero}
 use Rattle.record.specs.Table.{slot_width, max_slots, Value, area_bytes, slot_numbers}
 use Rattle.record.specs.Reading.{reads, put_into}

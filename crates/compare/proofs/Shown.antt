@@ -1,4 +1,5 @@
 -- What a table shows that values were put into.
+use Rattle.std.specs.Prelude.{if◌then◌else◌}
 use Prim.Native.Nat.{ℕ, zero, suc, ◌+◌, ◌*◌, ◌≤◌, ◌<◌}
 use native.Mathlib.Nat.{mul-one, not-suc-le-zero}
 use native.Mathlib.Omega.{arith}
@@ -8,7 +9,6 @@ use mathlib.Core.List.{List, [], ◌∷◌, ◌++◌, map, append_assoc}
 use lib.Dec.{eqb}
 use lib.ListN.{length, take, drop, length-append}
 use lib.Seq.{take_at, drop-drop, drop_at}
-use Rattle.layout.specs.Refusals.{if◌then◌else◌}
 use Rattle.record.specs.Bytes.{part, store_at, join}
 use Rattle.record.specs.Table.{string, integer_size, slot_width, slots_of, item_size, Value, integer_bytes, area_bytes, slot_numbers, value_bytes}
 use Rattle.record.specs.Packing.{next_slot}

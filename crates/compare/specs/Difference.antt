@@ -1,7 +1,6 @@
 -- Two values as the bytes that they have in their areas: where they differ, and the finding of a report that says so
 -- (02, M-102).
-use Rattle.std.specs.Prelude.{ℕ, suc, ◌+◌, Bool, true, false, ◌&&◌, List, [], ◌∷◌, map, eqb}
-use Rattle.layout.specs.Refusals.{if◌then◌else◌}
+use Rattle.std.specs.Prelude.{ℕ, suc, ◌+◌, Bool, true, false, ◌&&◌, List, [], ◌∷◌, map, eqb, if◌then◌else◌}
 use Rattle.record.specs.Bytes.{join, digits}
 use Rattle.compare.specs.declared.difference.Finding.{Finding}
 

@@ -1,6 +1,7 @@
 -- The claims: two equal values say "same" and no others do; bits are the ones of the exclusive or; a record compared
 -- with itself; two records the other way round. Each is a law of findings, by induction over the fields, and then of
 -- the calls, whose readings do not depend on where they put the values.
+use Rattle.std.specs.Prelude.{if◌then◌else◌}
 use Prim.Native.Nat.{ℕ, zero, suc, ◌+◌, ◌*◌}
 use mathlib.Core.Path.{◌≡◌, refl, sym, ap, ap₂, ◌∙◌}
 use mathlib.Core.Bool.{Bool, true, false, true≢false}
@@ -8,7 +9,7 @@ use mathlib.Core.List.{List, [], ◌∷◌, ◌++◌, map, append_assoc}
 use borrow.Author.Tests.{eq-eqb, ne_eqb, eqb-true, eqb-false}
 use lib.Dec.{T, eqb}
 use lib.ListN.{drop}
-use Rattle.layout.specs.Refusals.{if◌then◌else◌, ok}
+use Rattle.layout.specs.Refusals.{ok}
 use Rattle.layout.specs.Layout.{slot_count}
 use Rattle.record.specs.Table.{Value, area_bytes}
 use Rattle.record.specs.Reading.{values_from, reads}

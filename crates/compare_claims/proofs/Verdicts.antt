@@ -1,5 +1,6 @@
 -- An accepted comparing leaves what two readings leave, and its findings compare the bytes of the values that these
 -- set. Values of one field are of one kind, so their slots show the same exactly where the bytes are the same.
+use Rattle.std.specs.Prelude.{if◌then◌else◌}
 use Prim.Native.Nat.{ℕ, zero, suc, ◌+◌, ◌-◌, ◌*◌, ◌≤◌, ◌<◌}
 use native.Mathlib.Nat.{not-suc-le-zero}
 use native.Mathlib.Omega.{arith}
@@ -16,7 +17,7 @@ use Rattle.layout.specs.declared.Shape.{Shape}
 use Rattle.layout.specs.declared.Shape.TheVariants.{Text, Digits, Integers, Reals}
 use Rattle.layout.specs.declared.Count.{Count}
 use Rattle.layout.specs.declared.Field.{Field}
-use Rattle.layout.specs.Refusals.{if◌then◌else◌, ok}
+use Rattle.layout.specs.Refusals.{ok}
 use Rattle.layout.specs.Layout.{fields_of, slot_count}
 use Rattle.layout.proofs.Laws.{ok-inj}
 use Rattle.record.specs.declared.slots.Slot.{Slot}

@@ -1,8 +1,7 @@
 -- What is claimed of comparing beyond its effect (02, M-102); the proofs are in proofs/Claims.antt.
-use Rattle.std.specs.Prelude.{ℕ, zero, suc, ◌+◌, ◌<◌, ◌≡◌, Bool, true, false, ◌&&◌, ◌||◌, List, [], ◌∷◌, T, eqb, get_or}
+use Rattle.std.specs.Prelude.{ℕ, zero, suc, ◌+◌, ◌<◌, ◌≡◌, Bool, true, false, ◌&&◌, ◌||◌, List, [], ◌∷◌, T, eqb, get_or, if◌then◌else◌}
 use Rattle.std.specs.Int.Bits.{bit_xor}
 use Rattle.std.specs.Int.Count.{ones}
-use Rattle.layout.specs.Refusals.{if◌then◌else◌}
 use Rattle.compare.specs.Difference.{both_same, only_first, only_second, in_neither, same_bytes, differing_bits}
 use Rattle.compare.specs.Comparing.{Compared, compare}
 

@@ -1,8 +1,7 @@
 -- Examples of comparing (02, M-102), computed from the definitions; one statement, proved in proofs/Examples.antt.
-use Rattle.std.specs.Prelude.{ℕ, ◌*◌, Bool, true, false, ◌&&◌, List, [], ◌∷◌, replicate, eqb}
+use Rattle.std.specs.Prelude.{ℕ, ◌*◌, Bool, true, false, ◌&&◌, List, [], ◌∷◌, replicate, eqb, if◌then◌else◌}
 use Prim.Native.String.{String}
 use Rattle.layout.specs.Quoted.{bytes}
-use Rattle.layout.specs.Refusals.{if◌then◌else◌}
 use Rattle.record.specs.Table.{slot_width}
 use Rattle.record.specs.Reading.{Read, read}
 use Rattle.compare.specs.Comparing.{compare}

@@ -1,4 +1,5 @@
 -- Laws of the code: what the loop keeps, and each way out of the call.
+use Rattle.std.specs.Prelude.{if◌then◌else◌}
 use Prim.Native.Nat.{ℕ, suc, ◌+◌, ◌*◌, ◌≤◌, ◌<◌}
 use native.Mathlib.Omega.{arith}
 use mathlib.Core.Path.{◌≡◌, refl, sym, ap, ◌∙◌}
@@ -10,7 +11,7 @@ use borrow.Author.Tests.{le-leb, lt-leb}
 use Rattle.layout.specs.declared.Field.{Field}
 use Rattle.layout.specs.declared.Refusal.{Refusal}
 use Rattle.layout.specs.declared.Refusal.TheVariants.{BadSize}
-use Rattle.layout.specs.Refusals.{if◌then◌else◌, ok, refused}
+use Rattle.layout.specs.Refusals.{ok, refused}
 use Rattle.layout.specs.Layout.{max_layout, takes_slot, fields_of, slot_count}
 use Rattle.layout.specs.Codes.{field_of}
 use Rattle.layout.specs.inside.Parsing.{decoded, FieldOf}

@@ -1,5 +1,6 @@
 -- The text is made of its fields and of spaces: the flag and the count of a field stand in the bytes that it takes, so
 -- that these bytes alone are that field, and what is between two fields was passed over as a space.
+use Rattle.std.specs.Prelude.{if◌then◌else◌}
 use Prim.Native.Nat.{ℕ, zero, suc, ◌+◌, ◌-◌, ◌*◌, ◌≤◌, ◌<◌}
 use native.Mathlib.Nat.{add-zero, zero-add, add_comm, suc-add, sub_self, le_of_suc-le-suc, lt_of_not-le}
 use native.Mathlib.Decide.{dec_le}
@@ -16,7 +17,7 @@ use Rattle.layout.specs.declared.Field.{Field}
 use Rattle.layout.specs.declared.Typed.{Typed}
 use Rattle.layout.specs.declared.Typed.TheVariants.{Known, Unknown}
 use Rattle.layout.specs.declared.Refusal.TheVariants.{BadType, BadCount, BadMove}
-use Rattle.layout.specs.Refusals.{if◌then◌else◌, Result, ok, refused, ◌>>=◌, demand}
+use Rattle.layout.specs.Refusals.{Result, ok, refused, ◌>>=◌, demand}
 use Rattle.layout.specs.Layout.{is_decimal, digit_run, decimal, type_of, flagged, count_of, count_length, in_limit, has_meaning, to_nat, Step, space, field, bad, step_from, field_after, field_at, step_of, step_extra, fields_from, fields_of}
 use Rattle.layout.proofs.Laws.{no-refusal, bound, ok-inj}
 use Rattle.describe.specs.Placed.{Placed, placed_before, placed_from, placed_fields}

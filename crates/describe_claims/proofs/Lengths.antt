@@ -1,5 +1,6 @@
 -- Where no value is starred, the fields reach as far as the pass of the description does: each field takes the highest
 -- position to just where its row says.
+use Rattle.std.specs.Prelude.{if◌then◌else◌}
 use Prim.Native.Nat.{ℕ, ◌+◌, ◌≤◌, max}
 use native.Mathlib.Omega.{arith}
 use mathlib.Core.Path.{◌≡◌, refl, sym, ◌∙◌}
@@ -13,7 +14,6 @@ use Rattle.layout.specs.declared.Motion.TheVariants.{Skip, Back, Goto}
 use Rattle.layout.specs.declared.Count.{Count}
 use Rattle.layout.specs.declared.Count.TheVariants.{Absent, Star, Times}
 use Rattle.layout.specs.declared.Field.{Field}
-use Rattle.layout.specs.Refusals.{if◌then◌else◌}
 use Rattle.layout.specs.Layout.{max_count, in_limit, has_meaning, slots_taken}
 use Rattle.record.specs.declared.Cursor.{Cursor}
 use Rattle.pack_check.specs.inside.measuring.{advance}

@@ -1,9 +1,9 @@
 -- What the rows of a layout's fields say: of its text (document 01, Layout text), of the packings by it (01, Packing),
 -- of what `described` answers, and of the positions that a reading gives (02, M-110; 01, demand 3). THE THEOREM is
 -- `Fields`, at the end. The proof is in proofs/Claims.antt.
-use Rattle.std.specs.Prelude.{ℕ, zero, suc, ◌+◌, ◌*◌, ◌≤◌, max, ◌≡◌, true, false, ◌&&◌, List, [], ◌∷◌, ◌++◌, map, ◌⊎◌, length, take, replicate, T, eqb, ltb}
+use Rattle.std.specs.Prelude.{ℕ, zero, suc, ◌+◌, ◌*◌, ◌≤◌, max, ◌≡◌, true, false, ◌&&◌, List, [], ◌∷◌, ◌++◌, map, ◌⊎◌, length, take, replicate, T, eqb, ltb, if◌then◌else◌}
 use Rattle.layout.specs.declared.Field.{Field}
-use Rattle.layout.specs.Refusals.{if◌then◌else◌, ok}
+use Rattle.layout.specs.Refusals.{ok}
 use Rattle.layout.specs.Layout.{max_layout, fields_of, slot_count}
 use Rattle.record.specs.Bytes.{join, big_endian_in}
 use Rattle.record.specs.Table.{slots_of}

@@ -1,7 +1,6 @@
 -- Binary digits step by step (02, M-103): in storing and in reading out, for `b` and for `B`, padding counted.
-use Rattle.std.specs.Prelude.{ℕ, zero, suc, ◌+◌, ◌-◌, ◌*◌, ◌/◌, ◌%◌, ◌≤◌, ◌<◌, ◌≡◌, Bool, true, false, List, [], ◌∷◌, map, length, get_or, set, leb, ltb}
+use Rattle.std.specs.Prelude.{ℕ, zero, suc, ◌+◌, ◌-◌, ◌*◌, ◌/◌, ◌%◌, ◌≤◌, ◌<◌, ◌≡◌, Bool, true, false, List, [], ◌∷◌, map, length, get_or, set, leb, ltb, if◌then◌else◌}
 use Rattle.layout.specs.declared.Shape.TheVariants.{Digits}
-use Rattle.layout.specs.Refusals.{if◌then◌else◌}
 use Rattle.layout.specs.Quoted as quoted
 use Rattle.record.specs.Bytes.{part, store_at, fit, ceil_div, digits, number, ordered}
 use Rattle.record.specs.Packing.{digit_value, stored}

@@ -1,4 +1,5 @@
 -- What demand 3 reads back is proper: strings are, and an integer that was widened fits eight bytes, as a double does.
+use Rattle.std.specs.Prelude.{if◌then◌else◌}
 use Prim.Native.Nat.{ℕ, ◌+◌, ◌%◌, ◌^◌, ◌≤◌, ◌<◌}
 use native.Mathlib.Nat.{mod-lt}
 use native.Mathlib.Omega.{arith}
@@ -15,7 +16,6 @@ use Rattle.layout.specs.inside.Parsing.{FitRole}
 use Rattle.real.specs.Narrowing.{single_of}
 use Rattle.real.specs.Widening.{double_of}
 use Rattle.real.proofs.WidenLaws.{double-below}
-use Rattle.layout.specs.Refusals.{if◌then◌else◌}
 use Rattle.record.specs.Table.{Value}
 use Rattle.record.specs.Geometry.{amount, bytes_for}
 use Rattle.record.specs.Packing.{Filled}

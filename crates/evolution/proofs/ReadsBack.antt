@@ -1,6 +1,7 @@
 -- The proof of demand 3. Packing a plain layout joins the bytes of its fields, so the old record is the front of the
 -- new one; a reader that stands where the packer stood finds each field's own bytes as long as they end at or before
 -- the cut, and stops at the first that does not.
+use Rattle.std.specs.Prelude.{if◌then◌else◌}
 use Prim.Native.Nat.{ℕ, suc, ◌+◌, ◌≤◌, ◌<◌, suc-le-suc}
 use native.Mathlib.Nat.{le_refl}
 use native.Mathlib.Omega.{arith}
@@ -12,7 +13,7 @@ use lib.Seq.{take_at, take-append-le, take-length, length-take-le}
 use lib.Dec.{T}
 use Rattle.layout.specs.declared.Field.{Field}
 use Rattle.layout.specs.Layout.{takes_slot, fields_of, slot_count}
-use Rattle.layout.specs.Refusals.{if◌then◌else◌, ok}
+use Rattle.layout.specs.Refusals.{ok}
 use Rattle.layout.proofs.Laws.{AllSound, packed-reads}
 use Rattle.record.specs.Table.{slots_of, no_position, Value, shown, value_bytes}
 use Rattle.record.specs.Slots.{slot_at}

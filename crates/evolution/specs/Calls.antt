@@ -1,6 +1,5 @@
 -- A packing and a reading one after the other, as `read_back` makes them, and what demand 3 says of the two.
-use Rattle.std.specs.Prelude.{ℕ, ◌<◌, ◌≡◌, Bool, List, map, length, get_or, take, eqb}
-use Rattle.layout.specs.Refusals.{if◌then◌else◌}
+use Rattle.std.specs.Prelude.{ℕ, ◌<◌, ◌≡◌, Bool, List, map, length, get_or, take, eqb, if◌then◌else◌}
 use Rattle.record.specs.declared.ReadAnswer.{ReadAnswer}
 use Rattle.record.specs.Table.{slots_of, no_position, shown}
 use Rattle.record.specs.Slots.{slot_at}

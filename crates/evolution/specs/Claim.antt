@@ -1,12 +1,12 @@
 -- Demand 3 (document 01, "What demand 3 reads back"): one claim about both packings and every reading. THE THEOREM is
 -- `Demand3`, at the end. Each definition names the part of that section that it states. The proof is in
 -- proofs/ReadsBack.antt.
-use Rattle.std.specs.Prelude.{ℕ, suc, ◌+◌, ◌*◌, ◌%◌, ◌^◌, ◌≤◌, ◌<◌, ◌≡◌, Bool, true, false, ◌&&◌, List, [], ◌∷◌, ◌++◌, map, length, get_or, take, drop, replicate, T, leb, eqb}
+use Rattle.std.specs.Prelude.{ℕ, suc, ◌+◌, ◌*◌, ◌%◌, ◌^◌, ◌≤◌, ◌<◌, ◌≡◌, Bool, true, false, ◌&&◌, List, [], ◌∷◌, ◌++◌, map, length, get_or, take, drop, replicate, T, leb, eqb, if◌then◌else◌}
 use Rattle.layout.specs.declared.Role.TheVariants.{Data, Move}
 use Rattle.layout.specs.declared.Shape.{Shape}
 use Rattle.layout.specs.declared.Shape.TheVariants.{Text, Digits, Integers, Reals}
 use Rattle.layout.specs.declared.Field.{Field}
-use Rattle.layout.specs.Refusals.{if◌then◌else◌, ok}
+use Rattle.layout.specs.Refusals.{ok}
 use Rattle.layout.specs.Layout.{fields_of, slot_count, real_size}
 use Rattle.record.specs.Bytes.{fit}
 use Rattle.record.specs.Table.{string, real, integer_kind, slots_of, Value, shown, slot_width, no_position, value_bytes}

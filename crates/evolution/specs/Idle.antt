@@ -1,8 +1,7 @@
 -- The idle programs that document 01 names (How much each contract says) break demand 3 by itself. Every line below is
 -- about what some program left of calls on one small instance, and asks no more of it than the demand. The proof is in
 -- proofs/read_back/Idle.antt.
-use Rattle.std.specs.Prelude.{ℕ, ◌≤◌, ◌≡◌, true, drop, replicate, leb}
-use Rattle.layout.specs.Refusals.{if◌then◌else◌}
+use Rattle.std.specs.Prelude.{ℕ, ◌≤◌, ◌≡◌, true, drop, replicate, leb, if◌then◌else◌}
 use Rattle.record.specs.Table.{slot_width}
 use Rattle.evolution.specs.Claim.{Layouts, text_of, slots_by, output_by}
 use Rattle.evolution.specs.Pair.{pair, other}

@@ -1,4 +1,5 @@
 -- What the sizes of the lent runs decide, and what the guard of a call lets through.
+use Rattle.std.specs.Prelude.{if◌then◌else◌}
 use Prim.Native.Nat.{ℕ, ◌*◌, ◌/◌, ◌%◌, ◌≤◌, ◌<◌}
 use native.Mathlib.Omega.{arith}
 use mathlib.Core.Path.{◌≡◌, refl, sym, ◌∙◌}
@@ -9,7 +10,6 @@ use lib.Dec.{eqb, leb}
 use lib.ListN.{length, take}
 use lib.Seq.{length-take-le}
 use Rattle.layout.specs.inside.Parsing.{short_layout}
-use Rattle.layout.specs.Refusals.{if◌then◌else◌}
 use Rattle.record.proofs.Bytes.{and-true}
 use Rattle.record.specs.Table.{max_slots, slot_width}
 use Rattle.record.proofs.Fields.{split}

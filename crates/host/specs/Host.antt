@@ -1,7 +1,6 @@
 -- What the calls for a C host share (document 01, Slot tables): slots and replies are runs of bytes, each number four
 -- of them, big-endian.
-use Rattle.std.specs.Prelude.{ℕ, ◌*◌, ◌%◌, List, [], ◌∷◌, length, eqb}
-use Rattle.layout.specs.Refusals.{if◌then◌else◌}
+use Rattle.std.specs.Prelude.{ℕ, ◌*◌, ◌%◌, List, [], ◌∷◌, length, eqb, if◌then◌else◌}
 use Rattle.record.specs.declared.Answer.{Answer}
 use Rattle.record.specs.Table.{slot_width}
 use Rattle.record.specs.Packing.{Packed}

@@ -1,5 +1,6 @@
 -- Every number that a call puts into a slot is below 2^32: a kind is at most 4, starts and lengths are no more than the
 -- area has, and a position no more than the record has. So it comes back from its bytes.
+use Rattle.std.specs.Prelude.{if◌then◌else◌}
 use Prim.Native.Nat.{ℕ, zero, suc, ◌+◌, ◌-◌, ◌*◌, ◌/◌, ◌≤◌, ◌<◌}
 use native.Mathlib.Omega.{arith}
 use mathlib.Core.Path.{◌≡◌, refl, subst}
@@ -17,7 +18,7 @@ use Rattle.layout.specs.declared.Shape.TheVariants.{Text, Digits, Integers, Real
 use Rattle.layout.specs.declared.Count.{Count}
 use Rattle.layout.specs.declared.Field.{Field}
 use Rattle.layout.specs.declared.Refusal.TheVariants.{NoRoom}
-use Rattle.layout.specs.Refusals.{if◌then◌else◌, Result, ok, refused}
+use Rattle.layout.specs.Refusals.{Result, ok, refused}
 use Rattle.layout.specs.Layout.{fields_of, slot_count}
 use Rattle.layout.proofs.Laws.{bound, demanded, ok-inj, no-number-zero}
 use Rattle.record.specs.Bytes.{part, join, big_endian}

@@ -1,5 +1,6 @@
 -- What the claims share. A call on whole slots with a reply of its size is the call on their numbers; numbers below
 -- 2^32 come back from their bytes, in a reply and in the slots that a call leaves.
+use Rattle.std.specs.Prelude.{if◌then◌else◌}
 use Prim.Native.Nat.{ℕ, zero, suc, ◌*◌, ◌/◌, ◌%◌, ◌^◌, ◌≤◌, ◌<◌}
 use native.Mathlib.Nat.{pow-le-pow_right}
 use native.Mathlib.Omega.{arith}
@@ -10,7 +11,6 @@ use borrow.Author.Tests.{eq-eqb, eqb-true, eqb-false}
 use lib.Dec.{eqb}
 use lib.ListN.{length, take, drop, get_or, length-take, length-append, take-append-drop}
 use lib.Seq.{drop-cons, take_at, take_all, length-take-le}
-use Rattle.layout.specs.Refusals.{if◌then◌else◌}
 use Rattle.record.specs.Bytes.{pieces, join, number, ordered, number_bytes, number_at, big_endian, big_endian_in}
 use Rattle.record.specs.Table.{number_limit, slot_width}
 use Rattle.record.specs.Packing.{Packed, pack}

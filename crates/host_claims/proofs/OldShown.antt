@@ -1,5 +1,6 @@
 -- Of a call that is served the slots agree with those of the call on numbers, of which the claim is proved; any other
 -- call leaves slots and area as they were.
+use Rattle.std.specs.Prelude.{if◌then◌else◌}
 use Prim.Native.Nat.{ℕ, ◌%◌, ◌≤◌, ◌<◌}
 use native.Mathlib.Omega.{arith}
 use mathlib.Core.Path.{◌≡◌, refl, ap, ◌∙◌}
@@ -8,7 +9,6 @@ use mathlib.Core.List.{List, [], ◌∷◌}
 use borrow.Author.Tests.{eqb-true}
 use lib.Dec.{eqb}
 use lib.ListN.{length, get_or}
-use Rattle.layout.specs.Refusals.{if◌then◌else◌}
 use Rattle.record.specs.Slots.{slot_at}
 use Rattle.record.specs.Reading.{Read, read, read_steps, read_all}
 use Rattle.record.proofs.Readings.{read-few}

@@ -1,4 +1,5 @@
 -- The calls for a C program hand on the calls on numbers, so that what holds of those holds of them.
+use Rattle.std.specs.Prelude.{if◌then◌else◌}
 use Prim.Native.Nat.{ℕ, ◌%◌, ◌<◌}
 use native.Mathlib.Omega.{arith}
 use mathlib.Core.Path.{◌≡◌, refl, sym, ap, ◌∙◌, subst}
@@ -7,7 +8,7 @@ use mathlib.Core.List.{List, [], ◌∷◌}
 use lib.Dec.{eqb}
 use lib.ListN.{length, take}
 use Rattle.layout.specs.declared.Refusal.TheVariants.{BadSize, BadMove}
-use Rattle.layout.specs.Refusals.{if◌then◌else◌, number_of}
+use Rattle.layout.specs.Refusals.{number_of}
 use Rattle.layout.specs.Layout.{max_layout}
 use Rattle.layout.proofs.Laws.{no-number-zero}
 use Rattle.record.specs.declared.Answer.{Answer}

@@ -1,8 +1,8 @@
 -- Comparing two copies of a record for a C host (02, M-102; 01, Slot tables). THE EFFECT OF A CALL is `curlew_compare`,
 -- at the end.
-use Rattle.std.specs.Prelude.{ℕ, ◌*◌, ◌%◌, ◌≡◌, Bool, List, ◌++◌, eqb, length, take, drop}
+use Rattle.std.specs.Prelude.{ℕ, ◌*◌, ◌%◌, ◌≡◌, Bool, List, ◌++◌, eqb, length, take, drop, if◌then◌else◌}
 use Rattle.layout.specs.declared.Refusal.TheVariants.{BadSize}
-use Rattle.layout.specs.Refusals.{if◌then◌else◌, number_of, Result, ok, refused, ◌>>=◌, demand}
+use Rattle.layout.specs.Refusals.{number_of, Result, ok, refused, ◌>>=◌, demand}
 use Rattle.record.specs.Reading.{reads}
 use Rattle.compare.specs.Difference.{report_width}
 use Rattle.compare.specs.Comparing.{Shown, compares, compare_effect, Compared, compare}

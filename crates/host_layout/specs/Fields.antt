@@ -1,7 +1,7 @@
 -- The fields of a layout for a C host (document 01, Slot tables). THE EFFECT OF A CALL is `curlew_fields`.
-use Rattle.std.specs.Prelude.{ℕ, ◌≡◌, List, eqb, length}
+use Rattle.std.specs.Prelude.{ℕ, ◌≡◌, List, eqb, length, if◌then◌else◌}
 use Rattle.layout.specs.declared.Refusal.TheVariants.{BadSize}
-use Rattle.layout.specs.Refusals.{if◌then◌else◌, number_of}
+use Rattle.layout.specs.Refusals.{number_of}
 use Rattle.host.specs.Host.{reply_size, PackCall, pack_call}
 use Rattle.describe.specs.Rows.{listed}
 

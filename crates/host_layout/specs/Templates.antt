@@ -1,7 +1,7 @@
 -- Perl templates for a C host (document 02, M-105; document 01, Slot tables). THE EFFECT OF A CALL is `curlew_from_perl`.
-use Rattle.std.specs.Prelude.{ℕ, ◌≡◌, List, eqb, length}
+use Rattle.std.specs.Prelude.{ℕ, ◌≡◌, List, eqb, length, if◌then◌else◌}
 use Rattle.layout.specs.declared.Refusal.TheVariants.{BadSize}
-use Rattle.layout.specs.Refusals.{if◌then◌else◌, number_of}
+use Rattle.layout.specs.Refusals.{number_of}
 use Rattle.host.specs.Host.{reply_size, reply_of}
 use Rattle.perl.specs.Conversion.{Converted, from_perl}
 

@@ -1,8 +1,8 @@
 -- What a layout promises, as a C host asks it (document 01, Slot tables). THE EFFECTS OF THE CALLS are `curlew_promises`
 -- and `curlew_extends`.
-use Rattle.std.specs.Prelude.{ℕ, ◌≡◌, List, eqb, length}
+use Rattle.std.specs.Prelude.{ℕ, ◌≡◌, List, eqb, length, if◌then◌else◌}
 use Rattle.layout.specs.declared.Refusal.TheVariants.{BadSize}
-use Rattle.layout.specs.Refusals.{if◌then◌else◌, number_of}
+use Rattle.layout.specs.Refusals.{number_of}
 use Rattle.host.specs.Host.{long_reply_size, long_reply}
 use Rattle.promises.specs.declared.Told.{Told}
 use Rattle.promises.specs.Promises.{promised, extended}

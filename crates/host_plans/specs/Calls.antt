@@ -1,9 +1,9 @@
 -- Layouts prepared once, for a C host (document 01, Slot tables). THE EFFECTS OF THE CALLS are `curlew_prepare`,
 -- `curlew_pack_plan` and `curlew_read_plan`. A plan is lent as numbers; slots and replies are bytes, as in the calls by a
 -- layout.
-use Rattle.std.specs.Prelude.{ℕ, ◌≡◌, List, eqb, length}
+use Rattle.std.specs.Prelude.{ℕ, ◌≡◌, List, eqb, length, if◌then◌else◌}
 use Rattle.layout.specs.declared.Refusal.TheVariants.{BadSize}
-use Rattle.layout.specs.Refusals.{number_of, if◌then◌else◌}
+use Rattle.layout.specs.Refusals.{number_of}
 use Rattle.record.specs.Packing.{refusal}
 use Rattle.host.specs.Numbers.{numbers_in}
 use Rattle.host.specs.Host.{reply_size, long_reply_size, reply_of, PackCall, pack_call, ReadCall, guarded}

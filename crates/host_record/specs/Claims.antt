@@ -1,6 +1,5 @@
 -- What a C host is promised of the slots that a reading does not set (proved in `proofs/read/Theorems.antt`).
-use Rattle.std.specs.Prelude.{ℕ, ◌*◌, ◌<◌, ◌≡◌, List, eqb, drop, get_or}
-use Rattle.layout.specs.Refusals.{if◌then◌else◌}
+use Rattle.std.specs.Prelude.{ℕ, ◌*◌, ◌<◌, ◌≡◌, List, eqb, drop, get_or, if◌then◌else◌}
 use Rattle.record.specs.Bytes.{number_at}
 use Rattle.host.specs.Numbers.{number_size}
 use Rattle.host.specs.Host.{slot_size, ReadCall}

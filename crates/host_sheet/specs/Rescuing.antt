@@ -1,8 +1,8 @@
 -- Rescuing a damaged sheet for a C host (02, M-109; 01, Slot tables). THE EFFECT OF A CALL is `curlew_sheet_rescue`, at
 -- the end.
-use Rattle.std.specs.Prelude.{ℕ, ◌*◌, ◌≡◌, List, [], ◌∷◌, eqb}
+use Rattle.std.specs.Prelude.{ℕ, ◌*◌, ◌≡◌, List, [], ◌∷◌, eqb, if◌then◌else◌}
 use Rattle.layout.specs.declared.Refusal.TheVariants.{BadSize}
-use Rattle.layout.specs.Refusals.{if◌then◌else◌, number_of}
+use Rattle.layout.specs.Refusals.{number_of}
 use Rattle.host.specs.Numbers.{number_size, numbers_in, numbers_bytes}
 use Rattle.host.specs.Host.{ReadCall, guarded}
 use Rattle.rescue.specs.declared.fill.Rescued.{Rescued}

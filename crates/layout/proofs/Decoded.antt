@@ -1,4 +1,5 @@
 -- The fields of the codes: what a loop over the codes goes by, and what a caller of `parse` learns.
+use Rattle.std.specs.Prelude.{if◌then◌else◌}
 use Prim.Native.Nat.{ℕ, suc, ◌+◌, ◌/◌, ◌%◌, ◌^◌, ◌≤◌, ◌<◌, min}
 use native.Mathlib.Numerals.{add-one}
 use native.Mathlib.Omega.{arith}
@@ -12,7 +13,7 @@ use Rattle.layout.specs.declared.Field.{Field}
 use Rattle.layout.specs.declared.Refusal.{Refusal}
 use Rattle.layout.specs.declared.Parsed.{Parsed}
 use Rattle.layout.specs.declared.Parsed.TheVariants.{Fields, Refused}
-use Rattle.layout.specs.Refusals.{if◌then◌else◌, Result, ok, refused}
+use Rattle.layout.specs.Refusals.{Result, ok, refused}
 use Rattle.layout.specs.Layout.{max_layout, takes_slot, to_nat, slot_count, slots_taken}
 use Rattle.layout.specs.Codes.{last_data, count_from, field_of, code_for, flag_unit, count_unit}
 use Rattle.layout.specs.inside.Parsing.{shape_numbered, FieldOf, decoded, Parses, slots_numbered}

@@ -1,6 +1,7 @@
 -- Two texts joined: the second, accepted by itself, begins with nothing that could continue the last field of the
 -- first, and its fields are the same wherever it stands. So the joined text has the fields of the first and then those
 -- of the second.
+use Rattle.std.specs.Prelude.{if◌then◌else◌}
 use Prim.Native.Nat.{ℕ, zero, suc, ◌+◌, ◌-◌, ◌*◌, ◌/◌, ◌≤◌}
 use native.Mathlib.Nat.{not-suc-le-zero, le_of_suc-le-suc, lt_of_not-le}
 use native.Mathlib.Decide.{dec_le}
@@ -17,7 +18,7 @@ use Rattle.layout.specs.declared.Field.{Field}
 use Rattle.layout.specs.declared.Typed.{Typed}
 use Rattle.layout.specs.declared.Typed.TheVariants.{Known, Unknown}
 use Rattle.layout.specs.declared.Refusal.TheVariants.{BadType, BadCount, BadMove}
-use Rattle.layout.specs.Refusals.{if◌then◌else◌, Result, ok, refused, ◌>>=◌, demand}
+use Rattle.layout.specs.Refusals.{Result, ok, refused, ◌>>=◌, demand}
 use Rattle.layout.specs.Layout.{is_decimal, digit_run, decimal, type_of, flagged, count_of, count_length, in_limit, has_meaning, to_nat, Step, space, field, bad, step_from, field_after, field_at, step_of, step_extra, step_then, fields_from, fields_of}
 use Rattle.layout.proofs.Laws.{no-refusal, bound, ok-inj}
 use Rattle.layout.proofs.Steps.{count-within, flag-within, below-decimal, above-decimal}

@@ -1,5 +1,6 @@
 -- Laws of the types by number: the form that a number has, what the type of a number takes, and how many bytes an
 -- integer has. A number passes or fails each test of `type_numbered` by the range in which it lies.
+use Rattle.std.specs.Prelude.{if◌then◌else◌}
 use Prim.Native.Nat.{ℕ, zero, suc, ◌-◌, ◌*◌, ◌/◌, ◌%◌, ◌^◌, ◌≤◌, ◌<◌}
 use native.Mathlib.Omega.{arith}
 use native.Mathlib.Nat.{lt_of_not-le}
@@ -15,7 +16,6 @@ use Rattle.layout.specs.declared.Motion.TheVariants.{Skip, Back, Goto}
 use Rattle.layout.specs.declared.Count.{Count}
 use Rattle.layout.specs.declared.Typed.{Typed}
 use Rattle.layout.specs.declared.Typed.TheVariants.{Known, Unknown}
-use Rattle.layout.specs.Refusals.{if◌then◌else◌}
 use Rattle.layout.specs.Layout.{takes_slot, has_meaning}
 use Rattle.layout.specs.Codes.{last_text, last_binary, last_digits, last_integers, last_single, last_data, skip_number, back_number, goto_number, last_type, width_numbered, type_numbered, known}
 use Rattle.layout.specs.inside.Parsing.{size_numbered, shape_of, shape_numbered, FitRole}

@@ -1,5 +1,6 @@
 -- One step of the layout reader, on plain values: a count, a flag, a code, and the field at a type character. Each law
 -- rewrites a definition by what the code has tested.
+use Rattle.std.specs.Prelude.{if◌then◌else◌}
 use Prim.Native.Nat.{ℕ, zero, suc, ◌+◌, ◌-◌, ◌*◌, ◌/◌, ◌%◌, ◌^◌, ◌≤◌, ◌<◌, min}
 use native.Mathlib.Nat.{add-zero, suc-ne-zero}
 use native.Mathlib.Numerals.{add-one}
@@ -21,7 +22,7 @@ use Rattle.layout.specs.declared.Typed.{Typed}
 use Rattle.layout.specs.declared.Typed.TheVariants.{Known, Unknown}
 use Rattle.layout.specs.declared.Refusal.TheVariants.{BadType, BadCount, BadMove}
 use Rattle.layout.specs.declared.Found.TheVariants.{Item, Bad}
-use Rattle.layout.specs.Refusals.{if◌then◌else◌, refused}
+use Rattle.layout.specs.Refusals.{refused}
 use Rattle.layout.specs.Layout.{max_count, is_decimal, digit_run, decimal, type_of, flagged, count_of, count_length, in_limit, has_meaning, to_nat, takes_slot, field, bad, field_after, field_at, step_of}
 use Rattle.layout.proofs.Encoded.{number-back, count-back}
 use Rattle.layout.proofs.Laws.{FitType, fit-either, decimal-held}

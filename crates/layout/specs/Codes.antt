@@ -1,6 +1,6 @@
 -- A field as one number, its code: what a plan holds for each field, and in what form the layout reader hands fields
 -- on.
-use Rattle.std.specs.Prelude.{ℕ, zero, suc, ◌+◌, ◌*◌, ◌/◌, ◌%◌, Bool, true, false, eqb, leb, ltb}
+use Rattle.std.specs.Prelude.{ℕ, zero, suc, ◌+◌, ◌*◌, ◌/◌, ◌%◌, Bool, true, false, eqb, leb, ltb, if◌then◌else◌}
 use Rattle.layout.specs.declared.Role.{Role}
 use Rattle.layout.specs.declared.Role.TheVariants.{Data, Move}
 use Rattle.layout.specs.declared.Shape.TheVariants.{Text, Digits, Integers, Reals}
@@ -10,7 +10,6 @@ use Rattle.layout.specs.declared.Count.TheVariants.{Absent, Star, Times}
 use Rattle.layout.specs.declared.Field.{Field}
 use Rattle.layout.specs.declared.Typed.{Typed}
 use Rattle.layout.specs.declared.Typed.TheVariants.{Known, Unknown}
-use Rattle.layout.specs.Refusals.{if◌then◌else◌}
 use Rattle.layout.specs.Layout.{to_nat}
 
 -- ---- the types by number

@@ -1,5 +1,6 @@
 -- One field, and what the layout reader makes of the bytes after its type character: it takes the flag and the count as
 -- they are written wherever the next byte does not belong to them, and what it takes is a flag and a count.
+use Rattle.std.specs.Prelude.{if◌then◌else◌}
 use Prim.Native.Nat.{ℕ, suc, ◌+◌, ◌-◌, ◌*◌, ◌^◌, ◌/◌, ◌≤◌, ◌<◌}
 use native.Mathlib.Nat.{pow-suc}
 use native.Mathlib.Omega.{arith}
@@ -13,7 +14,6 @@ use Rattle.layout.specs.declared.Role.{Role}
 use Rattle.layout.specs.declared.Count.{Count}
 use Rattle.layout.specs.declared.Count.TheVariants.{Absent, Star, Times}
 use Rattle.layout.specs.declared.Typed.TheVariants.{Known, Unknown}
-use Rattle.layout.specs.Refusals.{if◌then◌else◌}
 use Rattle.layout.specs.Layout.{is_decimal, type_of, flagged, digit_run, decimal, count_of, count_length, to_nat}
 use Rattle.layout.proofs.Letters.{no-letter}
 use Rattle.layout.proofs.Steps.{is-decimal}

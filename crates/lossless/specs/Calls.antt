@@ -1,6 +1,6 @@
 -- A reading and a packing one after the other, as `read_and_pack` makes them, and what M-107 says of the two.
-use Rattle.std.specs.Prelude.{ℕ, ◌≡◌, List, map, eqb}
-use Rattle.layout.specs.Refusals.{if◌then◌else◌, ok}
+use Rattle.std.specs.Prelude.{ℕ, ◌≡◌, List, map, eqb, if◌then◌else◌}
+use Rattle.layout.specs.Refusals.{ok}
 use Rattle.record.specs.declared.Answer.{Answer}
 use Rattle.record.specs.Table.{slots_of, shown}
 use Rattle.record.specs.Packing.{Packed, pack, pack_effect}

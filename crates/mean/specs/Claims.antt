@@ -1,9 +1,9 @@
 -- What holds of the mean for all tables (02, M-104); the proofs are in proofs/marks/Theorems.antt, and of
 -- `NearestUnique` in proofs/marks/NearestMean.antt.
-use Rattle.std.specs.Prelude.{ℕ, suc, ◌+◌, ◌-◌, ◌*◌, ◌^◌, ◌<◌, min, max, ◌≡◌, Bool, true, false, not, ◌&&◌, List, [], ◌∷◌, T, eqb, leb, length, ℤ, pos, negsuc, Float}
+use Rattle.std.specs.Prelude.{ℕ, suc, ◌+◌, ◌-◌, ◌*◌, ◌^◌, ◌<◌, min, max, ◌≡◌, Bool, true, false, not, ◌&&◌, List, [], ◌∷◌, T, eqb, leb, length, ℤ, pos, negsuc, Float, if◌then◌else◌}
 use Rattle.std.specs.Float.{binary64}
 use Rattle.std.specs.Float.Ieee.{to_bits, is_nan, le}
-use Rattle.layout.specs.Refusals.{if◌then◌else◌, ok}
+use Rattle.layout.specs.Refusals.{ok}
 use Rattle.real.specs.Patterns.{double_magnitude, double_infinity}
 use Rattle.real.specs.Narrowing.{Nearest}
 use Rattle.record.specs.declared.slots.Slot.{Slot}

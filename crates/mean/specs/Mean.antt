@@ -1,9 +1,9 @@
 -- The mean of the marked legs (02, M-104): each slot of a table is one leg. THE EFFECT OF A CALL is `mean`, at the end.
-use Rattle.std.specs.Prelude.{ℕ, suc, ◌+◌, List, [], ◌∷◌, eqb, leb, length, get_or, pos, Float}
+use Rattle.std.specs.Prelude.{ℕ, suc, ◌+◌, List, [], ◌∷◌, eqb, leb, length, get_or, pos, Float, if◌then◌else◌}
 use Rattle.std.specs.Float.{binary64}
 use Rattle.std.specs.Float.Ieee.{of_int, div}
 use Rattle.layout.specs.declared.Refusal.TheVariants.{BadSize, BadSlot, WrongKind, BadList, BadMark}
-use Rattle.layout.specs.Refusals.{if◌then◌else◌, Result, ok, refused, ◌>>=◌, demand}
+use Rattle.layout.specs.Refusals.{Result, ok, refused, ◌>>=◌, demand}
 use Rattle.record.specs.declared.slots.Slot.{Slot}
 use Rattle.record.specs.Table.{unset as kind_unset, is_integers, slots_of, shown}
 use Rattle.record.specs.Geometry.{table_fits}

@@ -1,8 +1,8 @@
 -- Perl pack templates (document 02, M-105): from bytes to a tree of items, or to the stray byte, after which no
 -- template can go on. A text is the list of its bytes, and a place is an index into it.
-use Rattle.std.specs.Prelude.{ℕ, zero, suc, ◌+◌, ◌-◌, Bool, true, false, ◌&&◌, ◌||◌, List, [], ◌∷◌, take, drop, eqb, ltb}
+use Rattle.std.specs.Prelude.{ℕ, zero, suc, ◌+◌, ◌-◌, Bool, true, false, ◌&&◌, ◌||◌, List, [], ◌∷◌, take, drop, eqb, ltb, if◌then◌else◌}
 use Rattle.layout.specs.declared.Refusal.TheVariants.{BadTemplate}
-use Rattle.layout.specs.Refusals.{if◌then◌else◌, Result, ok, refused}
+use Rattle.layout.specs.Refusals.{Result, ok, refused}
 use Rattle.perl.specs.declared.tokens.Letter.{Letter}
 use Rattle.perl.specs.declared.tokens.Letter.TheVariants.{Taken, Unknown}
 use Rattle.perl.specs.Tokens.{max_template_count, max_depth, max_repeat, letter_of, number_in, digits_in, repeat_of}

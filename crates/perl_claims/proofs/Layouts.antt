@@ -1,5 +1,6 @@
 -- The layout reader takes the text of sound items apart into their fields: after each letter stand its flag and its
 -- count, and then a byte that belongs to neither.
+use Rattle.std.specs.Prelude.{if◌then◌else◌}
 use Prim.Native.Nat.{ℕ, suc, ◌+◌, ◌-◌, ◌*◌, ◌≤◌}
 use native.Mathlib.Nat.{add-zero}
 use native.Mathlib.Omega.{arith}
@@ -17,7 +18,7 @@ use Rattle.layout.specs.declared.Shape.TheVariants.{Text, Digits, Integers}
 use Rattle.layout.specs.declared.Count.TheVariants.{Times}
 use Rattle.layout.specs.declared.Field.{Field}
 use Rattle.layout.specs.declared.Typed.TheVariants.{Known}
-use Rattle.layout.specs.Refusals.{if◌then◌else◌, Result, ok, ◌>>=◌}
+use Rattle.layout.specs.Refusals.{Result, ok, ◌>>=◌}
 use Rattle.layout.specs.Layout.{max_count, is_decimal, type_of, takes_slot, to_nat, flagged, digit_run, decimal, count_of, count_length, in_limit, has_meaning, field, step_from, field_after, field_at, step_of, step_extra, step_then, fields_from, slot_count}
 use Rattle.perl.specs.declared.tokens.Letter.{Letter}
 use Rattle.perl.specs.declared.tokens.Letter.TheVariants.{Taken, Unknown}

@@ -1,4 +1,5 @@
 -- A reading is decided by the bytes up to and with the one at its place: whatever stands further on is not looked at.
+use Rattle.std.specs.Prelude.{if◌then◌else◌}
 use Prim.Native.Nat.{ℕ, zero, suc, ◌+◌, ◌-◌, ◌≤◌, ◌<◌}
 use native.Mathlib.Omega.{arith}
 use mathlib.Core.Path.{◌≡◌, refl, sym, ap, ◌∙◌, subst}
@@ -6,7 +7,6 @@ use mathlib.Core.Bool.{Bool, true, false, ◌&&◌, ◌||◌}
 use mathlib.Core.List.{List, [], ◌∷◌, ◌++◌}
 use lib.Dec.{eqb, ltb}
 use lib.ListN.{length, take, drop}
-use Rattle.layout.specs.Refusals.{if◌then◌else◌}
 use Rattle.perl.specs.declared.tokens.Letter.{Letter}
 use Rattle.perl.specs.declared.tokens.Letter.TheVariants.{Taken, Unknown}
 use Rattle.perl.specs.Tokens.{max_template_count, max_depth, max_repeat, letter_of, continues, with_digit, number_in, digits_in}

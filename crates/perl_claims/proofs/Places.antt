@@ -1,6 +1,7 @@
 -- The place of number 15: no template goes on with the byte that stands there, and some template goes on otherwise. The
 -- bytes before it are continued by a space and an `a` for every sequence that is open there, with a `)` after each but
 -- the outermost.
+use Rattle.std.specs.Prelude.{if◌then◌else◌}
 use Prim.Native.Nat.{ℕ, zero, suc, ◌+◌, ◌-◌, ◌≤◌, ◌<◌}
 use native.Mathlib.Nat.{eq-or-lt_of_le, lt_of_not-le}
 use native.Mathlib.Decide.{dec_le, ℕ_discrete}
@@ -14,7 +15,7 @@ use mathlib.Core.List.{List, [], ◌∷◌, ◌++◌, append_assoc}
 use lib.ListN.{length, get_or, take, drop, length-append, length-drop, take-append-drop, get_or-append}
 use lib.Seq.{drop-cons, drop-append-le, drop_at, get_or-take, take-add, length-take-le}
 use Rattle.layout.specs.declared.Refusal.TheVariants.{BadSize, BadTemplate, NoRoom}
-use Rattle.layout.specs.Refusals.{if◌then◌else◌, ok, refused}
+use Rattle.layout.specs.Refusals.{ok, refused}
 use Rattle.layout.specs.Layout.{max_layout}
 use Rattle.layout.proofs.Laws.{no-refusal}
 use Rattle.perl.specs.declared.tokens.Letter.{Letter}

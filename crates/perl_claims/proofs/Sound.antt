@@ -1,4 +1,5 @@
 -- Every item that a template is read to is sound, and so is every item of what is written out.
+use Rattle.std.specs.Prelude.{if◌then◌else◌}
 use Prim.Native.Nat.{ℕ, zero, suc, ◌+◌, ◌≤◌}
 use native.Mathlib.Nat.{add-zero}
 use native.Mathlib.Omega.{arith}
@@ -10,7 +11,7 @@ use lib.Dec.{eqb, ltb, leb}
 use lib.ListN.{length, drop, replicate}
 use lib.Seq.{take-append_seam}
 use Rattle.layout.specs.declared.Refusal.TheVariants.{BadSize, NoRoom}
-use Rattle.layout.specs.Refusals.{if◌then◌else◌, Result, ok, refused}
+use Rattle.layout.specs.Refusals.{Result, ok, refused}
 use Rattle.layout.specs.Layout.{max_layout, fields_of}
 use Rattle.layout.proofs.Laws.{bound, demanded, ok-inj, no-refusal, no-number-zero}
 use Rattle.perl.specs.declared.tokens.Letter.{Letter}

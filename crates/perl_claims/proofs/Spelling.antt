@@ -1,5 +1,6 @@
 -- The reader takes every spelling to its tree: it reads the longest number, no item begins with a digit, and a group's
 -- items end at their own `)`. And what it takes is a spelling: each of its steps is one way to write a template.
+use Rattle.std.specs.Prelude.{if◌then◌else◌}
 use Prim.Native.Nat.{ℕ, zero, suc, ◌+◌, ◌-◌, ◌*◌, ◌≤◌, ◌<◌}
 use native.Mathlib.Nat.{add-zero}
 use native.Mathlib.Omega.{arith}
@@ -10,7 +11,7 @@ use borrow.Author.Tests.{le-leb, leb-true, lt-ltb, ltb-true, eqb-true, ne_eqb}
 use lib.Dec.{eqb, leb, ltb}
 use lib.ListN.{length, take, drop, length-append, take-append-drop}
 use lib.Seq.{take-append_seam, drop_at, length-take-le}
-use Rattle.layout.specs.Refusals.{if◌then◌else◌, ok}
+use Rattle.layout.specs.Refusals.{ok}
 use Rattle.layout.specs.Layout.{is_decimal, decimal}
 use Rattle.layout.proofs.Laws.{ok-inj, no-refusal}
 use Rattle.perl.specs.declared.tokens.Letter.{Letter}

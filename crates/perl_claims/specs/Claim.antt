@@ -3,12 +3,12 @@
 -- items as often as its repeat says; which texts are templates; the place of number 15; and every answer once more by
 -- the spellings of Spelling alone, so that no reader need be believed. Proved in proofs/Sound.antt (`claim`, `blank`,
 -- `groups`), proofs/Spelling.antt (`spellings`, `one-tree`) and proofs/Places.antt (`places`, `by-spellings`).
-use Rattle.std.specs.Prelude.{ℕ, suc, ◌≤◌, ◌<◌, ◌≡◌, ◌↔◌, ◌⊎◌, Bool, List, [], ◌∷◌, ◌++◌, map, length, take, replicate, eqb}
+use Rattle.std.specs.Prelude.{ℕ, suc, ◌≤◌, ◌<◌, ◌≡◌, ◌↔◌, ◌⊎◌, Bool, List, [], ◌∷◌, ◌++◌, map, length, take, replicate, eqb, if◌then◌else◌}
 use Rattle.layout.specs.declared.Count.{Count}
 use Rattle.layout.specs.declared.Count.TheVariants.{Absent, Times}
 use Rattle.layout.specs.declared.Field.{Field}
 use Rattle.layout.specs.declared.Refusal.TheVariants.{BadSize, BadTemplate, NoRoom}
-use Rattle.layout.specs.Refusals.{if◌then◌else◌, ok, refused}
+use Rattle.layout.specs.Refusals.{ok, refused}
 use Rattle.layout.specs.Layout.{max_layout, type_of, decimal, fields_of, slot_count}
 use Rattle.layout.specs.Codes.{known}
 use Rattle.perl.specs.Template.{Single, Template, done, group, template_of}

@@ -1,4 +1,5 @@
 -- Laws of the fields of a plan: each number by itself, and that a plan that is served is the plan of its fields.
+use Rattle.std.specs.Prelude.{if◌then◌else◌}
 use Prim.Native.Nat.{ℕ, zero, suc, ◌+◌, ◌*◌, ◌/◌, ◌%◌, ◌≤◌, ◌<◌}
 use native.Mathlib.Omega.{arith}
 use mathlib.Core.Path.{◌≡◌, refl}
@@ -9,7 +10,7 @@ use Rattle.layout.specs.declared.Field.{Field}
 use Rattle.layout.specs.declared.Typed.{Typed}
 use Rattle.layout.specs.declared.Typed.TheVariants.{Known, Unknown}
 use Rattle.layout.specs.declared.Refusal.TheVariants.{BadType, BadCount, BadMove}
-use Rattle.layout.specs.Refusals.{if◌then◌else◌, ok, refused}
+use Rattle.layout.specs.Refusals.{ok, refused}
 use Rattle.layout.specs.Layout.{max_count, to_nat, in_limit, has_meaning}
 use Rattle.layout.specs.Codes.{last_data, skip_number, last_type, type_numbered, known, flag_unit, count_unit, count_from, field_of, code_of, code_for}
 use Rattle.layout.specs.inside.Parsing.{HasType, over_count}

@@ -1,10 +1,10 @@
 -- Layouts prepared once. A plan is a run of numbers, one for each field of a layout and nothing else; a host may hand
 -- in any numbers, and each is checked whenever the plan is used. THE EFFECTS OF THE CALLS are `prepare`, `pack_plan` and
 -- `read_plan`, at the end.
-use Rattle.std.specs.Prelude.{ℕ, suc, ◌/◌, ◌%◌, Bool, true, false, ◌&&◌, not, List, [], ◌∷◌, ◌++◌, map, length, drop, eqb, leb}
+use Rattle.std.specs.Prelude.{ℕ, suc, ◌/◌, ◌%◌, Bool, true, false, ◌&&◌, not, List, [], ◌∷◌, ◌++◌, map, length, drop, eqb, leb, if◌then◌else◌}
 use Rattle.layout.specs.declared.Field.{Field}
 use Rattle.layout.specs.declared.Refusal.TheVariants.{BadSize, BadType, BadCount, BadMove, NoRoom}
-use Rattle.layout.specs.Refusals.{if◌then◌else◌, Result, ok, refused, ◌>>=◌, demand}
+use Rattle.layout.specs.Refusals.{Result, ok, refused, ◌>>=◌, demand}
 use Rattle.layout.specs.Layout.{max_layout, in_limit, has_meaning, fields_of, slot_count}
 use Rattle.layout.specs.Codes.{last_data, skip_number, last_type, flag_unit, count_unit, count_from, field_of, code_for}
 use Rattle.record.specs.declared.Answer.{Answer}

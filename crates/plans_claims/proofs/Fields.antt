@@ -1,5 +1,6 @@
 -- What the fields of a layout have in common with those of its plan: each is good, so that its code stands for it, and
 -- a layout that is good for reading is refused by packing where its plan is, with 4.
+use Rattle.std.specs.Prelude.{if◌then◌else◌}
 use Prim.Native.Nat.{ℕ, zero, suc, ◌+◌, ◌/◌, ◌%◌, ◌≤◌, ◌<◌}
 use native.Mathlib.Omega.{arith}
 use mathlib.Core.Path.{◌≡◌, refl, sym, ap, ◌∙◌, subst}
@@ -14,7 +15,7 @@ use Rattle.layout.specs.declared.Field.{Field}
 use Rattle.layout.specs.declared.Typed.{Typed}
 use Rattle.layout.specs.declared.Typed.TheVariants.{Known, Unknown}
 use Rattle.layout.specs.declared.Refusal.TheVariants.{BadType, BadCount, BadMove}
-use Rattle.layout.specs.Refusals.{if◌then◌else◌, Result, ok, refused, ◌>>=◌, demand}
+use Rattle.layout.specs.Refusals.{Result, ok, refused, ◌>>=◌, demand}
 use Rattle.layout.specs.Layout.{type_of, flagged, count_of, count_length, to_nat, in_limit, has_meaning, Step, space, field, bad, step_from, field_after, field_at, step_of, step_extra, step_then, fields_from, fields_of}
 use Rattle.layout.specs.Codes.{flag_unit, count_unit, type_numbered, type_number, count_from, count_number, field_of, code_of, code_for}
 use Rattle.layout.proofs.Laws.{bound, no-refusal, ok-inj}

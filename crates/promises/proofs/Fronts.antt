@@ -1,5 +1,6 @@
 -- Fields at the front of a layout: what the loops over codes keep, and that the place of the first field that breaks a
 -- promise, or differs, is the place of the one after them.
+use Rattle.std.specs.Prelude.{if◌then◌else◌}
 use Prim.Native.Nat.{ℕ, suc, ◌+◌, ◌*◌, ◌≤◌, ◌<◌, min}
 use native.Mathlib.Omega.{arith}
 use native.Mathlib.Nat.{zero-add, lt_of_not-le}
@@ -13,7 +14,6 @@ use Rattle.layout.specs.declared.Role.TheVariants.{Data, Move}
 use Rattle.layout.specs.declared.Motion.TheVariants.{Skip, Back, Goto}
 use Rattle.layout.specs.declared.Count.{Count}
 use Rattle.layout.specs.declared.Field.{Field}
-use Rattle.layout.specs.Refusals.{if◌then◌else◌}
 use Rattle.layout.specs.Codes.{field_of}
 use Rattle.layout.specs.inside.Parsing.{FitRole, FitCount, FieldOf, decoded}
 use Rattle.layout.proofs.Decoded.{next_field, no_field, slots-le}

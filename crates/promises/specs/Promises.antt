@@ -1,6 +1,6 @@
 -- What a layout promises: whether demand 3 (document 01), M-107 and M-113 (02) speak of it; and whether one layout is
 -- another with fields added. THE EFFECTS OF THE CALLS are `promised` and `extended`.
-use Rattle.std.specs.Prelude.{ℕ, suc, ◌+◌, ◌-◌, Bool, ◌&&◌, List, [], ◌∷◌, length, eqb, leb}
+use Rattle.std.specs.Prelude.{ℕ, suc, ◌+◌, ◌-◌, Bool, ◌&&◌, List, [], ◌∷◌, length, eqb, leb, if◌then◌else◌}
 use Rattle.layout.specs.declared.Role.{Role}
 use Rattle.layout.specs.declared.Role.TheVariants.{Data, Move}
 use Rattle.layout.specs.declared.Motion.TheVariants.{Skip, Back, Goto}
@@ -10,7 +10,7 @@ use Rattle.layout.specs.declared.Count.TheVariants.{Absent, Star, Times}
 use Rattle.layout.specs.declared.Field.{Field}
 use Rattle.layout.specs.declared.Refusal.{Refusal}
 use Rattle.layout.specs.declared.Refusal.TheVariants.{BadSize, BadSlots, NoRoom, OtherFields, NotPlain}
-use Rattle.layout.specs.Refusals.{if◌then◌else◌, Result, ok, refused, ◌>>=◌, demand}
+use Rattle.layout.specs.Refusals.{Result, ok, refused, ◌>>=◌, demand}
 use Rattle.layout.specs.Layout.{max_layout, to_nat, slots_taken}
 use Rattle.record.specs.Table.{max_slots, max_record}
 use Rattle.record.specs.Packing.{accepted, refusal}

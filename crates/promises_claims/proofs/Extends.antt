@@ -1,6 +1,7 @@
 -- No field differs just where the new fields are the old ones with others after them, because the test of two fields
 -- holds just where they are equal and every place lies in the text. With that `extends` asks what demand 3 asks of the
 -- layouts, and demand 3 is proved.
+use Rattle.std.specs.Prelude.{if◌then◌else◌}
 use Prim.Native.Nat.{ℕ, ◌+◌, ◌-◌, ◌≤◌}
 use native.Mathlib.Omega.{arith}
 use mathlib.Core.Path.{◌≡◌, refl, sym, ap, ◌∙◌, subst}
@@ -12,7 +13,7 @@ use borrow.Author.Tests.{eqb-true}
 use Rattle.layout.specs.declared.Field.{Field}
 use Rattle.layout.specs.declared.Refusal.{Refusal}
 use Rattle.layout.specs.declared.Refusal.TheVariants.{BadSlots, NoRoom, OtherFields, NotPlain}
-use Rattle.layout.specs.Refusals.{if◌then◌else◌, Result, ok, ◌>>=◌}
+use Rattle.layout.specs.Refusals.{Result, ok, ◌>>=◌}
 use Rattle.layout.specs.Layout.{max_layout}
 use Rattle.layout.proofs.Laws.{ok-inj, bound, demanded}
 use Rattle.layout.proofs.Decoded.{count-append}

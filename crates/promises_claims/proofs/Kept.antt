@@ -1,6 +1,7 @@
 -- No field breaks a promise just where all fields keep it, since every place lies in the text and so is not the number
 -- that stands for none. That all keep to a limit is said by the sum over all of them, since the sums only grow; so all
 -- fields keep a promise just where the layout is one of which the theorem speaks.
+use Rattle.std.specs.Prelude.{if◌then◌else◌}
 use Prim.Native.Nat.{ℕ, suc, ◌+◌, ◌≤◌}
 use native.Mathlib.Omega.{arith}
 use mathlib.Core.Path.{◌≡◌, refl, sym, ◌∙◌}
@@ -10,7 +11,6 @@ use lib.ListN.{length}
 use lib.Dec.{T, leb}
 use borrow.Author.Tests.{le-leb, leb-true}
 use Rattle.layout.specs.declared.Field.{Field}
-use Rattle.layout.specs.Refusals.{if◌then◌else◌}
 use Rattle.layout.specs.Layout.{max_layout, takes_slot, to_nat, slot_count, slots_taken}
 use Rattle.record.specs.Table.{max_slots, max_record}
 use Rattle.record.proofs.Bytes.{and-true}

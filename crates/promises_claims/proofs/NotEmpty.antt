@@ -1,6 +1,7 @@
 -- No theorem speaks of nothing. Within the limits one area of zero bytes serves the fields of every layout: strings and
 -- digits are empty, and integers and reals are zeros. A reading that only goes forward finds values of at most eight
 -- bytes for each byte of the record, and the area may be that large.
+use Rattle.std.specs.Prelude.{if◌then◌else◌}
 use Prim.Native.Nat.{ℕ, zero, suc, ◌+◌, ◌-◌, ◌*◌, ◌≤◌, min}
 use native.Mathlib.Omega.{arith}
 use mathlib.Core.Path.{◌≡◌, refl}
@@ -18,7 +19,7 @@ use Rattle.layout.specs.declared.Shape.TheVariants.{Text, Digits, Integers, Real
 use Rattle.layout.specs.declared.Count.{Count}
 use Rattle.layout.specs.declared.Count.TheVariants.{Absent, Star, Times}
 use Rattle.layout.specs.declared.Field.{Field}
-use Rattle.layout.specs.Refusals.{if◌then◌else◌, ok}
+use Rattle.layout.specs.Refusals.{ok}
 use Rattle.layout.specs.Layout.{max_layout, slot_count}
 use Rattle.layout.specs.inside.Parsing.{FitRole}
 use Rattle.layout.proofs.Laws.{AllSound, packed-reads}

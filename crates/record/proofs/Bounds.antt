@@ -1,4 +1,5 @@
 -- Bounds of the numbers that code computes from a field's geometry.
+use Rattle.std.specs.Prelude.{if◌then◌else◌}
 use Prim.Native.Nat.{ℕ, ◌*◌, ◌/◌, ◌%◌, ◌^◌, ◌≤◌, ◌<◌}
 use native.Mathlib.Nat.{mul-le-mul, mod-eq_of_lt}
 use native.Mathlib.Omega.{arith}
@@ -10,7 +11,6 @@ use borrow.Author.Tests.{le-leb, lt-leb}
 use Rattle.layout.specs.declared.Role.TheVariants.{Data}
 use Rattle.layout.specs.declared.Shape.{Shape}
 use Rattle.layout.specs.declared.Shape.TheVariants.{Text, Digits, Integers, Reals}
-use Rattle.layout.specs.Refusals.{if◌then◌else◌}
 use Rattle.layout.specs.Codes.{last_digits, last_integers, last_data}
 use Rattle.layout.specs.inside.Parsing.{size_numbered, shape_numbered, FitRole}
 use Rattle.layout.specs.Layout.{real_size}

@@ -1,5 +1,6 @@
 -- A reading looks at the number of the slots that it is lent, and not at what they hold: it sets the first of them, and
 -- the others stay.
+use Rattle.std.specs.Prelude.{if◌then◌else◌}
 use Prim.Native.Nat.{ℕ, suc, ◌+◌, ◌-◌, ◌*◌, ◌/◌, ◌≤◌}
 use native.Mathlib.Nat.{zero-add, mul_comm}
 use native.Mathlib.Omega.{arith}
@@ -15,7 +16,7 @@ use Rattle.layout.specs.declared.Role.TheVariants.{Data, Move}
 use Rattle.layout.specs.declared.Count.{Count}
 use Rattle.layout.specs.declared.Field.{Field}
 use Rattle.layout.specs.declared.Refusal.TheVariants.{NoRoom}
-use Rattle.layout.specs.Refusals.{if◌then◌else◌, number_of, Result, ok, refused}
+use Rattle.layout.specs.Refusals.{number_of, Result, ok, refused}
 use Rattle.layout.specs.Layout.{fields_of, slot_count}
 use Rattle.layout.proofs.Laws.{bound, demanded, ok-inj, no-number-zero}
 use Rattle.record.specs.declared.Answer.{Answer}

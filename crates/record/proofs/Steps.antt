@@ -1,4 +1,5 @@
 -- The steps of a reading: each is a field of its own, and a field has a type character of its own.
+use Rattle.std.specs.Prelude.{if◌then◌else◌}
 use Prim.Native.Nat.{ℕ, zero, suc, ◌+◌, ◌-◌, ◌≤◌}
 use native.Mathlib.Omega.{arith}
 use mathlib.Core.Path.{◌≡◌, refl, subst}
@@ -10,7 +11,7 @@ use Rattle.layout.specs.declared.Role.{Role}
 use Rattle.layout.specs.declared.Role.TheVariants.{Data, Move}
 use Rattle.layout.specs.declared.Count.{Count}
 use Rattle.layout.specs.declared.Field.{Field}
-use Rattle.layout.specs.Refusals.{if◌then◌else◌, Result, ok, refused}
+use Rattle.layout.specs.Refusals.{Result, ok, refused}
 use Rattle.layout.specs.Layout.{Step, space, field, bad, step_of, step_extra, step_then, fields_from, fields_of}
 use Rattle.layout.proofs.Laws.{bound, no-refusal, ok-inj}
 use Rattle.record.specs.Geometry.{bytes_for, items_of, moved_in}

@@ -1,4 +1,5 @@
 -- What code that copies bytes goes by: no number is ever formed.
+use Rattle.std.specs.Prelude.{if◌then◌else◌}
 use Prim.Native.Nat.{ℕ, zero, suc, ◌+◌, ◌-◌, ◌*◌, ◌^◌, ◌≤◌, ◌<◌}
 use native.Mathlib.Nat.{zero-add, add-mul-mod_self_left, add-mul-div_left, div-eq_of_lt, mod-eq_of_lt, pow-suc, pow-zero, not-suc-le-zero, le_of_suc-le-suc, mul-le-mul_left, pow-succ'}
 use native.Mathlib.Omega.{arith}
@@ -9,7 +10,6 @@ use lib.ListN.{length, take, replicate, length-append, length-replicate}
 use lib.Pow.{pow-add}
 use lib.Dec.{ltb}
 use borrow.Author.Tests.{lt-ltb, le-ltb}
-use Rattle.layout.specs.Refusals.{if◌then◌else◌}
 use Rattle.record.specs.Bytes.{digits, number}
 use Rattle.record.specs.Reading.{widened}
 use Rattle.record.proofs.Fields.{split}

@@ -1,5 +1,5 @@
 -- The packer (document 01, Packing, and Numbers that come back): THE EFFECT OF A CALL is `pack`, at the end.
-use Rattle.std.specs.Prelude.{ℕ, suc, ◌+◌, ◌-◌, ◌*◌, Bool, true, false, ◌&&◌, not, List, [], ◌∷◌, ◌++◌, map, length, take, drop, replicate, eqb, leb, ltb}
+use Rattle.std.specs.Prelude.{ℕ, suc, ◌+◌, ◌-◌, ◌*◌, Bool, true, false, ◌&&◌, not, List, [], ◌∷◌, ◌++◌, map, length, take, drop, replicate, eqb, leb, ltb, if◌then◌else◌}
 use Rattle.layout.specs.declared.Role.{Role}
 use Rattle.layout.specs.declared.Role.TheVariants.{Data, Move}
 use Rattle.layout.specs.declared.Shape.{Shape}
@@ -10,7 +10,7 @@ use Rattle.layout.specs.declared.Count.TheVariants.{Absent, Star, Times}
 use Rattle.layout.specs.declared.Field.{Field}
 use Rattle.layout.specs.declared.Refusal.{Refusal}
 use Rattle.layout.specs.declared.Refusal.TheVariants.{BadSize, BadSlots, NotSet, BadSlot, WrongKind, BadList, BadDigit, NoRoom, BadReal}
-use Rattle.layout.specs.Refusals.{if◌then◌else◌, number_of, Result, ok, refused, ◌>>=◌, demand}
+use Rattle.layout.specs.Refusals.{number_of, Result, ok, refused, ◌>>=◌, demand}
 use Rattle.layout.specs.Layout.{is_decimal, fields_of, slot_count, real_size}
 use Rattle.real.specs.Patterns.{is_na_n}
 use Rattle.real.specs.Narrowing.{single_of}

@@ -1,6 +1,5 @@
 -- Slot tables (document 01, Slot tables): a run of slots, `slot_width` numbers to each, and a value area of bytes.
-use Rattle.std.specs.Prelude.{ℕ, ◌+◌, Bool, ◌||◌, List, [], ◌∷◌, map, length, get_or, take, drop, eqb}
-use Rattle.layout.specs.Refusals.{if◌then◌else◌}
+use Rattle.std.specs.Prelude.{ℕ, ◌+◌, Bool, ◌||◌, List, [], ◌∷◌, map, length, get_or, take, drop, eqb, if◌then◌else◌}
 use Rattle.record.specs.declared.slots.Slot.{Slot}
 use Rattle.record.specs.Bytes.{join, big_endian, big_endian_in}
 

@@ -1,4 +1,5 @@
 -- Laws of cut sheets over the width of a length: which entries are whole in the front of a run of entries.
+use Rattle.std.specs.Prelude.{if◌then◌else◌}
 use Prim.Native.Nat.{ℕ, zero, suc, ◌+◌, ◌-◌, ◌^◌, ◌≤◌, ◌<◌}
 use native.Mathlib.Nat.{not-suc-le-zero, le_of_suc-le-suc}
 use native.Mathlib.Omega.{arith}
@@ -9,7 +10,6 @@ use borrow.Author.Tests.{leb-true, leb-false, le-leb, lt-leb, ltb-true, ltb-fals
 use lib.Dec.{leb, ltb}
 use lib.ListN.{length, take, length-append, length-take}
 use lib.Seq.{take-append-le, take-append-add, take-take, take-nil}
-use Rattle.layout.specs.Refusals.{if◌then◌else◌}
 use Rattle.record.specs.Bytes.{join, number_at}
 use Rattle.record.proofs.Bytes.{drop-take}
 use Rattle.sheet.specs.Entries.{Entry, entry_bytes, body_bytes, begins_entry, entries_in}

@@ -1,5 +1,6 @@
 -- A rescue looks at the number of the slots that it is lent, and not at what they hold: it sets one for each leg, and
 -- the others stay.
+use Rattle.std.specs.Prelude.{if◌then◌else◌}
 use Prim.Native.Nat.{ℕ, ◌*◌, ◌≤◌}
 use native.Mathlib.Omega.{arith}
 use mathlib.Core.Path.{◌≡◌, refl, sym, ap, ◌∙◌}
@@ -7,7 +8,7 @@ use mathlib.Core.List.{List}
 use borrow.Author.Tests.{ne_eqb}
 use lib.Dec.{eqb}
 use lib.ListN.{length, take, length-take}
-use Rattle.layout.specs.Refusals.{if◌then◌else◌, Result, ok, refused, number_of}
+use Rattle.layout.specs.Refusals.{Result, ok, refused, number_of}
 use Rattle.layout.proofs.Laws.{no-number-zero}
 use Rattle.record.specs.Bytes.{store_at}
 use Rattle.record.specs.Table.{slot_width}

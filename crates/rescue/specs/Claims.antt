@@ -1,7 +1,6 @@
 -- What a rescue keeps (02, M-109): claims on the call for all sheets, tables, areas, marks and cuts. The proofs are in
 -- proofs/Claims.antt, and proofs/Instance.antt meets the premises.
-use Rattle.std.specs.Prelude.{ℕ, suc, ◌+◌, ◌-◌, ◌*◌, ◌≤◌, ◌<◌, ◌≡◌, List, [], ◌∷◌, map, length, take, T, leb, ltb}
-use Rattle.layout.specs.Refusals.{if◌then◌else◌}
+use Rattle.std.specs.Prelude.{ℕ, suc, ◌+◌, ◌-◌, ◌*◌, ◌≤◌, ◌<◌, ◌≡◌, List, [], ◌∷◌, map, length, take, T, leb, ltb, if◌then◌else◌}
 use Rattle.record.specs.Table.{slots_of, slot_width}
 use Rattle.record.specs.Geometry.{table_fits}
 use Rattle.record.specs.Reading.{Read}

@@ -1,9 +1,9 @@
 -- Rescuing what is whole of a damaged sheet (02, M-109 and M-111, whose fitting rule does not bind here): THE EFFECT OF
 -- THE CALL is `rescue`.
-use Rattle.std.specs.Prelude.{ℕ, ◌+◌, ◌-◌, ◌&&◌, List, [], ◌++◌, length, take, replicate, leb}
+use Rattle.std.specs.Prelude.{ℕ, ◌+◌, ◌-◌, ◌&&◌, List, [], ◌++◌, length, take, replicate, leb, if◌then◌else◌}
 use Rattle.layout.specs.declared.Refusal.{Refusal}
 use Rattle.layout.specs.declared.Refusal.TheVariants.{BadSize, BadSlots, NoRoom, BadVersion}
-use Rattle.layout.specs.Refusals.{if◌then◌else◌, number_of, Result, ok, refused, ◌>>=◌, demand}
+use Rattle.layout.specs.Refusals.{number_of, Result, ok, refused, ◌>>=◌, demand}
 use Rattle.record.specs.Table.{unset, slots_of, max_slots}
 use Rattle.sheet.specs.Entries.{Entry, entry_values, entries_in}
 use Rattle.sheet.specs.Sheet.{header_size, sheet_sizes_fit, version_of, version_known, width_in, entries_at, entries_end, put_entries}

@@ -1,5 +1,6 @@
 -- A reading changes the slots that it counts and the bytes from the mark on. So each number of a later slot stays, and
 -- a value that ends at or before the mark is made of bytes that stay.
+use Rattle.std.specs.Prelude.{if◌then◌else◌}
 use Prim.Native.Nat.{ℕ, ◌+◌, ◌-◌, ◌*◌, ◌≤◌, ◌<◌}
 use native.Mathlib.Omega.{arith}
 use mathlib.Core.Path.{◌≡◌, refl, sym, ap, ◌∙◌}
@@ -9,7 +10,7 @@ use lib.ListN.{length, get_or, take, drop, replicate}
 use lib.Seq.{get_or-drop, take-take, take_at, drop_at, length-take-le, drop-drop, ext_get_or}
 use lib.Dec.{eqb, leb}
 use borrow.Author.Tests.{leb-true}
-use Rattle.layout.specs.Refusals.{if◌then◌else◌, Result, ok, refused}
+use Rattle.layout.specs.Refusals.{Result, ok, refused}
 use Rattle.layout.specs.Layout.{fields_of}
 use Rattle.layout.specs.Quoted.{bytes}
 use Rattle.layout.proofs.Laws.{demanded}

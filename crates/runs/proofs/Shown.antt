@@ -1,4 +1,5 @@
 -- The slots of values just put into a table show those values: each stands in the area where its slot says.
+use Rattle.std.specs.Prelude.{if◌then◌else◌}
 use Prim.Native.Nat.{ℕ, zero, suc, ◌+◌, ◌-◌, ◌*◌, ◌%◌, ◌^◌, ◌≤◌, ◌<◌}
 use native.Mathlib.Nat.{not-suc-le-zero, mod-lt, one-le-pow, pow-le-pow_right}
 use native.Mathlib.Omega.{arith}
@@ -8,7 +9,6 @@ use mathlib.Core.List.{List, [], ◌∷◌, ◌++◌, map, append_assoc}
 use lib.ListN.{length, get_or, take, drop}
 use lib.Seq.{take_at, drop_at, drop-drop, length-take-le}
 use lib.Dec.{eqb, ltb}
-use Rattle.layout.specs.Refusals.{if◌then◌else◌}
 use Rattle.record.specs.Bytes.{join, store_at}
 use Rattle.record.specs.Table.{slots_of, slot_width, no_position, Value, integer_size, integer_bytes, integers_in, area_bytes, shown, slot_numbers, value_bytes}
 use Rattle.record.specs.Slots.{slot_at}

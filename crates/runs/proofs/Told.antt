@@ -1,5 +1,6 @@
 -- Two slots of one kind show the same exactly where their bytes in the area are the same: a string is its bytes, and
 -- eight bytes and the number that they make determine each other.
+use Rattle.std.specs.Prelude.{if◌then◌else◌}
 use Prim.Native.Nat.{ℕ, zero, suc, ◌*◌, ◌/◌, ◌^◌, ◌≤◌, ◌<◌}
 use native.Mathlib.Nat.{mod-lt, mul-one}
 use native.Mathlib.Omega.{arith}
@@ -10,7 +11,6 @@ use mathlib.Core.List.{List, [], ◌∷◌}
 use lib.ListN.{length, take, drop, length-drop}
 use lib.Seq.{take-take, length-take-le}
 use lib.Dec.{eqb}
-use Rattle.layout.specs.Refusals.{if◌then◌else◌}
 use Rattle.record.specs.declared.slots.Slot.{Slot}
 use Rattle.record.specs.Bytes.{part, join, digits, number_bytes, big_endian}
 use Rattle.record.specs.Table.{string, integer_size, item_size, Value, integers_in, shown}

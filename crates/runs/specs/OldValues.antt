@@ -1,7 +1,6 @@
 -- What becomes of the values that a table showed before a reading (document 01, Reading, on bytes below the mark): a
 -- claim for all layouts, records, tables, areas and marks, accepted or refused. The proof is in proofs/OldValues.antt.
-use Rattle.std.specs.Prelude.{ℕ, ◌≤◌, ◌≡◌, List, eqb}
-use Rattle.layout.specs.Refusals.{if◌then◌else◌}
+use Rattle.std.specs.Prelude.{ℕ, ◌≤◌, ◌≡◌, List, eqb, if◌then◌else◌}
 use Rattle.record.specs.Table.{shown}
 use Rattle.record.specs.Slots.{slot_at, value_end}
 use Rattle.record.specs.Reading.{Read, read}

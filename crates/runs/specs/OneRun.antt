@@ -1,10 +1,10 @@
 -- A reading is one run over the fields (document 01, Reading; 02, M-110 and M-112): values, positions and steps are its
 -- parts.
-use Rattle.std.specs.Prelude.{ℕ, suc, ◌+◌, ◌-◌, ◌≡◌, false, ◌&&◌, List, [], ◌∷◌, length, take, leb}
+use Rattle.std.specs.Prelude.{ℕ, suc, ◌+◌, ◌-◌, ◌≡◌, false, ◌&&◌, List, [], ◌∷◌, length, take, leb, if◌then◌else◌}
 use Rattle.layout.specs.declared.Role.TheVariants.{Data, Move}
 use Rattle.layout.specs.declared.Field.{Field}
 use Rattle.layout.specs.declared.Refusal.TheVariants.{BadSize, BadSlots, NoRoom}
-use Rattle.layout.specs.Refusals.{if◌then◌else◌, Result, ok, refused, ◌>>=◌, demand}
+use Rattle.layout.specs.Refusals.{Result, ok, refused, ◌>>=◌, demand}
 use Rattle.layout.specs.Layout.{fields_of, slot_count}
 use Rattle.record.specs.Table.{slots_of, Value, value_bytes}
 use Rattle.record.specs.Geometry.{bytes_for, items_of, moved_in, sizes_fit}

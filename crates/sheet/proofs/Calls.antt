@@ -1,5 +1,6 @@
 -- Which way a call goes, on plain values: each way out leaves what the definition gives, and what an accepted call has
 -- passed.
+use Rattle.std.specs.Prelude.{if◌then◌else◌}
 use Prim.Native.Nat.{ℕ, ◌+◌, ◌*◌, ◌%◌, ◌^◌, ◌≤◌, ◌<◌}
 use native.Mathlib.Nat.{zero-add}
 use native.Mathlib.Omega.{arith}
@@ -11,7 +12,7 @@ use lib.Dec.{eqb, leb}
 use lib.ListN.{length, drop}
 use Rattle.layout.specs.declared.Refusal.{Refusal}
 use Rattle.layout.specs.declared.Refusal.TheVariants.{BadSize, BadSlots, NoRoom, BadSheet, BadVersion}
-use Rattle.layout.specs.Refusals.{if◌then◌else◌, Result, ok, refused}
+use Rattle.layout.specs.Refusals.{Result, ok, refused}
 use Rattle.layout.proofs.Laws.{demanded, bound, no-number-zero}
 use Rattle.record.specs.Bytes.{store_at}
 use Rattle.record.specs.Table.{slots_of, slot_width, max_slots, max_area}

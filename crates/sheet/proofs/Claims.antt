@@ -1,5 +1,6 @@
 -- The two claims: a table keeps its values on the way to a sheet and back, and a sheet its bytes on the way to a table
 -- and back.
+use Rattle.std.specs.Prelude.{if◌then◌else◌}
 use Prim.Native.Nat.{ℕ, suc, ◌+◌, ◌*◌, ◌^◌, ◌≤◌, ◌<◌}
 use native.Mathlib.Omega.{arith}
 use mathlib.Core.Path.{◌≡◌, refl, sym, ap, ◌∙◌, subst}
@@ -9,7 +10,7 @@ use borrow.Author.Tests.{eqb-true, le-leb, leb-true, lt-ltb, not-true}
 use lib.Dec.{T, eqb, leb}
 use lib.ListN.{length, take, drop, length-map, length-drop}
 use lib.Seq.{take_at, drop_at, length-take-le}
-use Rattle.layout.specs.Refusals.{if◌then◌else◌, ok}
+use Rattle.layout.specs.Refusals.{ok}
 use Rattle.record.specs.Bytes.{store_at, number_at}
 use Rattle.record.specs.Geometry.{table_fits}
 use Rattle.record.specs.Table.{slots_of, slot_width}

@@ -1,4 +1,5 @@
 -- The header's length counts every entry's bytes, so it is the greatest of all lengths: where it fits, they all do.
+use Rattle.std.specs.Prelude.{if◌then◌else◌}
 use Prim.Native.Nat.{suc, ◌+◌, ◌≤◌, ◌<◌}
 use native.Mathlib.Decide.{dec_le}
 use native.Mathlib.Nat.{lt_of_not-le}
@@ -9,7 +10,6 @@ use mathlib.Core.List.{List, [], ◌∷◌, map}
 use borrow.Author.Tests.{le-leb, lt-leb, lt-ltb, le-ltb}
 use lib.ListN.{length, drop, length-append}
 use lib.Seq.{take-append_seam}
-use Rattle.layout.specs.Refusals.{if◌then◌else◌}
 use Rattle.record.specs.Bytes.{join}
 use Rattle.record.specs.Table.{slots_of}
 use Rattle.sheet.specs.Entries.{Entry, entry_bytes, body_bytes}

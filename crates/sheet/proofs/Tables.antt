@@ -1,4 +1,5 @@
 -- Laws of tables and entries: a table's slots as entries, and entries put into a table.
+use Rattle.std.specs.Prelude.{if◌then◌else◌}
 use Prim.Native.Nat.{ℕ, zero, suc, ◌+◌, ◌-◌, ◌*◌, ◌/◌, ◌%◌, ◌≤◌}
 use native.Mathlib.Nat.{suc-mul, mul-one}
 use native.Mathlib.Omega.{arith}
@@ -10,7 +11,7 @@ use lib.Dec.{eqb, leb}
 use lib.ListN.{length, take, drop, length-append}
 use lib.Seq.{take_at, drop_at, take-take, drop-drop}
 use Rattle.layout.specs.declared.Refusal.TheVariants.{BadSlot}
-use Rattle.layout.specs.Refusals.{if◌then◌else◌, ok}
+use Rattle.layout.specs.Refusals.{ok}
 use Rattle.layout.proofs.Laws.{demanded}
 use Rattle.record.specs.Bytes.{part, store_at, join, pieces, big_endian_in}
 use Rattle.record.specs.declared.slots.Slot.{Slot}

@@ -1,8 +1,7 @@
 -- What a sheet keeps (02, M-100): two claims on the calls, for all tables, sheets, areas, marks and buffers, and both
 -- calls one after the other; and which version a table is written as (02, M-111). The proofs are in proofs/Claims.antt
 -- and proofs/Fitting.antt, and proofs/Instance.antt meets the premises.
-use Rattle.std.specs.Prelude.{ℕ, suc, ◌+◌, ◌*◌, ◌≤◌, ◌<◌, ◌≡◌, Bool, true, ◌&&◌, List, [], ◌∷◌, ◌++◌, map, length, take, drop, get_or, T, eqb, leb}
-use Rattle.layout.specs.Refusals.{if◌then◌else◌}
+use Rattle.std.specs.Prelude.{ℕ, suc, ◌+◌, ◌*◌, ◌≤◌, ◌<◌, ◌≡◌, Bool, true, ◌&&◌, List, [], ◌∷◌, ◌++◌, map, length, take, drop, get_or, T, eqb, leb, if◌then◌else◌}
 use Rattle.record.specs.declared.Answer.{Answer}
 use Rattle.record.specs.declared.slots.Slot.{Slot}
 use Rattle.record.specs.Table.{unset, slots_of, slot_width, Value, shown}

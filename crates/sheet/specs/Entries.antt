@@ -1,7 +1,6 @@
 -- The entries of a sheet (02, M-100): the bytes of each, and the entries that stand at the front of a run of bytes.
 -- w is the width of a length: how many bytes it has.
-use Rattle.std.specs.Prelude.{ℕ, zero, suc, ◌+◌, ◌-◌, ◌%◌, Bool, ◌&&◌, List, [], ◌∷◌, ◌++◌, map, length, get_or, eqb, leb}
-use Rattle.layout.specs.Refusals.{if◌then◌else◌}
+use Rattle.std.specs.Prelude.{ℕ, zero, suc, ◌+◌, ◌-◌, ◌%◌, Bool, ◌&&◌, List, [], ◌∷◌, ◌++◌, map, length, get_or, eqb, leb, if◌then◌else◌}
 use Rattle.record.specs.Bytes.{part, join, number_bytes, number_at}
 use Rattle.record.specs.Table.{unset, max_kind, item_size}
 

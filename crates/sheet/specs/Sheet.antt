@@ -1,8 +1,8 @@
 -- Storing a table as a sheet and reading it back (02, M-100 and M-111): THE EFFECTS OF THE CALLS are `write_sheet` and
 -- `read_sheet`.
-use Rattle.std.specs.Prelude.{ℕ, suc, ◌+◌, ◌*◌, ◌/◌, ◌^◌, Bool, not, ◌&&◌, ◌||◌, List, [], ◌∷◌, ◌++◌, map, length, drop, get_or, eqb, leb, ltb}
+use Rattle.std.specs.Prelude.{ℕ, suc, ◌+◌, ◌*◌, ◌/◌, ◌^◌, Bool, not, ◌&&◌, ◌||◌, List, [], ◌∷◌, ◌++◌, map, length, drop, get_or, eqb, leb, ltb, if◌then◌else◌}
 use Rattle.layout.specs.declared.Refusal.TheVariants.{BadSize, BadSlots, BadSlot, NoRoom, BadSheet, BadVersion}
-use Rattle.layout.specs.Refusals.{if◌then◌else◌, Result, ok, refused, ◌>>=◌, demand}
+use Rattle.layout.specs.Refusals.{Result, ok, refused, ◌>>=◌, demand}
 use Rattle.record.specs.Bytes.{part, store_at, number_bytes, number_at}
 use Rattle.record.specs.declared.slots.Slot.{Slot}
 use Rattle.record.specs.Table.{unset, slots_of, slot_width, no_position, item_size}

@@ -1,5 +1,6 @@
 -- What the older reader accepted has version 1 and keeps to the wider limits. A version 2 sheet has lengths that
 -- version 1 has no room for, so it is longer than the older reader takes; a part of it begins with its version.
+use Rattle.std.specs.Prelude.{if◌then◌else◌}
 use Prim.Native.Nat.{ℕ, zero, suc, ◌+◌, ◌*◌, ◌%◌, ◌^◌, ◌≤◌, ◌<◌}
 use native.Mathlib.Nat.{not-suc-le-zero}
 use native.Mathlib.Omega.{arith}
@@ -11,7 +12,7 @@ use lib.Dec.{eqb, leb}
 use lib.ListN.{length, take, drop, length-take}
 use lib.Seq.{take-append_seam}
 use Rattle.layout.specs.declared.Refusal.TheVariants.{BadSize, BadSlots, NoRoom, BadSheet, BadVersion}
-use Rattle.layout.specs.Refusals.{if◌then◌else◌, Result, ok, refused, ◌>>=◌, demand}
+use Rattle.layout.specs.Refusals.{Result, ok, refused, ◌>>=◌, demand}
 use Rattle.layout.proofs.Laws.{demanded, no-number-zero}
 use Rattle.record.specs.Table.{slots_of, slot_width, max_slots}
 use Rattle.record.proofs.Bytes.{and-true}

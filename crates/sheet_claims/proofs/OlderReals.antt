@@ -1,5 +1,6 @@
 -- A reader that knows kinds up to 3 takes the entries before the first real's and not that one, so they end before the
 -- sheet does. Where there is no such entry it takes them all.
+use Rattle.std.specs.Prelude.{if◌then◌else◌}
 use Prim.Native.Nat.{ℕ, zero, suc, ◌+◌, ◌<◌}
 use native.Mathlib.Omega.{arith}
 use mathlib.Core.Path.{◌≡◌, refl, sym, ap, ap₂, ◌∙◌}
@@ -8,7 +9,6 @@ use mathlib.Core.List.{List, [], ◌∷◌, ◌++◌}
 use borrow.Author.Tests.{le-leb, lt-leb, ne_eqb}
 use lib.Dec.{eqb, leb}
 use lib.ListN.{length, drop, get_or, length-append}
-use Rattle.layout.specs.Refusals.{if◌then◌else◌}
 use Rattle.record.specs.Bytes.{join}
 use Rattle.sheet.specs.Entries.{Entry, entry_bytes, body_bytes, begins_entry, entry_in, entries_from, entries_in}
 use Rattle.sheet.specs.Sheet.{header_size, width_in, entries_at, entries_end, reads_sheet, read_sheet}

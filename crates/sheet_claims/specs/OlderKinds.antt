@@ -1,9 +1,9 @@
 -- Readers of sheets for which 3 was the last kind: that of M-100, and that of M-111, which stood until reals came. What
 -- they answer to a sheet with a real (02, M-108), and that else they read as later readers do. The proofs are in
 -- proofs/OlderReals.antt.
-use Rattle.std.specs.Prelude.{ℕ, zero, suc, ◌+◌, ◌≤◌, ◌≡◌, Bool, true, ◌&&◌, List, [], ◌∷◌, ◌++◌, length, drop, get_or, eqb, leb}
+use Rattle.std.specs.Prelude.{ℕ, zero, suc, ◌+◌, ◌≤◌, ◌≡◌, Bool, true, ◌&&◌, List, [], ◌∷◌, ◌++◌, length, drop, get_or, eqb, leb, if◌then◌else◌}
 use Rattle.layout.specs.declared.Refusal.TheVariants.{BadSize, BadSlots, NoRoom, BadSheet, BadVersion}
-use Rattle.layout.specs.Refusals.{if◌then◌else◌, Result, ok, ◌>>=◌, demand}
+use Rattle.layout.specs.Refusals.{Result, ok, ◌>>=◌, demand}
 use Rattle.record.specs.Table.{unsigned, real, slots_of}
 use Rattle.record.specs.Packing.{refusal}
 use Rattle.record.specs.Reading.{Read}

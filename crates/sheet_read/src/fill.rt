@@ -1,7 +1,6 @@
 // The first entries of a sheet put into a table and its area (document 02, M-100 and M-111). w is the width of a
 // length.
-ghost use Rattle.std.specs.Prelude.{◌≡◌, true, ◌+◌, ◌/◌, ◌≤◌, length, drop, eqb};
-ghost use Rattle.layout.specs.Refusals.{if◌then◌else◌};
+ghost use Rattle.std.specs.Prelude.{◌≡◌, true, ◌+◌, ◌/◌, ◌≤◌, length, drop, eqb, if◌then◌else◌};
 ghost use Rattle.record.specs.Table.{max_slots, max_area, integer_size, item_size};
 ghost use Rattle.record.specs.Packing.{accepted};
 ghost use Rattle.sheet.specs.Entries.{begins_entry, entry_in};

@@ -1,4 +1,5 @@
 -- The version and the length that the code chooses by numbers are those of the table's sheet.
+use Rattle.std.specs.Prelude.{if◌then◌else◌}
 use Prim.Native.Nat.{ℕ, ◌+◌, ◌*◌, ◌/◌, ◌≤◌}
 use native.Mathlib.Omega.{arith}
 use mathlib.Core.Path.{◌≡◌, refl, sym, ap, ◌∙◌}
@@ -7,7 +8,6 @@ use mathlib.Core.List.{List}
 use borrow.Author.Tests.{ltb-true, ltb-false, lt-ltb, le-ltb}
 use lib.Dec.{eqb, ltb}
 use lib.ListN.{length}
-use Rattle.layout.specs.Refusals.{if◌then◌else◌}
 use Rattle.record.specs.Bytes.{store_at}
 use Rattle.record.specs.Table.{slots_of, slot_width, max_slots}
 use Rattle.record.proofs.Tables.{length-slots}

@@ -1,7 +1,7 @@
 -- Reading over a slice of slot records (01, Slot tables): THE EFFECT OF A CALL is `read_slots`.
-use Rattle.std.specs.Prelude.{ℕ, ◌*◌, ◌≡◌, List, [], take, leb}
+use Rattle.std.specs.Prelude.{ℕ, ◌*◌, ◌≡◌, List, [], take, leb, if◌then◌else◌}
 use Rattle.layout.specs.declared.Refusal.TheVariants.{BadSize}
-use Rattle.layout.specs.Refusals.{if◌then◌else◌, refused}
+use Rattle.layout.specs.Refusals.{refused}
 use Rattle.record.specs.declared.ReadAnswer.{ReadAnswer}
 use Rattle.record.specs.Table.{max_slots, slot_width}
 use Rattle.record.specs.Reading.{read, read_steps, read_effect, ReadAll, with_steps, read_all}

@@ -1,6 +1,5 @@
 -- Slot records (01, Slot tables): a slot's numbers, and the slots that a run of numbers makes.
-use Rattle.std.specs.Prelude.{ℕ, suc, ◌+◌, ◌*◌, List, [], ◌∷◌, get_or, set, leb}
-use Rattle.layout.specs.Refusals.{if◌then◌else◌}
+use Rattle.std.specs.Prelude.{ℕ, suc, ◌+◌, ◌*◌, List, [], ◌∷◌, get_or, set, leb, if◌then◌else◌}
 use Rattle.record.specs.Table.{max_slots, slot_width}
 use Rattle.slots.specs.declared.SlotRecord.{SlotRecord}
 

@@ -1,5 +1,6 @@
 -- Laws of the bits that differ: of two bytes they are the ones of the exclusive or, and of two runs the sum over the
 -- bytes.
+use Rattle.std.specs.Prelude.{if◌then◌else◌}
 use Prim.Native.Nat.{ℕ, zero, suc, ◌+◌, ◌*◌, ◌/◌, ◌%◌, ◌^◌, ◌≤◌, ◌<◌, min}
 use native.Mathlib.Nat.{pow-suc, add_assoc, zero-add}
 use native.Mathlib.Omega.{arith}
@@ -11,7 +12,6 @@ use lib.Bits.{bit_xor, differ, xor_step}
 use lib.Count.{ones, ones_step}
 use lib.Dec.{eqb}
 use lib.ListN.{length, take, get_or}
-use Rattle.layout.specs.Refusals.{if◌then◌else◌}
 use Rattle.record.specs.Bytes.{part, join, digits}
 use Rattle.record.proofs.Bytes.{length_digits}
 use Rattle.record.proofs.Stores.{length_part}

@@ -1,4 +1,5 @@
 -- Laws of what a table shows: slot by slot, and finding by finding.
+use Rattle.std.specs.Prelude.{if◌then◌else◌}
 use Prim.Native.Nat.{ℕ, zero, suc, ◌+◌, ◌*◌, ◌≤◌, ◌<◌}
 use native.Mathlib.Nat.{not-suc-le-zero}
 use native.Mathlib.Omega.{arith}
@@ -7,7 +8,6 @@ use mathlib.Core.Bool.{Bool, true, false}
 use mathlib.Core.List.{List, [], ◌∷◌, ◌++◌, map}
 use lib.ListN.{length, take, drop, set, length-append, length-take, length-map, drop_of_length-le}
 use lib.Seq.{drop-drop, sets-eq}
-use Rattle.layout.specs.Refusals.{if◌then◌else◌}
 use Rattle.record.specs.Bytes.{part, store_at}
 use Rattle.record.specs.declared.slots.Slot.{Slot}
 use Rattle.record.specs.Table.{slot_width, slots_of}

@@ -1,6 +1,5 @@
 -- What is written back of a comparison on numbers: the bytes of its slots and findings, and the reply.
-use Rattle.std.specs.Prelude.{ℕ, ◌+◌, ◌*◌, ◌≤◌, ◌≡◌, List, eqb, length, take}
-use Rattle.layout.specs.Refusals.{if◌then◌else◌}
+use Rattle.std.specs.Prelude.{ℕ, ◌+◌, ◌*◌, ◌≤◌, ◌≡◌, List, eqb, length, take, if◌then◌else◌}
 use Rattle.record.specs.declared.Answer.{Answer}
 use Rattle.record.specs.Bytes.{part, store_at}
 use Rattle.record.specs.Table.{slot_width}

@@ -1,4 +1,5 @@
 -- What holds of every reading for a C host: the claim of `specs/Claims.antt`.
+use Rattle.std.specs.Prelude.{if◌then◌else◌}
 use Prim.Native.Nat.{ℕ, ◌*◌, ◌%◌, ◌<◌}
 use native.Mathlib.Nat.{mod-eq_of_lt}
 use native.Mathlib.Omega.{arith}
@@ -9,7 +10,6 @@ use borrow.Author.Tests.{eqb-true}
 use lib.Dec.{eqb}
 use lib.ListN.{length, take, drop}
 use lib.Seq.{take_at, drop_at}
-use Rattle.layout.specs.Refusals.{if◌then◌else◌}
 use Rattle.record.specs.Bytes.{part, join, digits, number, number_bytes, number_at, big_endian}
 use Rattle.record.specs.Table.{slot_width}
 use Rattle.record.specs.Reading.{Read, read, read_steps, with_steps}

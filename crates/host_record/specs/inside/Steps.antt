@@ -1,10 +1,9 @@
 -- What the functions of packing and reading for a C host promise each other.
-use Rattle.std.specs.Prelude.{ℕ, ◌*◌, ◌%◌, ◌≡◌, List, length, take, eqb}
+use Rattle.std.specs.Prelude.{ℕ, ◌*◌, ◌%◌, ◌≡◌, List, length, take, eqb, if◌then◌else◌}
 use Rattle.record.specs.declared.Answer.{Answer}
 use Rattle.record.specs.Table.{slot_width}
 use Rattle.record.specs.Packing.{pack}
 use Rattle.host.specs.Numbers.{number_size, numbers_in, numbers_bytes}
-use Rattle.layout.specs.Refusals.{if◌then◌else◌}
 use Rattle.record.specs.Bytes.{store_at}
 use Rattle.record.specs.Reading.{read_all}
 use Rattle.host_record.specs.Reading.{steps_call}

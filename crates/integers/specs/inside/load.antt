@@ -1,6 +1,5 @@
 -- One integer, as it is read.
-use Rattle.std.specs.Prelude.{ℕ, ◌%◌, ◌≤◌, ◌<◌, ◌≡◌, Bool, true, ◌||◌, List, ltb}
-use Rattle.layout.specs.Refusals.{if◌then◌else◌}
+use Rattle.std.specs.Prelude.{ℕ, ◌%◌, ◌≤◌, ◌<◌, ◌≡◌, Bool, true, ◌||◌, List, ltb, if◌then◌else◌}
 use Rattle.record.specs.Bytes.{digits, number, ordered}
 use Rattle.record.specs.Reading.{widened}
 

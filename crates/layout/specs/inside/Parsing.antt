@@ -1,6 +1,6 @@
 -- What the functions of the layout reader promise each other, and its callers: `Parses` is the contract of `parse`, and
 -- packer and reader see nothing else of it (01, Layout text).
-use Rattle.std.specs.Prelude.{ℕ, suc, ◌+◌, ◌^◌, ◌≤◌, ◌<◌, min, ◌≡◌, Bool, List, map, length, take, drop, get_or, leb}
+use Rattle.std.specs.Prelude.{ℕ, suc, ◌+◌, ◌^◌, ◌≤◌, ◌<◌, min, ◌≡◌, Bool, List, map, length, take, drop, get_or, leb, if◌then◌else◌}
 use Rattle.layout.specs.declared.Role.{Role}
 use Rattle.layout.specs.declared.Role.TheVariants.{Data, Move}
 use Rattle.layout.specs.declared.Shape.{Shape}
@@ -13,7 +13,7 @@ use Rattle.layout.specs.declared.Parsed.{Parsed}
 use Rattle.layout.specs.declared.Parsed.TheVariants.{Fields, Refused}
 use Rattle.layout.specs.declared.Found.{Found}
 use Rattle.layout.specs.declared.Found.TheVariants.{Item, Bad}
-use Rattle.layout.specs.Refusals.{if◌then◌else◌, Result, ok, refused}
+use Rattle.layout.specs.Refusals.{Result, ok, refused}
 use Rattle.layout.specs.Layout.{max_layout, max_count, real_size, to_nat, slots_taken, flagged, digit_run, decimal, count_of, count_length, Step, field, bad, step_of, fields_from, slot_count}
 use Rattle.layout.specs.Codes.{last_integers, last_single, last_data, last_type, width_numbered, type_numbered, known, field_of, code_for}
 

@@ -1,4 +1,5 @@
 -- The leg of one slot, on plain values.
+use Rattle.std.specs.Prelude.{if◌then◌else◌}
 use Prim.Native.Nat.{ℕ, ◌+◌, ◌*◌, ◌≤◌}
 use native.Mathlib.Omega.{arith}
 use mathlib.Core.Path.{◌≡◌, refl, sym, ap, ◌∙◌}
@@ -9,7 +10,7 @@ use lib.Dec.{eqb, leb}
 use lib.ListN.{length}
 use Rattle.layout.specs.declared.Refusal.{Refusal}
 use Rattle.layout.specs.declared.Refusal.TheVariants.{BadSlot, WrongKind, BadList, BadMark}
-use Rattle.layout.specs.Refusals.{if◌then◌else◌, Result, ok, refused, ◌>>=◌, demand}
+use Rattle.layout.specs.Refusals.{Result, ok, refused, ◌>>=◌, demand}
 use Rattle.layout.proofs.Laws.{demanded, ok-inj}
 use Rattle.record.specs.Bytes.{pieces, big_endian_in, number_at}
 use Rattle.record.specs.declared.slots.Slot.{Slot}

@@ -1,4 +1,5 @@
 -- What holds of the mean for all tables: the claims of `specs/Claims.antt`.
+use Rattle.std.specs.Prelude.{if◌then◌else◌}
 use Prim.Native.Nat.{ℕ, suc, ◌+◌, ◌-◌, ◌*◌, ◌^◌, ◌≤◌, ◌<◌}
 use native.Mathlib.Nat.{le_refl, mul-suc, mul-zero}
 use native.Mathlib.Omega.{arith}
@@ -10,7 +11,7 @@ use lib.IntN.{pos, negsuc}
 use borrow.Author.Tests.{leb-true, lt-leb}
 use lib.ListN.{length}
 use Rattle.layout.specs.declared.Refusal.TheVariants.{BadSize}
-use Rattle.layout.specs.Refusals.{if◌then◌else◌, Result, ok, refused, ◌>>=◌, number_of}
+use Rattle.layout.specs.Refusals.{Result, ok, refused, ◌>>=◌, number_of}
 use Rattle.layout.proofs.Laws.{bound, demanded, ok-inj, no-number-zero}
 use Rattle.record.specs.declared.slots.Slot.{Slot}
 use Rattle.record.specs.Table.{unset as kind_unset, slots_of, max_slots}

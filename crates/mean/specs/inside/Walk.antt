@@ -1,6 +1,6 @@
 -- What the walk over the slots computes.
-use Rattle.std.specs.Prelude.{ℕ, ◌+◌, ◌*◌, ◌≤◌, eqb}
-use Rattle.layout.specs.Refusals.{if◌then◌else◌, Result, ok, refused}
+use Rattle.std.specs.Prelude.{ℕ, ◌+◌, ◌*◌, ◌≤◌, eqb, if◌then◌else◌}
+use Rattle.layout.specs.Refusals.{Result, ok, refused}
 use Rattle.record.specs.Table.{max_slots}
 use Rattle.mean.specs.declared.marks.LegMean.{LegMean}
 use Rattle.mean.specs.declared.marks.LegMean.TheVariants.{Unmarked, Of}

@@ -1,4 +1,5 @@
 -- Counts and repeats at a place, digit by digit.
+use Rattle.std.specs.Prelude.{if◌then◌else◌}
 use Prim.Native.Nat.{ℕ, zero, suc, ◌≤◌, ◌<◌}
 use native.Mathlib.Omega.{arith}
 use mathlib.Core.Path.{◌≡◌, refl}
@@ -8,7 +9,6 @@ use borrow.Author.Tests.{lt-ltb, le-ltb, le-leb, lt-leb, leb-true}
 use lib.Dec.{ltb, leb}
 use lib.ListN.{length, get_or, drop, drop_of_length-le}
 use lib.Seq.{drop-cons}
-use Rattle.layout.specs.Refusals.{if◌then◌else◌}
 use Rattle.layout.specs.Layout.{is_decimal}
 use Rattle.layout.proofs.Steps.{is-decimal}
 use Rattle.perl.specs.Tokens.{max_repeat, with_digit, continues, number_in, digits_in, repeat_of}

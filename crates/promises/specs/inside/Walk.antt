@@ -1,5 +1,5 @@
 -- What the functions inside the two calls compute: numbers of fields at the front of a layout, and the place of one.
-use Rattle.std.specs.Prelude.{ℕ, suc, ◌+◌, ◌*◌, ◌/◌, ◌^◌, ◌≤◌, ◌<◌, ◌≡◌, true, List, [], ◌∷◌, length, leb}
+use Rattle.std.specs.Prelude.{ℕ, suc, ◌+◌, ◌*◌, ◌/◌, ◌^◌, ◌≤◌, ◌<◌, ◌≡◌, true, List, [], ◌∷◌, length, leb, if◌then◌else◌}
 use Rattle.layout.specs.declared.Role.{Role}
 use Rattle.layout.specs.declared.Role.TheVariants.{Data, Move}
 use Rattle.layout.specs.declared.Motion.TheVariants.{Skip, Back, Goto}
@@ -7,7 +7,7 @@ use Rattle.layout.specs.declared.Shape.TheVariants.{Text, Digits, Integers, Real
 use Rattle.layout.specs.declared.Field.{Field}
 use Rattle.layout.specs.declared.Parsed.{Parsed}
 use Rattle.layout.specs.declared.Parsed.TheVariants.{Fields, Refused}
-use Rattle.layout.specs.Refusals.{if◌then◌else◌, ok, refused}
+use Rattle.layout.specs.Refusals.{ok, refused}
 use Rattle.layout.specs.Layout.{max_layout, to_nat, fields_of}
 use Rattle.layout.specs.Codes.{skip_number, back_number, goto_number}
 use Rattle.layout.specs.inside.Parsing.{decoded}

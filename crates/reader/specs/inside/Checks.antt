@@ -1,8 +1,8 @@
 -- The checks of a reading, before anything is written: THE EFFECT OF A CALL of `check`.
-use Rattle.std.specs.Prelude.{ℕ, ◌/◌, false, List, ltb}
+use Rattle.std.specs.Prelude.{ℕ, ◌/◌, false, List, ltb, if◌then◌else◌}
 use Rattle.layout.specs.declared.Field.{Field}
 use Rattle.layout.specs.declared.Refusal.TheVariants.{BadSlots, NoRoom}
-use Rattle.layout.specs.Refusals.{if◌then◌else◌, Result, ok, refused, ◌>>=◌}
+use Rattle.layout.specs.Refusals.{Result, ok, refused, ◌>>=◌}
 use Rattle.layout.specs.Layout.{fields_of, slot_count}
 use Rattle.record.specs.declared.Answer.{Answer}
 use Rattle.record.specs.Table.{slot_width}

@@ -1,6 +1,5 @@
 -- A reading by the fields of the codes: once the fields are known.
-use Rattle.std.specs.Prelude.{ℕ, ◌-◌, ◌*◌, ◌/◌, ◌≤◌, ◌≡◌, Bool, ◌&&◌, ◌||◌, List, eqb, leb, length}
-use Rattle.layout.specs.Refusals.{if◌then◌else◌}
+use Rattle.std.specs.Prelude.{ℕ, ◌-◌, ◌*◌, ◌/◌, ◌≤◌, ◌≡◌, Bool, ◌&&◌, ◌||◌, List, eqb, leb, length, if◌then◌else◌}
 use Rattle.layout.specs.Layout.{max_layout, slot_count}
 use Rattle.layout.specs.inside.Parsing.{decoded}
 use Rattle.record.specs.declared.Answer.{Answer}

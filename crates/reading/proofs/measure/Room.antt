@@ -1,4 +1,5 @@
 -- The area that a reading needs at most: a value takes no more than eight bytes of it for each byte of its field.
+use Rattle.std.specs.Prelude.{if◌then◌else◌}
 use Prim.Native.Nat.{ℕ, suc, ◌+◌, ◌-◌, ◌*◌, ◌%◌, ◌≤◌}
 use native.Mathlib.Nat.{suc-mul, mul-le-mul, le_refl}
 use native.Mathlib.Omega.{arith}
@@ -14,7 +15,6 @@ use Rattle.layout.specs.declared.Shape.{Shape}
 use Rattle.layout.specs.declared.Shape.TheVariants.{Text, Digits, Integers, Reals}
 use Rattle.layout.specs.declared.Count.{Count}
 use Rattle.layout.specs.declared.Field.{Field}
-use Rattle.layout.specs.Refusals.{if◌then◌else◌}
 use Rattle.layout.specs.Codes.{type_numbered, field_of, flag_unit}
 use Rattle.layout.specs.inside.Parsing.{decoded, FitRole}
 use Rattle.layout.proofs.Steps.{type-fits, known-fits}

@@ -1,4 +1,5 @@
 -- What the pass that writes keeps: the entries so far, and the table and area that hold them.
+use Rattle.std.specs.Prelude.{if◌then◌else◌}
 use Prim.Native.Nat.{ℕ, suc, ◌+◌, ◌-◌, ◌*◌, ◌/◌, ◌≤◌, ◌<◌}
 use native.Mathlib.Nat.{add_assoc, add-zero, zero-add, div-le_self}
 use native.Mathlib.Omega.{arith}
@@ -8,7 +9,6 @@ use mathlib.Core.List.{List, [], ◌∷◌, ◌++◌}
 use borrow.Author.Tests.{le-ltb}
 use lib.Dec.{eqb}
 use lib.ListN.{length, drop, get_or, length-append}
-use Rattle.layout.specs.Refusals.{if◌then◌else◌}
 use Rattle.record.specs.declared.Answer.{Answer}
 use Rattle.record.specs.Bytes.{part, store_at, join, number_at}
 use Rattle.record.specs.Table.{slot_width, no_position, max_slots, max_area, item_size}

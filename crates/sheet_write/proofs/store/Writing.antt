@@ -1,4 +1,5 @@
 -- What the passes of the writer keep: one entry stored, the entries so far measured, and the entries so far stored.
+use Rattle.std.specs.Prelude.{if◌then◌else◌}
 use Prim.Native.Nat.{ℕ, zero, suc, ◌+◌, ◌*◌, ◌/◌, ◌≤◌, ◌<◌}
 use native.Mathlib.Numerals.{add-one}
 use native.Mathlib.Omega.{arith}
@@ -10,7 +11,7 @@ use lib.Dec.{eqb}
 use lib.ListN.{length, drop, set, length-append, drop_of_length-le}
 use lib.Seq.{sets-eq}
 use Rattle.layout.specs.declared.Refusal.TheVariants.{BadSlot}
-use Rattle.layout.specs.Refusals.{if◌then◌else◌, ok, refused}
+use Rattle.layout.specs.Refusals.{ok, refused}
 use Rattle.layout.proofs.Laws.{demanded}
 use Rattle.record.specs.Bytes.{store_at, join, number_bytes}
 use Rattle.record.specs.declared.slots.Slot.{Slot}

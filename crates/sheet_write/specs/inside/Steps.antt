@@ -1,6 +1,5 @@
 -- What the functions of this crate promise each other.
-use Rattle.std.specs.Prelude.{ℕ, ◌+◌, ◌*◌, ◌^◌, ◌≡◌, true, List, length, eqb, ltb}
-use Rattle.layout.specs.Refusals.{if◌then◌else◌}
+use Rattle.std.specs.Prelude.{ℕ, ◌+◌, ◌*◌, ◌^◌, ◌≡◌, true, List, length, eqb, ltb, if◌then◌else◌}
 use Rattle.sheet.specs.Sheet.{version1, version2, width_of, header_size, sheet_sizes_fit}
 use Rattle.sheet_write.specs.declared.store.SheetMeasured.TheVariants.{Length}
 use Rattle.sheet_write.specs.inside.store.{MeasuredAs}

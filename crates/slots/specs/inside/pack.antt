@@ -1,8 +1,8 @@
 -- Packing over a slice of slot records (01, Slot tables): THE EFFECT OF A CALL is `pack` of the slots' numbers.
 -- Here is the step that it takes.
-use Rattle.std.specs.Prelude.{ℕ, ◌*◌, List, take, leb}
+use Rattle.std.specs.Prelude.{ℕ, ◌*◌, List, take, leb, if◌then◌else◌}
 use Rattle.layout.specs.declared.Refusal.TheVariants.{BadSize}
-use Rattle.layout.specs.Refusals.{if◌then◌else◌, refused}
+use Rattle.layout.specs.Refusals.{refused}
 use Rattle.record.specs.Table.{max_slots, slot_width}
 use Rattle.record.specs.Packing.{Packed, pack, pack_effect}
 
