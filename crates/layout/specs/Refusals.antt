@@ -1,7 +1,7 @@
 -- What a call is refused with: the numbers, and checks one after the other. The first eleven are those of document 01,
 -- "Numbers that come back"; those of the requests (02) follow, and the last two are those of `extends`. The type Refusal
 -- is the source's: a case for each line of the table in include/curlew.h, in its order.
-use Rattle.std.specs.Prelude.{ℕ, suc, Bool, true, false, if◌then◌else◌}
+use Rattle.std.specs.Prelude.{ℕ, suc, Bool, true, false}
 use Rattle.layout.specs.declared.Refusal.{Refusal}
 use Rattle.layout.specs.declared.Refusal.TheVariants.{BadSize, BadType, BadCount, BadMove, BadSlots, NotSet, BadSlot, WrongKind, BadList, BadDigit, NoRoom, BadSheet, BadVersion, BadMark, BadTemplate, BadReal, OtherFields, NotPlain}
 
