@@ -2,11 +2,10 @@
 use Rattle.std.specs.Prelude.{if◌then◌else◌}
 use Prim.Native.Nat.{ℕ, suc, ◌+◌, ◌*◌, ◌≤◌, ◌<◌}
 use native.Mathlib.Omega.{arith}
-use mathlib.Core.Path.{◌≡◌, refl, sym, ap, ◌∙◌}
+use mathlib.Core.Path.{◌≡◌, refl, ap, ◌∙◌}
 use mathlib.Core.Bool.{Bool, true, false}
 use mathlib.Core.List.{List, [], ◌∷◌}
 use lib.ListN.{length, get_or, drop}
-use lib.Dec.{leb}
 use borrow.Author.Tests.{le-leb, lt-leb}
 use Rattle.layout.specs.declared.Field.{Field}
 use Rattle.layout.specs.declared.Refusal.{Refusal}
@@ -14,17 +13,16 @@ use Rattle.layout.specs.declared.Refusal.TheVariants.{BadSize}
 use Rattle.layout.specs.Refusals.{ok, refused}
 use Rattle.layout.specs.Layout.{max_layout, takes_slot, fields_of, slot_count}
 use Rattle.layout.specs.Codes.{field_of}
-use Rattle.layout.specs.inside.Parsing.{decoded, FieldOf}
+use Rattle.layout.specs.inside.Parsing.{decoded}
 use Rattle.layout.proofs.Laws.{AllSound, packed-reads}
 use Rattle.describe.proofs.Counts.{AllCounted, counts-limited}
 use Rattle.layout.proofs.Decoded.{next_field, no_field}
-use Rattle.record.specs.declared.Answer.{Answer}
 use Rattle.record.specs.declared.Cursor.{Cursor}
 use Rattle.record.specs.inside.Cursor.{origin}
 use Rattle.record.specs.Packing.{accepted, refusal}
 use Rattle.pack_check.specs.inside.measuring.{advance}
 use Rattle.pack_check.proofs.measuring.Bounds.{advance-within}
-use Rattle.describe.specs.Description.{least_length, field_reach, layout_reach, described}
+use Rattle.describe.specs.Description.{field_reach, described}
 use Rattle.describe.specs.inside.Measure.{passed, Holds, Least}
 use Rattle.describe.proofs.Passing.{passed_length, advance-near}
 

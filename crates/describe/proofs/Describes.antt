@@ -18,13 +18,13 @@ use Rattle.record.specs.declared.Answer.{Answer}
 use Rattle.record.specs.declared.Cursor.{Cursor}
 use Rattle.record.specs.Table.{slots_of}
 use Rattle.record.specs.inside.Cursor.{origin, cursor_of}
-use Rattle.record.specs.Packing.{start, pack_all, packed, filled, accepted, packs, pack, pack_effect, Packed}
+use Rattle.record.specs.Packing.{start, pack_all, packed, filled, accepted, packs, pack, pack_effect}
 use Rattle.record.proofs.Sizes.{Sized, sized}
 use Rattle.pack_check.specs.inside.measuring.{arguments_checked}
 use Rattle.pack_store.proofs.writing.RunLaws.{measured-as}
 use Rattle.runs.proofs.Calls.{Passed, packs-passed, accepted-result}
 use Rattle.describe.specs.Description.{least_length, layout_reach, field_reach, answer_of, described}
-use Rattle.describe.specs.Claim.{stars_empty, starless, Packing, length_of, Describes}
+use Rattle.describe.specs.Claim.{stars_empty, Packing, length_of, Describes}
 use Rattle.describe.specs.inside.Measure.{passed}
 use Rattle.describe.proofs.Passing.{passed_length, never-behind, just-there, starless-empty, passed-near}
 

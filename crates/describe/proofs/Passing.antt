@@ -2,12 +2,11 @@
 -- pass of every packing that is accepted, and each field takes it no further than a fixed reach.
 use Prim.Native.Nat.{ℕ, zero, suc, ◌+◌, ◌*◌, ◌≤◌}
 use native.Mathlib.Nat.{mul-le-mul}
-use native.Mathlib.Numerals.{add-one}
 use native.Mathlib.Omega.{arith}
 use mathlib.Core.Path.{◌≡◌, refl, sym, ap, ◌∙◌, subst}
-use mathlib.Core.Bool.{Bool, true, false, ◌&&◌}
+use mathlib.Core.Bool.{Bool, true, false}
 use mathlib.Core.List.{List, [], ◌∷◌, map}
-use lib.ListN.{length, take, drop, replicate, length-replicate}
+use lib.ListN.{length, drop, replicate, length-replicate}
 use lib.Seq.{take_all}
 use lib.Dec.{T, eqb}
 use borrow.Author.Tests.{leb-true, eqb-true}
@@ -26,7 +25,6 @@ use Rattle.layout.proofs.Laws.{bound, ok-inj, AllSound}
 use Rattle.describe.proofs.Counts.{AllCounted}
 use Rattle.record.specs.declared.Cursor.{Cursor}
 use Rattle.record.specs.declared.slots.Slot.{Slot}
-use Rattle.record.specs.Bytes.{ceil_div}
 use Rattle.record.specs.Geometry.{amount, bytes_for}
 use Rattle.record.specs.inside.Cursor.{origin, past, cursor_of}
 use Rattle.record.specs.Packing.{Run, start, stored, pack_one, pack_all, packed, all_digits, next_slot}
@@ -39,7 +37,7 @@ use Rattle.pack_check.specs.inside.measuring.{advance, field_checked, arguments_
 use Rattle.pack_check.proofs.measuring.Bounds.{advance-within}
 use Rattle.pack_check.proofs.measuring.MeasureLaws.{stepped-advance}
 use Rattle.describe.specs.Description.{fewest, least_length, field_reach}
-use Rattle.describe.specs.Claim.{empty_star, stars_empty, no_star, starless}
+use Rattle.describe.specs.Claim.{empty_star, stars_empty, starless}
 use Rattle.describe.specs.inside.Measure.{passed}
 
 -- ---- the packing run over the fewest items

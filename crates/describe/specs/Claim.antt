@@ -11,7 +11,7 @@ use Rattle.record.specs.declared.Answer.{Answer}
 use Rattle.record.specs.declared.slots.Slot.{Slot}
 use Rattle.record.specs.Table.{slots_of}
 use Rattle.record.specs.Packing.{next_slot, pack}
-use Rattle.describe.specs.Description.{layout_reach, described}
+use Rattle.describe.specs.Description.{layout_reach}
 
 -- ---- starred values
 

@@ -1,6 +1,8 @@
 // A layout looked at before it is used: how many slots it takes, and how long its shortest record is. The definition is
 // in specs/Description.antt; what it has to do with packing is claimed in specs/Claim.antt and proved in
 // proofs/Describes.antt.
+#![tactic(auto)]
+
 ghost use Rattle.std.specs.Prelude.{◌≡◌, ◌<◌};
 ghost use Rattle.layout.specs.inside.Parsing.{decoded, FitRole, FitCount};
 ghost use Rattle.pack_check.specs.inside.measuring.{advance};

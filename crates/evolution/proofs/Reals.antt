@@ -9,13 +9,12 @@ use mathlib.Core.List.{List, [], ◌∷◌, map}
 use borrow.Author.Tests.{le-ltb}
 use lib.ListN.{length, take, length-map}
 use lib.Seq.{take_all, length-take-le}
-use Rattle.layout.specs.declared.Shape.TheVariants.{Reals}
 use Rattle.real.specs.Patterns.{single_body, single_infinity, is_na_n}
 use Rattle.real.specs.Narrowing.{single_of}
 use Rattle.real.specs.Widening.{double_of}
 use Rattle.real.proofs.NarrowLaws.{single-below, single-finite}
 use Rattle.real.proofs.WidenLaws.{double-nan, single-again}
-use Rattle.record.specs.Packing.{patterns, stored, low_bytes, no_na_n, reals_fit}
+use Rattle.record.specs.Packing.{stored, low_bytes, no_na_n, reals_fit}
 use Rattle.record.proofs.Bytes.{All, all_take, all-below}
 use Rattle.pack_store.proofs.stores.StoreLaws.{take-map}
 use Rattle.evolution.specs.Claim.{read_back}

@@ -7,7 +7,7 @@ use mathlib.Core.List.{List, map}
 use lib.ListN.{length-append, length, take, length-take}
 use lib.Seq.{take-take, take_all}
 use borrow.Author.Tests.{eq-eqb, ne_eqb}
-use Rattle.layout.specs.Refusals.{Result, ok, refused, ◌>>=◌}
+use Rattle.layout.specs.Refusals.{Result, ok, refused}
 use Rattle.layout.proofs.Laws.{no-number-zero}
 use Rattle.record.specs.declared.Answer.{Answer}
 use Rattle.record.specs.declared.ReadAnswer.{ReadAnswer}

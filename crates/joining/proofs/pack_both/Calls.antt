@@ -3,7 +3,7 @@
 use Prim.Native.Nat.{ℕ, ◌+◌, ◌-◌, ◌≤◌, ◌<◌}
 use native.Mathlib.Omega.{arith}
 use mathlib.Core.Path.{◌≡◌, refl, sym, ap, ap₂, ◌∙◌}
-use mathlib.Core.Bool.{true, false, and-false}
+use mathlib.Core.Bool.{and-false}
 use mathlib.Core.List.{List, [], ◌++◌, append-nil, append_assoc}
 use lib.ListN.{length, take, drop, length-append, length-drop, drop_of_length-le, take-append-drop}
 use borrow.Author.Tests.{lt-leb}
@@ -13,13 +13,12 @@ use Rattle.layout.specs.declared.Refusal.TheVariants.{BadSize}
 use Rattle.layout.specs.Refusals.{Result, ok, refused, ◌>>=◌}
 use Rattle.record.specs.declared.Answer.{Answer}
 use Rattle.record.specs.Bytes.{part, store_at}
-use Rattle.record.specs.Geometry.{sizes_fit}
 use Rattle.record.specs.Packing.{accepted, refusal, packs, Packed, pack_effect, pack}
 use Rattle.record.specs.Table.{max_record}
 use Rattle.record.proofs.Sizes.{Sized, sized}
 use Rattle.joining.specs.Claim.{join_templates, pack_by, Part, result_of}
 use Rattle.joining.specs.Calls.{Pair, packs_by, packs_both, Joinable, PacksBothAs}
-use Rattle.runs.proofs.Calls.{Passed, packs-passed, accepted-result, result-is, same-room}
+use Rattle.runs.proofs.Calls.{Passed, packs-passed, result-is, same-room}
 use Rattle.joining.proofs.Joining.{joins}
 
 module _ (c : Pair) where
