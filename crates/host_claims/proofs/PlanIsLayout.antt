@@ -1,26 +1,23 @@
 -- The calls for a C program hand on the calls on numbers, so that what holds of those holds of them.
 use Rattle.std.specs.Prelude.{if◌then◌else◌}
 use Prim.Native.Nat.{ℕ, ◌%◌, ◌<◌}
-use native.Mathlib.Omega.{arith}
-use mathlib.Core.Path.{◌≡◌, refl, sym, ap, ◌∙◌, subst}
+use mathlib.Core.Path.{◌≡◌, refl, sym, ap, subst}
 use mathlib.Core.Bool.{Bool, true, false}
 use mathlib.Core.List.{List, [], ◌∷◌}
 use lib.Dec.{eqb}
 use lib.ListN.{length, take}
-use Rattle.layout.specs.declared.Refusal.TheVariants.{BadSize, BadMove}
+use Rattle.layout.specs.declared.Refusal.TheVariants.{BadSize}
 use Rattle.layout.specs.Refusals.{number_of}
-use Rattle.layout.specs.Layout.{max_layout}
 use Rattle.layout.proofs.Laws.{no-number-zero}
 use Rattle.record.specs.declared.Answer.{Answer}
 use Rattle.record.specs.Packing.{Packed, refusal}
 use Rattle.record.specs.Reading.{ReadAll}
 use Rattle.host.specs.Host.{slot_size, reply_size, long_reply_size, reply_of, PackCall, pack_call, guarded}
-use Rattle.host.specs.Numbers.{numbers_in, numbers_bytes}
+use Rattle.host.specs.Numbers.{numbers_in}
 use Rattle.host_record.specs.Packing.{curlew_pack}
 use Rattle.host_record.specs.Reading.{steps_call, curlew_read}
 use Rattle.host_record.proofs.read.Theorems.{second-number}
-use Rattle.host_claims.specs.Seen.{replied}
-use Rattle.plans.specs.Plans.{prepare, pack_plan, read_plan}
+use Rattle.plans.specs.Plans.{prepare}
 use Rattle.plans_claims.specs.Claim.{made_by, Alike, StandsFor}
 use Rattle.plans_claims.proofs.Claims.{plan-is-layout, made-few}
 use Rattle.host_plans.specs.Calls.{prepare_call, curlew_prepare, curlew_pack_plan, curlew_read_plan}

@@ -8,7 +8,7 @@ use Rattle.host.specs.Numbers.{numbers_in}
 use Rattle.host.specs.Host.{reply_size, PackCall, ReadCall}
 use Rattle.host_claims.specs.Seen.{result_in, filled_with}
 use Rattle.host_claims.specs.ReadBack.{HostLent, argument_bytes, host_packing, host_reading, HostMeant, HostKeepsBack}
-use Rattle.host_claims.specs.GivenBack.{HostArchived, host_reading_of, host_packing_of, HostLosesNothing}
+use Rattle.host_claims.specs.GivenBack.{HostArchived, host_reading_of, HostLosesNothing}
 use Rattle.host_claims.specs.Joined.{HostPart, alone}
 use Rattle.host_plans.specs.Calls.{curlew_pack_plan, curlew_read_plan}
 use Rattle.host_claims.specs.PlanIsLayout.{HostStandsFor}

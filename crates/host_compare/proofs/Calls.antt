@@ -12,20 +12,19 @@ use lib.ListN.{length, take, drop, take-append-drop}
 use lib.Seq.{take_at, length-take-le}
 use Rattle.layout.specs.declared.Refusal.{Refusal}
 use Rattle.layout.specs.declared.Refusal.TheVariants.{BadSize}
-use Rattle.layout.specs.Layout.{fields_of, slot_count}
 use Rattle.layout.specs.Refusals.{number_of, Result, ok, refused, ◌>>=◌, demand}
 use Rattle.layout.proofs.Laws.{no-number-zero}
 use Rattle.record.specs.declared.Answer.{Answer}
 use Rattle.record.specs.Bytes.{part, store_at}
 use Rattle.record.specs.Table.{max_slots, slot_width, Value}
-use Rattle.record.specs.Packing.{accepted, refusal}
+use Rattle.record.specs.Packing.{refusal}
 use Rattle.record.specs.Reading.{reads}
 use Rattle.record.proofs.Bytes.{All}
 use Rattle.record.proofs.Sizes.{too_many as sizes-many}
 use Rattle.record.proofs.Tables.{length-slots}
 use Rattle.reader.specs.inside.Checks.{read_checked}
 use Rattle.compare.specs.Difference.{report_width}
-use Rattle.compare.specs.Comparing.{Shown, compares, compare_effect, Compared, compare}
+use Rattle.compare.specs.Comparing.{compares, compare_effect, compare}
 use Rattle.compare.proofs.Calls.{accepted-reads}
 use Rattle.compare.proofs.Lent.{Kept, Settled, settled, report_over, report-over}
 use Rattle.host.specs.Numbers.{number_size, numbers_in, numbers_bytes}

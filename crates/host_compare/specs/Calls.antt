@@ -2,7 +2,7 @@
 -- at the end.
 use Rattle.std.specs.Prelude.{ℕ, ◌*◌, ◌%◌, ◌≡◌, Bool, List, ◌++◌, eqb, length, take, drop, if◌then◌else◌}
 use Rattle.layout.specs.declared.Refusal.TheVariants.{BadSize}
-use Rattle.layout.specs.Refusals.{number_of, Result, ok, refused, ◌>>=◌, demand}
+use Rattle.layout.specs.Refusals.{number_of, Result, ◌>>=◌, demand}
 use Rattle.record.specs.Reading.{reads}
 use Rattle.compare.specs.Difference.{report_width}
 use Rattle.compare.specs.Comparing.{Shown, compares, compare_effect, Compared, compare}

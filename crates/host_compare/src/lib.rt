@@ -1,4 +1,6 @@
 // Comparing two copies of a record for a C host.
+#![tactic(auto)]
+
 ghost use Rattle.std.specs.Prelude.{◌≡◌, true, ◌*◌, ◌/◌, ◌%◌, min, length};
 ghost use Rattle.record.specs.Table.{slot_width, max_slots};
 ghost use Rattle.host.specs.Numbers.{number_size};

@@ -1,4 +1,5 @@
 // The calls on layouts for a C host.
+#![tactic(auto)]
 
 // A layout described: its slots and its shortest record.
 pub mod layouts;

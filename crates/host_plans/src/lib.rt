@@ -1,6 +1,8 @@
 // Layouts prepared once, for a C host. A plan is a run of numbers of 32 bits that the host owns. Few slots get a small
 // array: clearing the large one costs more than a small record. (The passes are called from here, and not by way of
 // `plans::pack` and `plans::read`: a call that hands on as many runs costs more than the checks of a small plan.)
+#![tactic(auto)]
+
 ghost use Rattle.std.specs.Prelude.{◌≡◌, ◌*◌, length};
 ghost use Rattle.host.specs.Numbers.{number_size};
 ghost use Rattle.host_plans.specs.Calls.{HostPrepares, HostPacksPlan, HostReadsPlan};

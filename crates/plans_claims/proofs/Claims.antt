@@ -3,7 +3,7 @@ use Prim.Native.Nat.{ℕ, ◌≤◌, ◌<◌}
 use native.Mathlib.Omega.{arith}
 use mathlib.Core.Path.{◌≡◌, refl, sym, ap, ◌∙◌}
 use mathlib.Core.Bool.{Bool, true, false}
-use mathlib.Core.List.{List, map}
+use mathlib.Core.List.{List}
 use lib.Dec.{leb}
 use lib.ListN.{length, drop, length-map}
 use lib.Seq.{take_at}
@@ -13,11 +13,11 @@ use Rattle.layout.specs.declared.Refusal.TheVariants.{BadSize, BadMove, NoRoom}
 use Rattle.layout.specs.Refusals.{Result, ok, refused}
 use Rattle.layout.specs.Layout.{max_layout, fields_of}
 use Rattle.layout.specs.Codes.{code_for}
-use Rattle.layout.proofs.Laws.{bound, demanded, no-refusal, ok-inj, no-number-zero}
+use Rattle.layout.proofs.Laws.{bound, demanded, no-refusal, no-number-zero}
 use Rattle.describe.proofs.Counts.{fields-few}
 use Rattle.record.specs.Geometry.{lengths_fit}
-use Rattle.record.specs.Packing.{Packed, pack_fields, pack}
-use Rattle.record.specs.Reading.{read_all, read_fields}
+use Rattle.record.specs.Packing.{Packed, pack_fields}
+use Rattle.record.specs.Reading.{read_fields}
 use Rattle.record.proofs.ByFields.{pack-fields, read-fields}
 use Rattle.plans.specs.Plans.{plan_of, plan_fields, prepares, prepare_effect, prepare, pack_plan, read_plan}
 use Rattle.plans_claims.specs.Claim.{made_by, Alike, StandsFor, PlanIsLayout, PlanOfFields}

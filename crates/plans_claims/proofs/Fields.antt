@@ -20,7 +20,7 @@ use Rattle.layout.specs.Layout.{type_of, flagged, count_of, count_length, to_nat
 use Rattle.layout.specs.Codes.{flag_unit, count_unit, type_numbered, type_number, count_from, count_number, field_of, code_of, code_for}
 use Rattle.layout.proofs.Laws.{bound, no-refusal, ok-inj}
 use Rattle.layout.proofs.Steps.{bit_le, code-field}
-use Rattle.plans.specs.Plans.{is_type, planned_field, planned_from, plan_fields, plan_of}
+use Rattle.plans.specs.Plans.{is_type, planned_field, planned_from, plan_of}
 use Rattle.plans.proofs.Fields.{planned-meaning, planned-good, good-code}
 
 -- ---- the types of the letters

@@ -1,7 +1,7 @@
 -- A PLAN IS ITS LAYOUT: where `prepare` accepts a layout, packing and reading by the plan leave and answer what they do
 -- by the layout, whatever they are lent. One place differs: `x*` is good for reading and so in a plan, and packing
 -- refuses it by the plan at the number of its field. The proof is in proofs/Claims.antt.
-use Rattle.std.specs.Prelude.{ℕ, ◌≡◌, true, false, List, length, take}
+use Rattle.std.specs.Prelude.{ℕ, ◌≡◌, true, false, List, take}
 use Rattle.layout.specs.declared.Field.{Field}
 use Rattle.layout.specs.declared.Refusal.TheVariants.{BadMove}
 use Rattle.layout.specs.Refusals.{number_of, ok}

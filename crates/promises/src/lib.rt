@@ -2,6 +2,8 @@
 // loses nothing (M-107), whether it may be joined with others (M-113); and whether a layout is another one with fields
 // added at its end. The definitions are in specs/Promises.antt; what they have to do with the three theorems is claimed
 // and proved in the crate `promises_claims`.
+#![tactic(auto)]
+
 ghost use Rattle.std.specs.Prelude.{◌≡◌, ◌&&◌, ◌≤◌, ◌<◌, length};
 ghost use Rattle.layout.specs.declared.Role.TheVariants.{Move};
 ghost use Rattle.layout.specs.Layout.{max_layout, takes_slot, to_nat};

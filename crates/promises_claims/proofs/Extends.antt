@@ -47,7 +47,7 @@ unfolding first_difference
 differ-behind text from [] ps h s e = record { others = fields_in ps; joined = refl }
 differ-behind text from (f ∷ fs) [] h s e = absurd (omega arith)
 differ-behind text from (f ∷ fs) (p ∷ ps) h (n, here, later) e =
-    step (same_field f p.what) refl e (λ k. differ-behind text _ fs ps h later k)
+    step (same_field f p.what) refl e (λ k. differ-behind text (p.place + 1 + n) fs ps h later k)
   where
     step : (t : Bool) → same_field f p.what ≡ t → (if t then first_difference (length text) fs ps else p.place) ≡ nowhere
         → (first_difference (length text) fs ps ≡ nowhere → Behind fs (fields_in ps)) → Behind (f ∷ fs) (p.what ∷ fields_in ps)

@@ -45,7 +45,7 @@ module _ (q : Promise) where
   break-kept text from r [] h s e = refl
   break-kept text from r (p ∷ ps) h (n, here, later) e =
       step (reach_with r p.what) (kept_by q (reach_with r p.what) p.what) e
-      (λ k. break-kept text _ (reach_with r p.what) ps h later k)
+      (λ k. break-kept text (p.place + 1 + n) (reach_with r p.what) ps h later k)
     where
       step : (s : Reach) (t : Bool) → (if t then break_from q s ps else p.place) ≡ nowhere
           → (break_from q s ps ≡ nowhere → all_keep q s (fields_in ps) ≡ true) → (t && all_keep q s (fields_in ps)) ≡ true

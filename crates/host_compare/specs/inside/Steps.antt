@@ -1,6 +1,6 @@
 -- The answer where the second table is not served, by what the check of the first reading says; and what small arrays
 -- serve.
-use Rattle.std.specs.Prelude.{ℕ, ◌*◌, ◌/◌, ◌≤◌, ◌≡◌, true, eqb, if◌then◌else◌}
+use Rattle.std.specs.Prelude.{List, ℕ, ◌*◌, ◌/◌, ◌≤◌, ◌≡◌, true, eqb, if◌then◌else◌}
 use Rattle.layout.specs.declared.Refusal.TheVariants.{BadSize}
 use Rattle.record.specs.declared.Answer.{Answer}
 use Rattle.record.specs.Packing.{refusal}

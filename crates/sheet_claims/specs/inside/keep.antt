@@ -1,4 +1,5 @@
 -- What both calls leave, by what they are lent.
+use Rattle.std.specs.Prelude.{ℕ, List}
 use Rattle.record.specs.declared.Answer.{Answer}
 use Rattle.sheet.specs.Claims.{Kept}
 

@@ -1,0 +1,5 @@
+-- The two limits.
+use Rattle.promises.proofs.fits.Goals as goal
+
+pub returns : goal.returns
+returns c = cc
