@@ -93,12 +93,15 @@ loaded-is ss ns (suc i) l g =
         ∙ drop-append-add front (drop (i * slot_width) ns) slot_width ∙ drop-drop slot_width (i * slot_width) ns
         ∙ ap (λ (k : ℕ). drop k ns) slot-on
 
+-- after the last turn
+pub loaded-all : (ss : List SlotRecord) (ns ms : List ℕ) (i k : ℕ)
+    → ms ≡ loaded ss ns i → i ≡ k → k ≤ length ss → k * slot_width ≤ length ns
+    → ms ≡ slots_numbers (take k ss) ++ drop (k * slot_width) ns
+loaded-all ss ns ms i k e same l g = e ∙ ap (loaded ss ns) same ∙ loaded-is ss ns k l g
+
 -- the scratch after k slots are taken apart
 abbrev pub filled : ℕ → List SlotRecord → List ℕ → List ℕ
 filled k ss ns = slots_numbers (take k ss) ++ drop (k * slot_width) ns
-
-pub length-filled : (ss : List SlotRecord) (ns : List ℕ) (k : ℕ) → k ≤ length ss → k * slot_width ≤ length ns → length (filled k ss ns) ≡ length ns
-length-filled ss ns k l g = ap length (sym (loaded-is ss ns k l g)) ∙ length-loaded ss ns k
 
 -- ---- the slots of numbers
 
@@ -184,3 +187,9 @@ saved-is ss ns (suc i) l g =
     (length-slots (take (i * slot_width) ns) i (length-take-le (i * slot_width) ns (omega arith)))
     ∙ sym (append_snoc (slots_from (take (i * slot_width) ns)) (slot_from ns (i * slot_width)) (drop (suc i) ss))
     ∙ ap (λ (z : List SlotRecord). z ++ drop (suc i) ss) (sym (slots-more ns i g))
+
+-- after the last turn
+pub saved-all : (ss ts : List SlotRecord) (ns : List ℕ) (i k : ℕ)
+    → ts ≡ saved ss ns i → i ≡ k → k ≤ length ss → k * slot_width ≤ length ns
+    → ts ≡ slots_from (take (k * slot_width) ns) ++ drop k ss
+saved-all ss ts ns i k e same l g = e ∙ ap (saved ss ns) same ∙ saved-is ss ns k l g

@@ -1,3 +1,2 @@
--- Laws of the definitions, and of lending in a walk by hand.
-mod Shared
+-- Laws of the definitions.
 mod Calls

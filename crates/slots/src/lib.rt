@@ -1,5 +1,7 @@
 // Slot records (document 01, Slot tables): a slice of them taken apart into numbers, and put together out of numbers,
-// for the calls of `pack` and `read`. The functions over slots are few and thin: proved by hand.
+// for the calls of `pack` and `read`.
+#![tactic(auto)]
+
 ghost use Rattle.std.specs.Prelude.{◌≡◌, ◌++◌, ◌+◌, ◌*◌, ◌≤◌, length, take, drop};
 ghost use Rattle.record.specs.Table.{slot_width};
 ghost use Rattle.slots.specs.Slots.{max_numbers, slots_numbers, slots_from, slot_from, put_at, taken};

@@ -40,3 +40,11 @@ pack-loaded layout ns area output ss = elim (dec_le (length ss) max_slots) [
   | yes l ↦ sym (pack-few layout _ area output (length ss) l) ∙ ap (λ (z : List ℕ). pack layout z area output) (first-numbers ss ns l)
   | no l ↦ sym (pack-many layout _ area output (length ss) (lt_of_not-le l)) ∙ pack-over layout area output ss (lt_of_not-le l)
 ]
+
+-- of the scratch ws, after r slots are taken apart
+pub pack-scratch : (layout ns ws area output : List ℕ) (ss : List SlotRecord) (r : ℕ)
+    → r ≡ taken (length ss) → ws ≡ filled r ss ns
+    → pack_first layout ws (length ss) area output ≡ pack layout (slots_numbers ss) area output
+pack-scratch layout ns ws area output ss r e g =
+    ap (λ (m : List ℕ). pack_first layout m (length ss) area output) (g ∙ ap (λ (k : ℕ). filled k ss ns) e)
+    ∙ pack-loaded layout ns area output ss

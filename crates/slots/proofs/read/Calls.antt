@@ -84,3 +84,16 @@ module _ (layout bs ns ws area z : List ℕ) (ss ts : List SlotRecord) (mark : �
 
           kept : ts ≡ slots_from (slots_numbers ss)
           kept = s ∙ ap (λ (k : ℕ). slots_from (take (k * slot_width) ws) ++ drop k ss) (taken-many (length ss) l) ∙ sym (slots-back ss)
+
+-- of the scratch ms, after r slots are taken apart
+module _ (layout bs ns ms ws area z : List ℕ) (ss ts : List SlotRecord) (mark r : ℕ) (a : ReadAnswer) where
+  pub read-scratch :
+      r ≡ taken (length ss) → ms ≡ filled r ss ns
+      → record { answer = a; slots = take (length ss * slot_width) ws; area = z }
+      ≡ read_first layout bs ms (length ss) area mark
+      → ts ≡ slots_from (take (r * slot_width) ws) ++ drop r ss
+      → record { answer = a; slots = ts; area = z } ≡ read_slots layout bs ss area mark
+  read-scratch e g f s =
+      read-loaded layout bs ns ws area z ss ts mark a
+      (f ∙ ap (λ (m : List ℕ). read_first layout bs m (length ss) area mark) (g ∙ ap (λ (k : ℕ). filled k ss ns) e))
+      (s ∙ ap (λ (k : ℕ). slots_from (take (k * slot_width) ws) ++ drop k ss) e)
