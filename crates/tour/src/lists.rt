@@ -1,7 +1,7 @@
 // Lists of examples, one a line: a letter, a layout or template, a bar and what follows; or `h`, a bar and a heading. A
 // line with no bar is no example.
 use super::records::examples;
-use super::{layouts, plan_lines, reals, templates};
+use super::{layouts, plan_lines, real_lines, templates};
 use std::io;
 use tour_text::{lines, print};
 
@@ -21,7 +21,7 @@ fn example(rt: &impl Print, show: Show, letter: u8, layout: &[u8], rest: &[u8]) 
     }
     match show {
         Show::Records => examples::example(rt, letter, layout, rest),
-        Show::Reals => reals::example(rt, letter, layout, rest),
+        Show::Reals => real_lines::example(rt, letter, layout, rest),
         Show::Layouts => layouts::example(rt, letter, layout, rest),
         Show::Plans => plan_lines::example(rt, letter, layout, rest),
         Show::Templates => templates::one(rt, layout),

@@ -6,7 +6,7 @@ use std::io;
 // The manual's examples and the edges of document 01.
 mod records;
 // Reals.
-mod reals;
+mod real_lines;
 // Layouts described.
 mod layouts;
 // Layouts prepared once.
@@ -18,7 +18,7 @@ mod lists;
 
 fn main(rt: HostRuntime) -> io::Result<()> {
     records::main(&rt)?;
-    reals::main(&rt)?;
+    real_lines::main(&rt)?;
     layouts::main(&rt)?;
     plan_lines::main(&rt)?;
     templates::main(&rt)
