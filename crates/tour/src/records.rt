@@ -2,7 +2,7 @@
 mod cuts;
 pub mod examples;
 mod packing;
-mod reading;
+mod readings;
 
 use std::io;
 

@@ -3,7 +3,7 @@
 // other slots, outputs or marks, and what is lent.
 use super::super::lists;
 use super::super::lists::Show;
-use super::{packing, reading};
+use super::{packing, readings};
 use std::io;
 
 fn packed(rt: &impl Print, kind: u8, layout: &[u8], rest: &[u8]) -> io::Result<()> {
@@ -22,10 +22,10 @@ fn packed(rt: &impl Print, kind: u8, layout: &[u8], rest: &[u8]) -> io::Result<(
 
 pub fn example(rt: &impl Print, kind: u8, layout: &[u8], rest: &[u8]) -> io::Result<()> {
     match kind {
-        b'1' => reading::one(rt, layout, rest),
-        b'2' => reading::two(rt, layout, rest),
-        b'8' => reading::eight(rt, layout, rest),
-        b'w' => reading::whole(rt, layout),
+        b'1' => readings::one(rt, layout, rest),
+        b'2' => readings::two(rt, layout, rest),
+        b'8' => readings::eight(rt, layout, rest),
+        b'w' => readings::whole(rt, layout),
         _ => packed(rt, kind, layout, rest),
     }
 }
