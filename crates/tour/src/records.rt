@@ -10,10 +10,10 @@ pub fn main(rt: &impl Print) -> io::Result<()> {
     examples::packings(rt)?;
     packing::sizes(rt)?;
     examples::outputs_and_readings(rt)?;
-    reading::kept(rt)?;
+    readings::kept(rt)?;
     examples::places_and_refusals(rt)?;
-    reading::sizes(rt)?;
-    reading::areas(rt)?;
+    readings::sizes(rt)?;
+    readings::areas(rt)?;
     examples::marks(rt)?;
     cuts::table(rt)
 }
