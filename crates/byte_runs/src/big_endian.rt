@@ -8,50 +8,22 @@ pub fn number_at(bytes: &[u8], at: usize, w: usize) -> u64
     requires { (at + w ≤ length bytes.now) × (w ≤ integer_size) }
     ensures { (result ≡ number_at w bytes.now at) × (result < 256 ^ w) }
 {
-    let mut x: u64 = 0;
-    let mut j: usize = 0;
-    while j < w {
-        x = x * 256 + bytes[at + j] as u64;
-        j += 1;
-    }
-    x
+    let mut eight = [0; record::INTEGER_SIZE];
+    eight[record::INTEGER_SIZE - w..].copy_from_slice(&bytes[at..at + w]);
+    u64::from_be_bytes(eight)
 }
 
-// Puts the eight bytes of a number at a place, the last one first. Written out like this they become one store.
-fn put_eight(out: &mut [u8], at: usize, x: u64)
-    requires { at + integer_size ≤ length out.old }
-    ensures { out.new ≡ store_at out.old at (number_bytes integer_size x) }
-{
-    out[at + 7] = (x % 256) as u8;
-    let x6 = x / 256;
-    out[at + 6] = (x6 % 256) as u8;
-    let x5 = x6 / 256;
-    out[at + 5] = (x5 % 256) as u8;
-    let x4 = x5 / 256;
-    out[at + 4] = (x4 % 256) as u8;
-    let x3 = x4 / 256;
-    out[at + 3] = (x3 % 256) as u8;
-    let x2 = x3 / 256;
-    out[at + 2] = (x2 % 256) as u8;
-    let x1 = x2 / 256;
-    out[at + 1] = (x1 % 256) as u8;
-    let x0 = x1 / 256;
-    out[at] = (x0 % 256) as u8;
-}
-
-// Puts the w lowest bytes of a number at a place, the last one first.
+// Puts the w lowest bytes of a number at a place: eight at once, else one by one, since w may be more than eight.
 pub fn put_number(out: &mut [u8], at: usize, w: usize, x: u64)
     requires { at + w ≤ length out.old }
     ensures { out.new ≡ store_at out.old at (number_bytes w x) }
 {
     if w == record::INTEGER_SIZE {
-        return put_eight(out, at, x);
+        return out[at..at + w].copy_from_slice(&x.to_be_bytes());
     }
     let mut rest = x;
-    let mut left = w;
-    while 0 < left {
-        left -= 1;
-        out[at + left] = (rest % 256) as u8;
-        rest = rest / 256;
+    for j in (0..w).rev() {
+        out[at + j] = (rest % 256) as u8;
+        rest /= 256;
     }
 }

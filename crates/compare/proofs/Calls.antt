@@ -1,21 +1,23 @@
 -- What each way out of a call leaves is what the definition gives.
 use Prim.Native.Nat.{ℕ, ◌+◌, ◌-◌, ◌*◌, ◌/◌, ◌≤◌, ◌<◌}
-use native.Mathlib.Nat.{zero-add}
+use native.Mathlib.Nat.{zero-add, le_refl}
 use native.Mathlib.Omega.{arith}
 use mathlib.Core.Path.{◌≡◌, refl, sym, ap, ◌∙◌, subst}
-use mathlib.Core.Bool.{Bool, true, false, ◌&&◌}
+use mathlib.Core.Bool.{true, false, ◌&&◌}
 use mathlib.Core.List.{List, ◌++◌, map}
 use borrow.Author.Tests.{le-leb, lt-leb, leb-true}
 use lib.Dec.{leb}
-use lib.ListN.{length, drop}
+use lib.ListN.{length, take, drop}
 use Rattle.layout.specs.declared.Field.{Field}
 use Rattle.layout.specs.declared.Refusal.{Refusal}
 use Rattle.layout.specs.declared.Refusal.TheVariants.{BadSize, BadSlots, NoRoom}
+use Rattle.std.specs.declared.result.Result.TheVariants.{Ok, Err}
+use Rattle.layout.specs.declared.Refused.{Refused}
 use Rattle.layout.specs.Refusals.{Result, ok, refused}
 use Rattle.layout.specs.Layout.{fields_of, slot_count}
 use Rattle.layout.proofs.Laws.{bound, demanded, no-number-zero}
 use Rattle.layout.specs.inside.Parsing.{decoded}
-use Rattle.layout.proofs.Decoded.{Learnt}
+use Rattle.layout.proofs.Decoded.{Learnt, learnt-front}
 use Rattle.record.specs.declared.Answer.{Answer}
 use Rattle.record.specs.Bytes.{store_at}
 use Rattle.record.specs.Table.{slot_width, slots_of, Value, area_bytes, value_bytes}
@@ -24,17 +26,15 @@ use Rattle.record.specs.Packing.{accepted, refusal}
 use Rattle.record.specs.Reading.{Read, values_from, positions_from, reads, put_into, read, ReadAll, left_of}
 use Rattle.record.proofs.Tables.{length-slots}
 use Rattle.reader.specs.inside.Sizes.{read_lent_fits}
-use Rattle.reader.specs.inside.Checks.{read_checked, fitting}
+use Rattle.reader.specs.inside.Checks.{fitting}
 use Rattle.reading.specs.inside.Run.{values_of}
 use Rattle.reading.specs.inside.Tables.{put_all, TableRoom}
-use Rattle.reader.proofs.checking.Calls.{Fit, fit, sizes-refuse, parse-refuses, check-fits}
-use Rattle.reader.specs.inside.passes.{ReadReady}
-use Rattle.reader.proofs.passes.Calls.{fit-room}
+use Rattle.reader.proofs.checking.Calls.{Fit, fit, Fits, fits-refuse, fits-accept}
 use Rattle.record.proofs.Readings.{values-few}
 use Rattle.compare.specs.Difference.{report_width}
 use Rattle.compare.specs.Report.{findings}
 use Rattle.compare.specs.inside.Steps.{LayoutOpened}
-use Rattle.compare.specs.Comparing.{Shown, compares, compare_effect, compare}
+use Rattle.compare.specs.Comparing.{Shown, compares, compare_effect, compare, Compares}
 use Rattle.compare.specs.inside.Shown.{shown_bytes, Shows}
 use Rattle.compare.proofs.report.Findings.{length-findings}
 use Rattle.compare.proofs.Shown.{put-shows, put_holds}
@@ -68,106 +68,52 @@ accepted-reads layout bs slots area vs h =
     } in
     record { values = h; fs = fs; fields = fields; shown = same; room = rw same at room; lent = lent }
 
--- ---- what a check says
+-- ---- what `fits` says of either reading, by the fields of the codes
 
-pub record Fails (layout bs slots area : List ℕ) (a : Answer) : Type 0 where
-  pub why : Refusal
-  pub place : ℕ
-  pub values : reads layout bs slots area 0 ≡ refused why place
-  pub answer : a ≡ refusal why place
-
-pub record Passes (layout bs slots area : List ℕ) (a : Answer) : Type 0 where
+pub record Passes (layout bs slots area : List ℕ) (taken : ℕ) : Type 0 where
   pub vs : List Value
   pub run : Reads layout bs slots area vs
-  pub answer : a ≡ accepted (slot_count run.fs) 0
+  pub count : taken ≡ slot_count run.fs
 
-module _ (layout bs slots area : List ℕ) where
-  answer-refused : {a : Answer} {why : Refusal} {p : ℕ} → reads layout bs slots area 0 ≡ refused why p → a ≡ read_checked layout bs slots area 0 → a ≡ refusal why p
-  unfolding read_checked
-  answer-refused e q = q ∙ rw e
-
-  answer-accepted : {a : Answer} {vs : List Value} (r : Reads layout bs slots area vs) → a ≡ read_checked layout bs slots area 0 → a ≡ accepted (slot_count r.fs) 0
-  unfolding read_checked
-  answer-accepted r q = q ∙ rw (r.values, r.fields)
-
-  module _ {a : Answer} (q : a ≡ read_checked layout bs slots area 0) where
-    fails_by : (o : Result (List Value)) → reads layout bs slots area 0 ≡ o → (a.number ≡ 0 → ⊥) → Fails layout bs slots area a
-    fails_by (refused why p) e h = record { why = why; place = p; values = e; answer = answer-refused e q }
-    fails_by (ok vs) e h = absurd (h (ap (λ (x : Answer). x.number) (answer-accepted (accepted-reads layout bs slots area vs e) q)))
-
-    passes-by : (o : Result (List Value)) → reads layout bs slots area 0 ≡ o → a.number ≡ 0 → Passes layout bs slots area a
-    passes-by (refused why p) e h = no-number-zero why (sym (ap (λ (x : Answer). x.number) (answer-refused e q)) ∙ h)
-    passes-by (ok vs) e h = let r = accepted-reads layout bs slots area vs e in record { vs = vs; run = r; answer = answer-accepted r q }
-
-    pub check-fails : (a.number ≡ 0 → ⊥) → Fails layout bs slots area a
-    check-fails = fails_by (reads layout bs slots area 0) refl
-
-    pub check-passes : a.number ≡ 0 → Passes layout bs slots area a
-    check-passes = passes-by (reads layout bs slots area 0) refl
-
--- ---- the same by the fields of the codes, read once for both
-
--- a call whose sizes do not fit
-pub sizes-fail : (layout bs slots area : List ℕ) {t : Bool} {a : Answer} → t ≡ read_lent_fits (length layout) (length slots) (length bs) (length area) 0 → t ≡ false → a ≡ refusal BadSize 0
-    → Fails layout bs slots area a
-sizes-fail layout bs slots area p e q = record { why = BadSize; place = 0; values = sizes-refuse layout bs slots area 0 (sym p ∙ e); answer = q }
-
--- a layout that is refused
-pub layout-fails : (layout bs slots area : List ℕ) {a : Answer} {why : Refusal} {place : ℕ} → Fit (length layout) (length slots) (length bs) (length area) 0 → fields_of false layout ≡ refused why place
-    → a ≡ refusal why place → Fails layout bs slots area a
-layout-fails layout bs slots area {why} {place} sizes e q = record { why = why; place = place; values = parse-refuses layout bs slots area 0 sizes e; answer = q }
-
--- and one that is read
 pub opened : {layout bs slots area : List ℕ} {n taken : ℕ} {ws : List ℕ} → Fit (length layout) (length slots) (length bs) (length area) 0 → Learnt (fields_of false layout) n taken ws
-    → LayoutOpened n taken ws layout bs slots area
-opened sizes l = record { fields = l.fields; count = l.taken; few = l.few; room = l.room; sizes = sizes.test }
+    → LayoutOpened taken (take n ws) layout bs slots area
+opened sizes l = let k = learnt-front l in record { fields = k.fields; count = k.taken; room = k.room; sizes = sizes.test }
 
--- what `fits` answers to either reading, and what is left by the values of the codes
-module _ {n taken : ℕ} {ws layout first slots₀ area₀ : List ℕ} (o : LayoutOpened n taken ws layout first slots₀ area₀)
-    (bs slots area : List ℕ) (sizes : Fit (length layout) (length slots) (length bs) (length area) 0)
-    {a : Answer} (q : a ≡ fitting (length slots) taken (length area) (length (value_bytes (values_of n ws bs)))) where
-  l : Learnt (fields_of false layout) n taken ws
-  l = record { fields = o.fields; taken = o.count; few = o.few; room = o.room }
+module _ {taken : ℕ} {ws layout first slots₀ area₀ : List ℕ} (o : LayoutOpened taken ws layout first slots₀ area₀)
+    (bs slots area : List ℕ) (t : read_lent_fits (length layout) (length slots) (length bs) (length area) 0 ≡ true)
+    {a : Fits} (q : a ≡ fitting (length slots) taken (length area) (length (value_bytes (values_of (length ws) ws bs)))) where
+  l : Learnt (fields_of false layout) (length ws) taken ws
+  l = record { fields = o.fields; taken = o.count; few = le_refl _; room = o.room }
 
-  fits : a ≡ fitting (length slots) taken (length area - 0) (length (value_bytes (values_of n ws bs)))
-  fits = let e : length area - 0 ≡ length area = omega arith in q ∙ ap (λ (r : ℕ). fitting (length slots) taken r (length (value_bytes (values_of n ws bs)))) (sym e)
+  sizes : Fit (length layout) (length slots) (length bs) (length area) 0
+  sizes = fit t
 
-  ready : ReadReady n taken ws bs slots area 0
-  ready =
-      record {
-        few = l.few;
-        room = l.room;
-        count = l.taken;
-        whole = sizes.whole;
-        table = sizes.table;
-        limit = sizes.limit;
-        start = sizes.start;
-      }
+  fits : a ≡ fitting (length slots) taken (length area - 0) (length (value_bytes (values_of (length ws) ws bs)))
+  fits = let e : length area - 0 ≡ length area = omega arith in q ∙ ap (λ (r : ℕ). fitting (length slots) taken r (length (value_bytes (values_of (length ws) ws bs)))) (sym e)
 
-  judged : a ≡ read_checked layout bs slots area 0
-  judged = check-fits layout bs slots area 0 sizes l fits
+  pub codes-fail : {e : Refused} → a ≡ Err e → reads layout bs slots area 0 ≡ refused e.why e.place
+  codes-fail = fits-refuse layout bs slots area 0 sizes l fits
 
-  pub codes-fail : (a.number ≡ 0 → ⊥) → Fails layout bs slots area a
-  codes-fail = check-fails layout bs slots area judged
+  module _ {u : Unit {0}} (z : a ≡ Ok u) where
+    run : Reads layout bs slots area (values_of (length ws) ws bs)
+    run = accepted-reads layout bs slots area _ (fits-accept layout bs slots area 0 sizes l fits z).0
 
-  module _ (z : a.number ≡ 0) where
-    pub codes-pass : Passes layout bs slots area a
-    codes-pass = check-passes layout bs slots area judged z
+    same : run.fs ≡ decoded (length ws) ws
+    same = cc (run.fields, l.fields)
 
-    pub codes-room : TableRoom (values_of n ws bs) slots area 0
-    codes-room = fit-room ready fits z
+    pub codes-pass : Passes layout bs slots area taken
+    codes-pass = record { vs = values_of (length ws) ws bs; run = run; count = rw same (l.taken) }
 
-    pub codes-left : {x : ReadAll} → x ≡ put_all n ws bs slots area 0 → left_of x ≡ read layout bs slots area 0
+    pub codes-room : TableRoom (values_of (length ws) ws bs) slots area 0
+    codes-room = run.room
+
+    pub codes-left : {x : ReadAll} → x ≡ put_all (length ws) ws bs slots area 0 → left_of x ≡ read layout bs slots area 0
     unfolding read
-    codes-left e =
-        let r = codes-pass.run in
-        let same : r.fs ≡ decoded n ws = cc (r.fields, l.fields) in
-        let shown : values_of n ws bs ≡ codes-pass.vs = ap (values_from bs 0) (sym same) ∙ r.shown in
-        ap left_of e ∙ rw (r.values, r.fields, shown, same)
+    codes-left e = ap left_of e ∙ rw (run.values, run.fields, same)
 
 -- ---- what a reading leaves
 
-module _ {layout bs slots area : List ℕ} {a : Answer} (p : Passes layout bs slots area a) {r : Read} (e : r ≡ read layout bs slots area 0) where
+module _ {layout bs slots area : List ℕ} {taken : ℕ} (p : Passes layout bs slots area taken) {r : Read} (e : r ≡ read layout bs slots area 0) where
   abbrev at : List ℕ
   at = positions_from (length bs) 0 p.run.fs
 
@@ -186,47 +132,40 @@ module _ {layout bs slots area : List ℕ} {a : Answer} (p : Passes layout bs sl
 -- ---- each way out
 
 module _ (layout first second fslots farea sslots sarea report : List ℕ) where
-  pub first-fails : {a : Answer} → Fails layout first fslots farea a
-      → record { answer = a; first_slots = fslots; first_area = farea; second_slots = sslots; second_area = sarea; report = report } ≡ compare layout first second fslots farea sslots sarea report
+  -- a call that answered a, and changed nothing
+  abbrev Unchanged : Answer → Type 0
+  Unchanged a = Compares layout first second fslots fslots farea farea sslots sslots sarea sarea report report a
+
+  pub first-fails : {a : Answer} {why : Refusal} {place : ℕ} → reads layout first fslots farea 0 ≡ refused why place → a ≡ refusal why place → Unchanged a
   unfolding compare compares compare_effect
-  first-fails f = rw (f.values, f.answer)
+  first-fails e h = rw (e, h)
 
-  module _ {a : Answer} (p : Passes layout first fslots farea a) where
-    pub second-fails : {b : Answer} → Fails layout second sslots sarea b
-        → record { answer = b; first_slots = fslots; first_area = farea; second_slots = sslots; second_area = sarea; report = report } ≡ compare layout first second fslots farea sslots sarea report
+  module _ {taken : ℕ} (p : Passes layout first fslots farea taken) where
+    pub second-fails : {a : Answer} {why : Refusal} {place : ℕ} → reads layout second sslots sarea 0 ≡ refused why place → a ≡ refusal why place → Unchanged a
     unfolding compare compares compare_effect
-    second-fails f = rw (p.run.values, f.values, f.answer)
+    second-fails e h = rw (p.run.values, e, h)
 
-    module _ {b : Answer} (q : Passes layout second sslots sarea b) where
-      fields : b.first ≡ slot_count q.run.fs
-      fields = ap (λ (x : Answer). x.first) q.answer
-
-      pub no_room : {r : Answer} → length report / report_width < b.first → r ≡ refusal NoRoom 0
-          → record { answer = r; first_slots = fslots; first_area = farea; second_slots = sslots; second_area = sarea; report = report } ≡ compare layout first second fslots farea sslots sarea report
+    module _ (q : Passes layout second sslots sarea taken) where
+      pub no_room : {a : Answer} → length report / report_width < taken → a ≡ refusal NoRoom 0 → Unchanged a
       unfolding compare compares compare_effect
       no_room h e =
-          let l : length report < report_width * slot_count q.run.fs = omega (arith, fields) in
+          let l : length report < report_width * slot_count q.run.fs = omega (arith, q.count) in
           rw (p.run.values, q.run.values, q.run.fields, lt-leb _ _ l, e)
 
-      pub done : {x y : Read} {report' : List ℕ} → x ≡ read layout first fslots farea 0 → y ≡ read layout second sslots sarea 0 → b.first ≤ length report / report_width
-          → report' ≡ store_at report 0 (findings b.first (shown_bytes x.slots x.area x.answer.first) (shown_bytes y.slots y.area y.answer.first))
-          → record {
-            answer = b;
-            first_slots = x.slots;
-            first_area = x.area;
-            second_slots = y.slots;
-            second_area = y.area;
-            report = report';
-          } ≡ compare layout first second fslots farea sslots sarea report
+      pub done : {a : Answer} {x y : Read} {report' : List ℕ} → x ≡ read layout first fslots farea 0 → y ≡ read layout second sslots sarea 0 → taken ≤ length report / report_width
+          → report' ≡ store_at report 0 (findings taken (shown_bytes x.slots x.area x.answer.first) (shown_bytes y.slots y.area y.answer.first))
+          → a ≡ accepted taken 0
+          → Compares layout first second fslots x.slots farea x.area sslots y.slots sarea y.area report report' a
       unfolding compare compares compare_effect
-      done {x} {y} {report'} e f h g =
+      done {a} {x} {y} {report'} e f h g k =
           let n : ℕ = slot_count q.run.fs in
-          let l : report_width * n ≤ length report = omega (arith, fields) in
+          let l : report_width * n ≤ length report = omega (arith, q.count) in
           let vs : List (List ℕ) = map area_bytes p.vs in
           let ws : List (List ℕ) = map area_bytes q.vs in
-          let w : report' ≡ findings n vs ws ++ drop (report_width * n) report = g ∙ rw (fields, read-shows p e, read-shows q f, length-findings n vs ws, zero-add) in
+          let w : report' ≡ findings n vs ws ++ drop (report_width * n) report = g ∙ rw (q.count, read-shows p e, read-shows q f, length-findings n vs ws, zero-add) in
+          let b : a ≡ accepted n 0 = rw (← q.count) k in
           let same : p.run.fs ≡ q.run.fs = cc (p.run.fields, q.run.fields) in
-          rw (p.run.values, q.run.values, q.run.fields, le-leb _ _ l, w, q.answer, put p e, put q f, same)
+          rw (p.run.values, q.run.values, q.run.fields, le-leb _ _ l, w, b, put p e, put q f, same)
 
 -- ---- a call that is accepted
 

@@ -3,6 +3,7 @@
 use Rattle.std.specs.Prelude.{ℕ, suc, ◌+◌, Bool, true, false, ◌&&◌, List, [], ◌∷◌, map, eqb, if◌then◌else◌}
 use Rattle.record.specs.Bytes.{join, digits}
 use Rattle.compare.specs.declared.difference.Finding.{Finding}
+use Rattle.compare.specs.declared.difference.Finding.TheVariants.{Same, OnlyFirst, OnlySecond, Neither, Differ}
 
 -- byte for byte the same, and none longer
 unfoldable pub same_bytes : List ℕ → List ℕ → Bool
@@ -65,4 +66,8 @@ both_finding xs ys =
 
 -- the three numbers of a finding
 abbrev pub finding_numbers : Finding → List ℕ
-finding_numbers r = r.verdict ∷ r.place ∷ r.bits ∷ []
+finding_numbers Same = plain_finding both_same
+finding_numbers OnlyFirst = plain_finding only_first
+finding_numbers OnlySecond = plain_finding only_second
+finding_numbers Neither = plain_finding in_neither
+finding_numbers (Differ place bits) = both_differ ∷ place ∷ bits ∷ []

@@ -1,165 +1,134 @@
 // Two values as bytes of their areas: whether they are the same, where they part, and how many of their bits differ.
-ghost use Rattle.std.specs.Prelude.{◌≡◌, ◌+◌, ◌*◌, ◌≤◌, true, ◌&&◌, length};
-ghost use Rattle.record.specs.Bytes.{part, digits};
+ghost use Rattle.std.specs.Prelude.{◌≡◌, ◌*◌, ◌≤◌, true, length, take};
+ghost use Rattle.record.specs.Bytes.{digits};
 ghost use Rattle.record.specs.Table.{max_area};
-ghost use Rattle.compare.specs.Difference.{same_bytes, first_difference, differing, differing_bits, plain_finding, both_finding};
+ghost use Rattle.compare.specs.Difference.{same_bytes, first_difference, differing, differing_bits, both_finding};
 ghost use Rattle.compare.specs.Difference.{finding_numbers};
 
-// The verdicts on a value field.
-const BOTH_SAME: u32 = 0;
-
-pub const ONLY_FIRST: u32 = 1;
-
-pub const ONLY_SECOND: u32 = 2;
-
-pub const IN_NEITHER: u32 = 3;
-
-const BOTH_DIFFER: u32 = 4;
+use super::report::REPORT_WIDTH;
 
 // The bytes that are looked at together.
 const BLOCK: usize = 16;
 
-// A finding of the report: the verdict; for values that differ, where they part, and how many bits differ.
+// What is found of a value field: whether both copies show the same value, which of them shows one if not both do, or
+// where the two values part and how many of their bits differ.
 #[derive(Clone, Copy)]
-pub struct Finding {
-    pub verdict: u32,
-    pub place: u32,
-    pub bits: u32,
+pub enum Finding {
+    Same,
+    OnlyFirst,
+    OnlySecond,
+    Neither,
+    Differ { place: u32, bits: u32 },
 }
 
-// A finding that says no more than its verdict.
-pub fn plain_finding(verdict: u32) -> Finding
-    ensures { finding_numbers result ≡ plain_finding verdict }
-{
-    Finding {
-        verdict: verdict,
-        place: 0,
-        bits: 0,
+impl Finding {
+    // Its numbers in the report: the verdict, and place and bits of values that differ.
+    pub fn numbers(self) -> [u32; REPORT_WIDTH]
+        ensures { result ≡ finding_numbers self }
+    {
+        match self {
+            Finding::Same => [0, 0, 0],
+            Finding::OnlyFirst => [1, 0, 0],
+            Finding::OnlySecond => [2, 0, 0],
+            Finding::Neither => [3, 0, 0],
+            Finding::Differ { place, bits } => [4, place, bits],
+        }
     }
 }
 
-fn both(a: bool, b: bool) -> bool
-    ensures { result ≡ (a && b) }
-{
-    if a { b } else { false }
-}
-
-// Whether n bytes of both are the same, from the places `at` and `to` on. The loop looks at all of them: without an
-// exit it is done many bytes at a time.
-fn same_bytes(first: &[u8], at: usize, second: &[u8], to: usize, n: usize) -> bool
-    requires { (at + n ≤ length first.now) × (to + n ≤ length second.now) }
-    ensures { result ≡ same_bytes (part first.now at n) (part second.now to n) }
+// Whether both are the same. The loop looks at all bytes: without an exit it is done many bytes at a time.
+// (By index, here and below: of a loop over both by `zip` no proof closed that its items are the bytes at one place.)
+fn same_bytes(first: &[u8], second: &[u8]) -> bool
+    requires { length first.now ≡ length second.now }
+    ensures { result ≡ same_bytes first.now second.now }
 {
     let mut good = true;
-    let mut i: usize = 0;
-    while i < n {
-        good = both(good, first[at + i] == second[to + i]);
-        i += 1;
+    for i in 0..first.len() {
+        good &= first[i] == second[i];
     }
     good
 }
 
-// Whether n bytes of the first from the place `at` on are the m bytes of the second from `to` on.
-fn same(first: &[u8], at: usize, n: usize, second: &[u8], to: usize, m: usize) -> bool
-    requires { (at + n ≤ length first.now) × (to + m ≤ length second.now) }
-    ensures { result ≡ same_bytes (part first.now at n) (part second.now to m) }
+fn same(first: &[u8], second: &[u8]) -> bool
+    ensures { result ≡ same_bytes first.now second.now }
 {
-    if n != m {
-        return false;
-    }
-    same_bytes(first, at, second, to, n)
+    first.len() == second.len() && same_bytes(first, second)
 }
 
 // The bytes at the front of both that are the same, in whole blocks.
-fn equal_blocks(first: &[u8], at: usize, second: &[u8], to: usize, n: usize) -> usize
-    requires { (at + n ≤ length first.now) × (to + n ≤ length second.now) }
-    ensures { (result ≤ n) × (same_bytes (part first.now at result) (part second.now to result) ≡ true) }
+fn equal_blocks(first: &[u8], second: &[u8]) -> usize
+    requires { length first.now ≡ length second.now }
+    ensures { (result ≤ length first.now) × (same_bytes (take result first.now) (take result second.now) ≡ true) }
 {
-    let mut i: usize = 0;
-    while BLOCK <= n - i {
-        if !same_bytes(first, at + i, second, to + i, BLOCK) {
-            return i;
+    let blocks = first.len() / BLOCK;
+    for k in 0..blocks {
+        let at = BLOCK * k;
+        if !same_bytes(&first[at..at + BLOCK], &second[at..at + BLOCK]) {
+            return at;
         }
-        i += BLOCK;
     }
-    i
+    BLOCK * blocks
 }
 
-// The first of n bytes at which the two part; n where none does.
-fn first_difference(first: &[u8], at: usize, second: &[u8], to: usize, n: usize) -> usize
-    requires { (at + n ≤ length first.now) × (to + n ≤ length second.now) }
-    ensures { result ≡ first_difference (part first.now at n) (part second.now to n) }
+// The first byte at which the two part; their length where none does.
+fn first_difference(first: &[u8], second: &[u8]) -> usize
+    requires { length first.now ≡ length second.now }
+    ensures { result ≡ first_difference first.now second.now }
 {
-    let mut i = equal_blocks(first, at, second, to, n);
-    while i < n {
-        if first[at + i] != second[to + i] {
+    for i in equal_blocks(first, second)..first.len() {
+        if first[i] != second[i] {
             return i;
         }
-        i += 1;
     }
-    i
+    first.len()
 }
 
 // How many of the eight binary digits of two bytes differ.
 fn byte_bits(a: u8, b: u8) -> u32
     ensures { result ≡ differing (digits 2 8 a) (digits 2 8 b) }
 {
-    u8::count_ones(a ^ b)
+    (a ^ b).count_ones()
 }
 
-// The bits that differ over the n bytes of a block at most: their sum has room in a byte, so that the bytes of a block
+// The bits that differ over the bytes of a block at most: their sum has room in a byte, so that the bytes of a block
 // are summed all at once.
-fn block_bits(first: &[u8], at: usize, second: &[u8], to: usize, n: usize) -> u8
-    requires { (at + n ≤ length first.now) × (to + n ≤ length second.now) × (n ≤ 16) }
-    ensures { (result ≡ differing_bits (part first.now at n) (part second.now to n)) × (result ≤ 8 * n) }
+fn block_bits(first: &[u8], second: &[u8]) -> u8
+    requires { (length first.now ≡ length second.now) × (length first.now ≤ 16) }
+    ensures value { result ≡ differing_bits first.now second.now }
+    ensures few { result ≤ 8 * length first.now }
 {
     let mut sum: u8 = 0;
-    let mut i: usize = 0;
-    while i < n {
-        sum += byte_bits(first[at + i], second[to + i]) as u8;
-        i += 1;
+    for i in 0..first.len() {
+        sum += byte_bits(first[i], second[i]) as u8;
     }
     sum
 }
 
-// The bits that differ over n bytes of both.
-fn differing_bits(first: &[u8], at: usize, second: &[u8], to: usize, n: usize) -> u32
-    requires { (at + n ≤ length first.now) × (to + n ≤ length second.now) × (n ≤ max_area) }
-    ensures { result ≡ differing_bits (part first.now at n) (part second.now to n) }
+// The bits that differ over all bytes.
+fn differing_bits(first: &[u8], second: &[u8]) -> u32
+    requires { (length first.now ≡ length second.now) × (length first.now ≤ max_area) }
+    ensures { result ≡ differing_bits first.now second.now }
 {
+    let blocks = first.len() / BLOCK;
     let mut sum: u32 = 0;
-    let mut i: usize = 0;
-    while i < n {
-        let m = record::least(n - i, BLOCK);
-        let bits = block_bits(first, at + i, second, to + i, m);
-        sum += bits as u32;
-        i += m;
+    for k in 0..blocks {
+        let at = BLOCK * k;
+        sum += u32::from(block_bits(&first[at..at + BLOCK], &second[at..at + BLOCK]));
     }
-    sum
+    let rest = BLOCK * blocks;
+    sum + u32::from(block_bits(&first[rest..], &second[rest..]))
 }
 
-// The finding of two values that are both set: n bytes of the first area from the place `at` on, and m of the second
-// from `to` on.
-pub fn both_finding(
-    first: &[u8],
-    at: usize,
-    n: usize,
-    second: &[u8],
-    to: usize,
-    m: usize,
-) -> Finding
-    requires { (at + n ≤ length first.now) × (to + m ≤ length second.now) × (length first.now ≤ max_area) }
-    ensures { finding_numbers result ≡ both_finding (part first.now at n) (part second.now to m) }
+// The finding of two values that are both set.
+pub fn both_finding(first: &[u8], second: &[u8]) -> Finding
+    requires { length first.now ≤ max_area }
+    ensures { finding_numbers result ≡ both_finding first.now second.now }
 {
-    if same(first, at, n, second, to, m) {
-        return plain_finding(BOTH_SAME);
+    if same(first, second) {
+        return Finding::Same;
     }
-    let common = record::least(n, m);
-    let place = first_difference(first, at, second, to, common);
-    let bits = differing_bits(first, at, second, to, common);
-    Finding {
-        verdict: BOTH_DIFFER,
-        place: place as u32,
-        bits: bits,
-    }
+    let common = first.len().min(second.len());
+    let place = first_difference(&first[..common], &second[..common]) as u32;
+    let bits = differing_bits(&first[..common], &second[..common]);
+    Finding::Differ { place, bits }
 }

@@ -5,21 +5,21 @@
 ghost use Rattle.compare.specs.Comparing.{Compares};
 ghost use Rattle.compare.specs.inside.Steps.{LayoutOpened};
 
-use layout::{Parsed, Refusal, parser};
+use layout::{Refusal, parser};
 use reader::checking;
 use record::Answer;
-use report::REPORT_WIDTH;
+use report::{REPORT_WIDTH, Side};
 
 // Two values by themselves.
 pub mod difference;
 // The findings of the report.
 pub mod report;
 
-// What is left of a comparison once the layout is read, and what the first reading is lent keeps to its size: the first
-// n codes are the fields of the layout, of which `taken` take a slot.
+// What is left of a comparison once the layout is read, and what the first reading is lent keeps to its size: the codes
+// are the fields of the layout, of which `taken` take a slot. (Tables and areas come one by one, as `compare` is given
+// them, whose contract names each: a struct of them would be put together for this one call.)
 fn compare_codes(
     codes: &[u32],
-    n: usize,
     taken: usize,
     layout: &[u8],
     first: &[u8],
@@ -30,12 +30,11 @@ fn compare_codes(
     second_area: &mut [u8],
     report: &mut [u32],
 ) -> Answer
-    requires { LayoutOpened n taken codes.now layout.now first.now first_slots.old first_area.old }
+    requires { LayoutOpened taken codes.now layout.now first.now first_slots.old first_area.old }
     ensures { Compares layout.now first.now second.now first_slots.old first_slots.new first_area.old first_area.new second_slots.old second_slots.new second_area.old second_area.new report.old report.new result }
 {
-    let a = checking::fits(codes, n, taken, first, first_slots.len(), first_area.len());
-    if a.number != 0 {
-        return a;
+    if let Err(e) = checking::fits(codes, taken, first, first_slots.len(), first_area.len()) {
+        return Answer::refused(e.why, e.place as u32);
     }
     if !checking::sizes_fit(
         layout.len(),
@@ -46,34 +45,26 @@ fn compare_codes(
     ) {
         return Answer::refused(Refusal::BadSize, 0);
     }
-    let b = checking::fits(
-        codes,
-        n,
-        taken,
-        second,
-        second_slots.len(),
-        second_area.len(),
-    );
-    if b.number != 0 {
-        return b;
+    if let Err(e) = checking::fits(codes, taken, second, second_slots.len(), second_area.len()) {
+        return Answer::refused(e.why, e.place as u32);
     }
-    let fields = b.first as usize;
-    if report.len() / REPORT_WIDTH < fields {
+    if report.len() / REPORT_WIDTH < taken {
         return Answer::refused(Refusal::NoRoom, 0);
     }
-    let p = reading::fill(codes, n, first, first_slots, first_area, 0);
-    let q = reading::fill(codes, n, second, second_slots, second_area, 0);
-    report::write(
-        report,
-        fields,
-        first_slots,
-        first_area,
-        p.answer.first as usize,
-        second_slots,
-        second_area,
-        q.answer.first as usize,
-    );
-    b
+    let p = reading::fill(codes, first, first_slots, first_area, 0);
+    let q = reading::fill(codes, second, second_slots, second_area, 0);
+    let first_side = Side {
+        slots: first_slots,
+        area: first_area,
+        set: p.answer.first as usize,
+    };
+    let second_side = Side {
+        slots: second_slots,
+        area: second_area,
+        set: q.answer.first as usize,
+    };
+    report::write(report, taken, &first_side, &second_side);
+    Answer::accepted(taken as u32, 0)
 }
 
 // Reads both copies, each into its own table and area, and writes three numbers for each value field into the report. A
@@ -100,21 +91,20 @@ pub fn compare(
         return Answer::refused(Refusal::BadSize, 0);
     }
     let mut codes: [u32; layout::MAX_LAYOUT] = [0; layout::MAX_LAYOUT];
-    let p = parser::parse(layout, false, &mut codes);
-    match p {
-        Parsed::Refused(why, place) => Answer::refused(why, place as u32),
-        Parsed::Fields(n, taken) => compare_codes(
-            &codes,
-            n,
-            taken,
-            layout,
-            first,
-            second,
-            first_slots,
-            first_area,
-            second_slots,
-            second_area,
-            report,
-        ),
-    }
+    let fields = match parser::parse(layout, false, &mut codes) {
+        Ok(fields) => fields,
+        Err(e) => return Answer::refused(e.why, e.place as u32),
+    };
+    compare_codes(
+        &codes[..fields.count],
+        fields.slots,
+        layout,
+        first,
+        second,
+        first_slots,
+        first_area,
+        second_slots,
+        second_area,
+        report,
+    )
 }

@@ -5,18 +5,18 @@ use native.Mathlib.Omega.{arith}
 use mathlib.Core.Path.{◌≡◌, refl, ap, ◌∙◌}
 use mathlib.Core.Bool.{Bool, true, false}
 use mathlib.Core.List.{List, [], ◌∷◌}
-use lib.ListN.{length, get_or, drop}
+use lib.ListN.{length, get_or, take, drop, length-take}
 use borrow.Author.Tests.{le-leb, lt-leb}
 use Rattle.layout.specs.declared.Field.{Field}
 use Rattle.layout.specs.declared.Refusal.{Refusal}
 use Rattle.layout.specs.declared.Refusal.TheVariants.{BadSize}
-use Rattle.layout.specs.Refusals.{ok, refused}
+use Rattle.layout.specs.Refusals.{Result, ok, refused}
 use Rattle.layout.specs.Layout.{max_layout, takes_slot, fields_of, slot_count}
 use Rattle.layout.specs.Codes.{field_of}
 use Rattle.layout.specs.inside.Parsing.{decoded}
 use Rattle.layout.proofs.Laws.{AllSound, packed-reads}
 use Rattle.describe.proofs.Counts.{AllCounted, counts-limited}
-use Rattle.layout.proofs.Decoded.{next_field, no_field}
+use Rattle.layout.proofs.Decoded.{decoded-front, Learnt, next_field, no_field}
 use Rattle.record.specs.declared.Cursor.{Cursor}
 use Rattle.record.specs.inside.Cursor.{origin}
 use Rattle.record.specs.Packing.{accepted, refusal}

@@ -1,5 +1,8 @@
 -- The counts of an accepted layout keep to their limit and mean something, since other fields are refused with 3 and 4;
 -- and a text has no more fields than bytes.
+use Rattle.layout.specs.declared.Role.{Role}
+use Rattle.std.specs.declared.option.Option.{Option}
+use Rattle.std.specs.declared.option.Option.TheVariants.{Some, None}
 use Rattle.std.specs.Prelude.{if◌then◌else◌}
 use Prim.Native.Nat.{ℕ, zero, suc, ◌+◌, ◌≤◌}
 use native.Mathlib.Omega.{arith}
@@ -9,8 +12,6 @@ use mathlib.Core.List.{List, [], ◌∷◌}
 use lib.Dec.{eqb}
 use lib.ListN.{length, drop}
 use Rattle.layout.specs.declared.Field.{Field}
-use Rattle.layout.specs.declared.Typed.{Typed}
-use Rattle.layout.specs.declared.Typed.TheVariants.{Known, Unknown}
 use Rattle.layout.specs.declared.Refusal.TheVariants.{BadType, BadCount, BadMove}
 use Rattle.layout.specs.Refusals.{Result, ok, refused, ◌>>=◌, demand}
 use Rattle.layout.specs.Layout.{type_of, flagged, count_of, count_length, in_limit, has_meaning, to_nat, Step, space, field, bad, step_from, field_after, field_at, step_of, step_extra, step_then, fields_from, fields_of}
@@ -44,14 +45,14 @@ module _ (packing : Bool) where
   kept-end p q f n true false e h = tt
   kept-end p q f n true true e h = (e, h)
 
-  kept-typed : (at : ℕ) (cs : List ℕ) (t : Typed)
-      → KeptIn (step_from (elim t [ Known k ↦ field_after packing at k cs | Unknown ↦ refused BadType at ]))
+  kept-typed : (at : ℕ) (cs : List ℕ) (t : Option Role)
+      → KeptIn (step_from (elim t [ Some k ↦ field_after packing at k cs | None ↦ refused BadType at ]))
   unfolding field_after
-  kept-typed at cs (Known k) =
+  kept-typed at cs (Some k) =
       let u = flagged cs in
       let n = count_of (drop (to_nat u) cs) in
       kept-end (suc at + to_nat u) at (record { role = k; unsigned = u; count = n }) (to_nat u + count_length (drop (to_nat u) cs)) (in_limit n) (has_meaning packing k n) refl refl
-  kept-typed at cs Unknown = tt
+  kept-typed at cs None = tt
 
   kept_step : (at c : ℕ) (cs : List ℕ) → KeptIn (step_of packing at c cs)
   unfolding step_of field_at

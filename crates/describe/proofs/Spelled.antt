@@ -1,5 +1,7 @@
 -- The text is made of its fields and of spaces: the flag and the count of a field stand in the bytes that it takes, so
 -- that these bytes alone are that field, and what is between two fields was passed over as a space.
+use Rattle.std.specs.declared.option.Option.{Option}
+use Rattle.std.specs.declared.option.Option.TheVariants.{Some, None}
 use Rattle.std.specs.Prelude.{if◌then◌else◌}
 use Prim.Native.Nat.{ℕ, zero, suc, ◌+◌, ◌-◌, ◌*◌, ◌≤◌, ◌<◌}
 use native.Mathlib.Nat.{add-zero, zero-add, add_comm, suc-add, sub_self, le_of_suc-le-suc, lt_of_not-le}
@@ -14,8 +16,6 @@ use lib.ListN.{length, get_or, take, drop, length-drop, length-take, drop_of_len
 use lib.Seq.{take-nil, drop-cons}
 use Rattle.layout.specs.declared.Role.{Role}
 use Rattle.layout.specs.declared.Field.{Field}
-use Rattle.layout.specs.declared.Typed.{Typed}
-use Rattle.layout.specs.declared.Typed.TheVariants.{Known, Unknown}
 use Rattle.layout.specs.declared.Refusal.TheVariants.{BadType, BadCount, BadMove}
 use Rattle.layout.specs.Refusals.{Result, ok, refused, ◌>>=◌, demand}
 use Rattle.layout.specs.Layout.{is_decimal, digit_run, decimal, type_of, flagged, count_of, count_length, in_limit, has_meaning, to_nat, Step, space, field, bad, step_from, field_after, field_at, step_of, step_extra, fields_from, fields_of}
@@ -108,16 +108,16 @@ module _ (packing : Bool) (at c : ℕ) (cs : List ℕ) where
   alike_end p q p' q' true false f n = tt
   alike_end p q p' q' true true f n = refl
 
-  alike_typed : (t : Typed)
-      → Alike (step_from (elim t [ Known k ↦ field_after packing at k cs | Unknown ↦ refused BadType at ]))
-      (step_from (elim t [ Known k ↦ field_after packing 0 k (take (tail_length cs) cs) | Unknown ↦ refused BadType 0 ]))
+  alike_typed : (t : Option Role)
+      → Alike (step_from (elim t [ Some k ↦ field_after packing at k cs | None ↦ refused BadType at ]))
+      (step_from (elim t [ Some k ↦ field_after packing 0 k (take (tail_length cs) cs) | None ↦ refused BadType 0 ]))
   unfolding field_after
-  alike_typed (Known k) =
+  alike_typed (Some k) =
       let u = flagged cs in
       let rest : List ℕ = drop (to_nat u) cs in
       rw (after-own packing 0 k cs)
       (alike_end (suc at + to_nat u) at (suc 0 + to_nat u) 0 (in_limit (count_of rest)) (has_meaning packing k (count_of rest)) _ (to_nat u + count_length rest))
-  alike_typed Unknown = tt
+  alike_typed None = tt
 
   step-own : Alike (step_of packing at c cs) (step_of packing 0 c (take (tail_length cs) cs))
   unfolding step_of field_at

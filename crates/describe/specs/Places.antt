@@ -1,7 +1,7 @@
 -- What is claimed of the fields with their places: they are the layout's, and the text is made of just their bytes and
 -- of spaces. The proof is in proofs/Places.antt and proofs/Spelled.antt.
+use Rattle.std.specs.declared.option.Option.TheVariants.{Some}
 use Rattle.std.specs.Prelude.{ℕ, ◌+◌, ◌-◌, ◌≤◌, ◌≡◌, Bool, List, [], ◌∷◌, length, take, drop, get_or}
-use Rattle.layout.specs.declared.Typed.TheVariants.{Known}
 use Rattle.layout.specs.Refusals.{ok}
 use Rattle.layout.specs.Layout.{type_of, fields_of}
 use Rattle.describe.specs.Placed.{Placed, without_places, placed_fields}
@@ -18,7 +18,7 @@ pub record Stands (packing : Bool) (text : List ℕ) (at : ℕ) (p : Placed) : T
   pub inside : p.place + p.size ≤ length text
   -- its type character is at its place
   pub letter : p.letter ≡ get_or text p.place 0
-  pub type : type_of p.letter ≡ Known p.what.role
+  pub type : type_of p.letter ≡ Some p.what.role
   -- its bytes, taken as a layout of their own, are this one field
   pub spelled : fields_of packing (take p.size (drop p.place text)) ≡ ok (p.what ∷ [])
 

@@ -1,5 +1,7 @@
 -- The fields of a layout as rows of eight numbers, for a program that shows or goes by them (document 01, Layout text
--- and Packing). THE EFFECT OF A CALL is `listed`, at the end. The types Extent, Track and Row are the source's.
+-- and Packing). THE EFFECT OF A CALL is `listed`, at the end. The types Track and Row are the source's.
+use Rattle.std.specs.declared.option.Option.{Option}
+use Rattle.std.specs.declared.option.Option.TheVariants.{Some, None}
 use Rattle.std.specs.Prelude.{ℕ, ◌+◌, ◌-◌, ◌*◌, max, false, List, [], ◌∷◌, ◌++◌, length, drop, leb}
 use Rattle.layout.specs.declared.Role.{Role}
 use Rattle.layout.specs.declared.Role.TheVariants.{Data, Move}
@@ -14,50 +16,51 @@ use Rattle.record.specs.Bytes.{big_endian}
 use Rattle.record.specs.Geometry.{bytes_for}
 use Rattle.record.specs.Packing.{accepted, refusal, Packed}
 use Rattle.describe.specs.Placed.{Placed, placed_fields}
-use Rattle.describe.specs.declared.fields.Extent.{Extent}
-use Rattle.describe.specs.declared.fields.Extent.TheVariants.{Fixed, Open}
 use Rattle.describe.specs.declared.fields.Track.{Track}
 use Rattle.describe.specs.declared.fields.Row.{Row}
 
--- ---- numbers that the layout alone fixes, or that are open, since a starred value decides them
+-- ---- numbers that the layout alone fixes, or that are open (None), since a starred value decides them
+
+abbrev pub Extent : Type 0
+Extent = Option ℕ
 
 abbrev pub plus : Extent → Extent → Extent
-plus (Fixed a) (Fixed b) = Fixed (a + b)
-plus (Fixed a) Open = Open
-plus Open b = Open
+plus (Some a) (Some b) = Some (a + b)
+plus (Some a) None = None
+plus None b = None
 
 abbrev pub highest : Extent → Extent → Extent
-highest (Fixed a) (Fixed b) = Fixed (max a b)
-highest (Fixed a) Open = Open
-highest Open b = Open
+highest (Some a) (Some b) = Some (max a b)
+highest (Some a) None = None
+highest None b = None
 
 abbrev pub less : Extent → ℕ → Extent
-less (Fixed a) n = Fixed (a - n)
-less Open n = Open
+less (Some a) n = Some (a - n)
+less None n = None
 
 -- what a count asks for, where a star asks for all (`amount` in crates/record/specs/Geometry.antt)
 abbrev pub asked : Count → Extent → Extent
-asked Absent all = Fixed 1
+asked Absent all = Some 1
 asked Star all = all
-asked (Times n) all = Fixed n
+asked (Times n) all = Some n
 
 -- ---- how packing moves over a field
 
 -- the bytes that a field fills: of a starred value they are open, and of `x*`, which packing refuses
 abbrev pub extent_of : Shape → Extent → Extent
-extent_of s (Fixed n) = Fixed (bytes_for s n)
-extent_of s Open = Open
+extent_of s (Some n) = Some (bytes_for s n)
+extent_of s None = None
 
 abbrev pub filling : Role → Count → Extent
-filling (Data s) n = extent_of s (asked n Open)
-filling (Move Skip) n = asked n Open
-filling (Move Back) n = Fixed 0
-filling (Move Goto) n = Fixed 0
+filling (Data s) n = extent_of s (asked n None)
+filling (Move Skip) n = asked n None
+filling (Move Back) n = Some 0
+filling (Move Goto) n = Some 0
 
 -- `X`: back, and `X*` to 0 from anywhere
 abbrev pub back : Extent → Count → Extent
 back at Absent = less at 1
-back at Star = Fixed 0
+back at Star = Some 0
 back at (Times n) = less at n
 
 -- the position after a field: values and `x` go forward, `@` goes to its count and `@*` to the highest position so far
@@ -69,7 +72,7 @@ position_after t (Move Goto) n = asked n t.highest
 
 -- the track of the cursor, its position and the highest one so far: where packing begins, and after a field
 abbrev pub track_start : Track
-track_start = record { at = Fixed 0; highest = Fixed 0 }
+track_start = record { at = Some 0; highest = Some 0 }
 
 abbrev pub onward : Track → Role → Count → Track
 onward t k n = record { at = position_after t k n; highest = highest t.highest (position_after t k n) }
@@ -95,8 +98,8 @@ slot_shown (Data s) k = k
 slot_shown (Move m) k = none
 
 abbrev pub number_shown : Extent → ℕ
-number_shown (Fixed n) = n
-number_shown Open = none
+number_shown (Some n) = n
+number_shown None = none
 
 -- the row of a field before which k slots are taken and the cursor has the track t
 abbrev pub row_of : ℕ → Track → Placed → Row

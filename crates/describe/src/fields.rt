@@ -1,9 +1,9 @@
 // The fields of a layout, as rows of numbers: where each stands in the text, what it is, the slot that it takes and
 // where packing begins it. The definitions are in specs/Rows.antt; what is claimed of them is proved in the crate
 // `describe_claims`.
-ghost use Rattle.std.specs.Prelude.{◌≡◌, ◌+◌, ◌*◌, ◌≤◌, ◌<◌, max, length};
+ghost use Rattle.std.specs.Prelude.{◌≡◌, ◌+◌, ◌*◌, ◌≤◌, ◌<◌, length};
 ghost use Rattle.layout.specs.declared.Role.TheVariants.{Data};
-ghost use Rattle.layout.specs.Layout.{max_layout, takes_slot, to_nat};
+ghost use Rattle.layout.specs.Layout.{max_layout};
 ghost use Rattle.layout.specs.inside.Parsing.{FitRole, FitCount};
 ghost use Rattle.record.specs.Bytes.{store_at, big_endian};
 ghost use Rattle.describe.specs.inside.Texts.{placed_at};
@@ -11,22 +11,16 @@ ghost use Rattle.describe.specs.Rows.{plus, highest, less, asked, extent_of, fil
 ghost use Rattle.describe.specs.inside.Walk.{AtMost, layout_reach, Safe, Holds, Written};
 
 use byte_runs::big_endian;
-use layout::{Count, Field, Motion, Parsed, Refusal, Role, Shape, parser, scanner};
+use layout::{Count, Field, Motion, Refusal, Role, Shape, parser, scanner};
 use record::Answer;
 use slot_table::sizes;
 
-// A number of bytes that the layout alone fixes, or that is open, since a starred value decides it.
-#[derive(Clone, Copy)]
-pub enum Extent {
-    Fixed(usize),
-    Open,
-}
-
-// How far packing has come: the cursor's position and the highest one so far.
+// How far packing has come: the cursor's position and the highest one so far. A number of bytes that a starred value
+// decides, so that the layout alone does not fix it, is None.
 #[derive(Clone, Copy)]
 pub struct Track {
-    pub at: Extent,
-    pub highest: Extent,
+    pub at: Option<usize>,
+    pub highest: Option<usize>,
 }
 
 // The eight numbers of a field.
@@ -42,10 +36,10 @@ pub struct Row {
     pub bytes: u32,
 }
 
-// What stands for no count, no slot and an open number; and for a star.
-const NONE: u32 = 4294967295;
+// What stands in a row, for its host, where there is no count, no slot or an open number; and for a star.
+const NONE: u32 = u32::MAX;
 
-const STAR: u32 = 4294967294;
+const STAR: u32 = NONE - 1;
 
 // The bytes of a number, and of a row.
 const NUMBER_SIZE: usize = 4;
@@ -54,121 +48,90 @@ const ROW_SIZE: usize = 8 * NUMBER_SIZE;
 
 // ---- how packing moves over a field
 
-fn plus(a: Extent, b: Extent) -> Extent
+fn plus(a: Option<usize>, b: Option<usize>) -> Option<usize>
     requires { AtMost layout_reach a × AtMost layout_reach b }
     ensures { result ≡ plus a b }
 {
-    match a {
-        Extent::Fixed(m) => match b {
-            Extent::Fixed(n) => Extent::Fixed(m + n),
-            Extent::Open => Extent::Open,
-        },
-        Extent::Open => Extent::Open,
-    }
+    Some(a? + b?)
 }
 
-fn most(a: usize, b: usize) -> usize
-    ensures { result ≡ max a b }
-{
-    if a < b { b } else { a }
-}
-
-fn highest(a: Extent, b: Extent) -> Extent
+fn highest(a: Option<usize>, b: Option<usize>) -> Option<usize>
     ensures { result ≡ highest a b }
 {
-    match a {
-        Extent::Fixed(m) => match b {
-            Extent::Fixed(n) => Extent::Fixed(most(m, n)),
-            Extent::Open => Extent::Open,
-        },
-        Extent::Open => Extent::Open,
-    }
+    Some(a?.max(b?))
 }
 
-fn less(a: Extent, n: usize) -> Extent
+fn less(a: Option<usize>, n: usize) -> Option<usize>
     ensures { result ≡ less a n }
 {
-    match a {
-        Extent::Fixed(m) => Extent::Fixed(m - record::least(m, n)),
-        Extent::Open => Extent::Open,
-    }
+    Some(a?.saturating_sub(n))
 }
 
 // What a count asks for, where a star asks for all.
-fn asked(n: Count, all: Extent) -> Extent
+fn asked(n: Count, all: Option<usize>) -> Option<usize>
     ensures { result ≡ asked n all }
 {
     match n {
-        Count::Absent => Extent::Fixed(1),
+        Count::Absent => Some(1),
         Count::Star => all,
-        Count::Times(m) => Extent::Fixed(m),
+        Count::Times(m) => Some(m),
     }
 }
 
-fn bytes_of(s: Shape, n: Extent) -> Extent
+fn bytes_of(s: Shape, n: Option<usize>) -> Option<usize>
     requires { FitRole (Data s) × AtMost layout_reach n }
     ensures { result ≡ extent_of s n }
 {
-    match n {
-        Extent::Fixed(m) => Extent::Fixed(sizes::bytes_for(s, m)),
-        Extent::Open => Extent::Open,
-    }
+    Some(sizes::bytes_for(s, n?))
 }
 
 // The bytes that a field fills.
-fn filling(k: Role, n: Count) -> Extent
+fn filling(k: Role, n: Count) -> Option<usize>
     requires { FitRole k × FitCount n }
     ensures { result ≡ filling k n }
 {
     match k {
-        Role::Data(s) => bytes_of(s, asked(n, Extent::Open)),
-        Role::Move(m) => match m {
-            Motion::Skip => asked(n, Extent::Open),
-            Motion::Back => Extent::Fixed(0),
-            Motion::Goto => Extent::Fixed(0),
-        },
+        Role::Data(s) => bytes_of(s, asked(n, None)),
+        Role::Move(Motion::Skip) => asked(n, None),
+        Role::Move(Motion::Back) => Some(0),
+        Role::Move(Motion::Goto) => Some(0),
     }
 }
 
-fn back(at: Extent, n: Count) -> Extent
+fn back(at: Option<usize>, n: Count) -> Option<usize>
     ensures { result ≡ back at n }
 {
     match n {
         Count::Absent => less(at, 1),
-        Count::Star => Extent::Fixed(0),
+        Count::Star => Some(0),
         Count::Times(m) => less(at, m),
     }
 }
 
-// The position after a field.
-fn position_after(t: Track, k: Role, n: Count) -> Extent
-    requires { Safe k n t }
-    ensures { result ≡ position_after t k n }
-{
-    let at = t.at;
-    let highest = t.highest;
-    let forward = plus(at, filling(k, n));
-    match k {
-        Role::Data(_s) => forward,
-        Role::Move(m) => match m {
-            Motion::Skip => forward,
-            Motion::Back => back(at, n),
-            Motion::Goto => asked(n, highest),
-        },
+impl Track {
+    // The position after a field.
+    fn position_after(self, k: Role, n: Count) -> Option<usize>
+        requires { Safe k n self }
+        ensures { result ≡ position_after self k n }
+    {
+        match k {
+            Role::Data(_) => plus(self.at, filling(k, n)),
+            Role::Move(Motion::Skip) => plus(self.at, filling(k, n)),
+            Role::Move(Motion::Back) => back(self.at, n),
+            Role::Move(Motion::Goto) => asked(n, self.highest),
+        }
     }
-}
 
-// The track after a field.
-fn onward(t: Track, k: Role, n: Count) -> Track
-    requires { Safe k n t }
-    ensures { result ≡ onward t k n }
-{
-    let before = t.highest;
-    let at = position_after(t, k, n);
-    let top = highest(before, at);
-    Track {
-        at: at,
-        highest: top,
+    // The track after a field.
+    fn onward(self, k: Role, n: Count) -> Track
+        requires { Safe k n self }
+        ensures { result ≡ onward self k n }
+    {
+        let at = self.position_after(k, n);
+        Track {
+            at,
+            highest: highest(self.highest, at),
+        }
     }
 }
 
@@ -185,40 +148,25 @@ fn count_number(n: Count) -> u32
     }
 }
 
-// How many slots a role takes; and the number of the slot that a field takes, where `slot` slots are taken before it.
-fn taken(k: Role) -> usize
-    ensures { result ≡ to_nat (takes_slot k) }
-{
-    match k {
-        Role::Data(_s) => 1,
-        Role::Move(_m) => 0,
-    }
-}
-
+// The number of the slot that a field takes, where `slot` slots are taken before it.
 fn slot_number(k: Role, slot: usize) -> u32
     requires { slot ≤ max_layout }
     ensures { result ≡ slot_shown k slot }
 {
     match k {
-        Role::Data(_s) => slot as u32,
-        Role::Move(_m) => NONE,
+        Role::Data(_) => slot as u32,
+        Role::Move(_) => NONE,
     }
 }
 
-fn number(e: Extent) -> u32
-    requires { AtMost layout_reach e }
-    ensures { result ≡ number_shown e }
+fn number(n: Option<usize>) -> u32
+    requires { AtMost layout_reach n }
+    ensures { result ≡ number_shown n }
 {
-    match e {
-        Extent::Fixed(n) => n as u32,
-        Extent::Open => NONE,
+    match n {
+        Some(n) => n as u32,
+        None => NONE,
     }
-}
-
-fn bit(b: bool) -> u32
-    ensures { result ≡ to_nat b }
-{
-    if b { 1 } else { 0 }
 }
 
 // The row of the field f, whose type character stands at a place of the text.
@@ -227,21 +175,16 @@ fn row_at(text: &[u8], at: usize, f: Field, slot: usize, t: Track) -> Row
         × Safe f.role f.count t }
     ensures { result ≡ row_of slot t (placed_at text.now at f) }
 {
-    let k = f.role;
-    let n = f.count;
-    let begins = t.at;
     let tail = scanner::tail_at(text, at + 1);
-    let letter = text[at];
-    let bytes = filling(k, n);
     Row {
         place: at as u32,
         size: (tail.next - at) as u32,
-        letter: letter as u32,
-        flag: bit(f.unsigned),
-        count: count_number(n),
-        slot: slot_number(k, slot),
-        position: number(begins),
-        bytes: number(bytes),
+        letter: u32::from(text[at]),
+        flag: u32::from(f.unsigned),
+        count: count_number(f.count),
+        slot: slot_number(f.role, slot),
+        position: number(t.at),
+        bytes: number(filling(f.role, f.count)),
     }
 }
 
@@ -251,11 +194,8 @@ fn put_numbers(out: &mut [u8], at: usize, numbers: &[u32])
     requires { at + length numbers.now * number_size ≤ length out.old }
     ensures { out.new ≡ store_at out.old at (big_endian number_size numbers.now) }
 {
-    let mut j: usize = 0;
-    while j < numbers.len() {
-        let x = numbers[j];
-        big_endian::put_number(out, at + j * NUMBER_SIZE, NUMBER_SIZE, x as u64);
-        j += 1;
+    for (j, x) in numbers.iter().enumerate() {
+        big_endian::put_number(out, at + j * NUMBER_SIZE, NUMBER_SIZE, u64::from(*x));
     }
 }
 
@@ -270,30 +210,28 @@ fn put_row(out: &mut [u8], at: usize, r: Row)
 }
 
 // Writes the rows of a text's fields; the codes are the fields.
-fn put_rows(text: &[u8], codes: &[u32], n: usize, out: &mut [u8])
-    requires { Holds text.now n codes.now × (n * row_size ≤ length out.old) }
+fn put_rows(text: &[u8], codes: &[u32], out: &mut [u8])
+    requires { Holds text.now (length codes.now) codes.now × (length codes.now * row_size ≤ length out.old) }
     ensures { Written text.now out.old out.new }
 {
     let mut t = Track {
-        at: Extent::Fixed(0),
-        highest: Extent::Fixed(0),
+        at: Some(0),
+        highest: Some(0),
     };
     let mut slot: usize = 0;
     let mut i: usize = 0;
     let mut at: usize = 0;
+    // By index: a field takes any number of bytes, and a space takes none of the codes.
     while at < text.len() {
-        let c = text[at];
-        if c == b' ' {
+        if text[at] == b' ' {
             at += 1;
         } else {
             let f = layout::field_of(codes[i]);
-            let k = f.role;
-            let m = f.count;
             let r = row_at(text, at, f, slot, t);
             put_row(out, i * ROW_SIZE, r);
             at += r.size as usize;
-            slot += taken(k);
-            t = onward(t, k, m);
+            slot += usize::from(matches!(f.role, Role::Data(_)));
+            t = t.onward(f.role, f.count);
             i += 1;
         }
     }
@@ -311,16 +249,14 @@ pub fn fields(layout: &[u8], out: &mut [u8]) -> Answer
         return Answer::refused(Refusal::BadSize, 0);
     }
     let mut codes: [u32; layout::MAX_LAYOUT] = [0; layout::MAX_LAYOUT];
-    let p = parser::parse(layout, false, &mut codes);
-    match p {
-        Parsed::Refused(why, place) => Answer::refused(why, place as u32),
-        Parsed::Fields(n, _slots) => {
-            if out.len() / ROW_SIZE < n {
+    match parser::parse(layout, false, &mut codes) {
+        Err(e) => Answer::refused(e.why, e.place as u32),
+        Ok(f) => {
+            if out.len() / ROW_SIZE < f.count {
                 return Answer::refused(Refusal::NoRoom, 0);
             }
-            let count = n as u32;
-            put_rows(layout, &codes, n, out);
-            Answer::accepted(count, 0)
+            put_rows(layout, &codes[..f.count], out);
+            Answer::accepted(f.count as u32, 0)
         }
     }
 }

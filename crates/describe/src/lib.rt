@@ -3,13 +3,13 @@
 // proofs/Describes.antt.
 #![tactic(auto)]
 
-ghost use Rattle.std.specs.Prelude.{◌≡◌, ◌<◌};
+ghost use Rattle.std.specs.Prelude.{◌≡◌, ◌<◌, length};
 ghost use Rattle.layout.specs.inside.Parsing.{decoded, FitRole, FitCount};
 ghost use Rattle.pack_check.specs.inside.measuring.{advance};
 ghost use Rattle.describe.specs.Description.{described};
 ghost use Rattle.describe.specs.inside.Measure.{Holds, Least};
 
-use layout::{Count, Parsed, Refusal, Role, parser};
+use layout::{Count, Refusal, Role, parser};
 use pack_check::measuring;
 use record::{Answer, Cursor};
 use slot_table::sizes;
@@ -28,19 +28,15 @@ fn step(role: Role, n: Count, c: Cursor) -> Cursor
     }
 }
 
-// The length of the shortest record of the fields in the first n codes.
-fn least_length(codes: &[u32], n: usize) -> usize
-    requires { Holds n codes.now }
-    ensures { Least (decoded n codes.now) result }
+// The length of the shortest record of the fields in the codes.
+fn least_length(codes: &[u32]) -> usize
+    requires { Holds (length codes.now) codes.now }
+    ensures { Least (decoded (length codes.now) codes.now) result }
 {
     let mut c = Cursor::new(0);
-    let mut i: usize = 0;
-    while i < n {
-        let f = layout::field_of(codes[i]);
-        let role = f.role;
-        let count = f.count;
-        c = step(role, count, c);
-        i += 1;
+    for code in codes {
+        let f = layout::field_of(*code);
+        c = step(f.role, f.count, c);
     }
     c.end
 }
@@ -54,12 +50,11 @@ pub fn describe(layout: &[u8]) -> Answer
         return Answer::refused(Refusal::BadSize, 0);
     }
     let mut codes: [u32; layout::MAX_LAYOUT] = [0; layout::MAX_LAYOUT];
-    let p = parser::parse(layout, true, &mut codes);
-    match p {
-        Parsed::Refused(why, place) => Answer::refused(why, place as u32),
-        Parsed::Fields(n, needed) => {
-            let length = least_length(&codes, n);
-            Answer::accepted(needed as u32, length as u32)
+    match parser::parse(layout, true, &mut codes) {
+        Err(e) => Answer::refused(e.why, e.place as u32),
+        Ok(f) => {
+            let length = least_length(&codes[..f.count]);
+            Answer::accepted(f.slots as u32, length as u32)
         }
     }
 }

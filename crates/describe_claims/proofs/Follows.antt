@@ -1,5 +1,6 @@
 -- The track of a layout follows the cursor of every packing: what it fixes is where the cursor is, and how far it has
 -- been.
+use Rattle.std.specs.declared.option.Option.TheVariants.{Some, None}
 use Prim.Native.Nat.{ℕ, suc, ◌+◌, ◌-◌, ◌≤◌, max}
 use native.Mathlib.Omega.{arith}
 use mathlib.Core.Path.{◌≡◌, refl, sym, ap, ◌∙◌, subst}
@@ -30,31 +31,29 @@ use Rattle.runs.specs.Ends.{plain_role}
 use Rattle.pack_check.specs.inside.measuring.{advance}
 use Rattle.pack_check.proofs.arguments.ArgumentLaws.{Checked, checked-argument}
 use Rattle.pack_store.proofs.stores.StoreLaws.{length-shown, served}
-use Rattle.describe.specs.declared.fields.Extent.{Extent}
-use Rattle.describe.specs.declared.fields.Extent.TheVariants.{Fixed, Open}
 use Rattle.describe.specs.declared.fields.Track.{Track}
 use Rattle.describe.specs.Placed.{Placed, fields_in}
-use Rattle.describe.specs.Rows.{plus, highest, less, asked, filling, back, onward, none, number_shown, row_of, rows_from}
+use Rattle.describe.specs.Rows.{Extent, plus, highest, less, asked, filling, back, onward, none, number_shown, row_of, rows_from}
 use Rattle.describe_claims.specs.Claim.{Met, AllMet}
 
 -- a number that is fixed is this one
 abbrev pub Is : Extent → ℕ → Type 0
-Is (Fixed n) m = n ≡ m
-Is Open m = Unit {0}
+Is (Some n) m = n ≡ m
+Is None m = Unit {0}
 
 is-plus : (a b : Extent) (x y : ℕ) → Is a x → Is b y → Is (plus a b) (x + y)
-is-plus (Fixed a) (Fixed b) x y h k = omega arith
-is-plus (Fixed a) Open x y h k = tt
-is-plus Open b x y h k = tt
+is-plus (Some a) (Some b) x y h k = omega arith
+is-plus (Some a) None x y h k = tt
+is-plus None b x y h k = tt
 
 is-highest : (a b : Extent) (x y : ℕ) → Is a x → Is b y → Is (highest a b) (max x y)
-is-highest (Fixed a) (Fixed b) x y h k = omega arith
-is-highest (Fixed a) Open x y h k = tt
-is-highest Open b x y h k = tt
+is-highest (Some a) (Some b) x y h k = omega arith
+is-highest (Some a) None x y h k = tt
+is-highest None b x y h k = tt
 
 is-less : (a : Extent) (n x : ℕ) → Is a x → Is (less a n) (x - n)
-is-less (Fixed a) n x h = omega arith
-is-less Open n x h = tt
+is-less (Some a) n x h = omega arith
+is-less None n x h = tt
 
 is-back : (a : Extent) (n : Count) (x : ℕ) → Is a x → Is (back a n) (x - amount n x)
 is-back a Absent x h = is-less a 1 x h
@@ -75,7 +74,7 @@ is-filling : (k : Role) (n : Count) (have : ℕ) → T (plain_role k) → Is (fi
 is-filling (Data s) Absent have h = refl
 is-filling (Data s) Star have h = tt
 is-filling (Data s) (Times n) have h = refl
-is-filling (Move Skip) n have h = is-asked n Open 0 tt
+is-filling (Move Skip) n have h = is-asked n None 0 tt
 is-filling (Move Back) n have h = absurd h
 is-filling (Move Goto) n have h = absurd h
 
@@ -131,12 +130,12 @@ AllServe [] = Unit {0}
 AllServe (f ∷ fs) = Serves f × AllServe fs
 
 fixed-or : (a : Extent) (x : ℕ) → Is a x → (number_shown a ≡ none) ⊎ (number_shown a ≡ x)
-fixed-or (Fixed a) x h = inr h
-fixed-or Open x h = inl refl
+fixed-or (Some a) x h = inr h
+fixed-or None x h = inl refl
 
 fixed-sum : (a : Extent) (x y z : ℕ) → Is a x → y ≡ z + x → (number_shown a ≡ none) ⊎ (y ≡ z + number_shown a)
-fixed-sum (Fixed a) x y z h e = inr (omega arith)
-fixed-sum Open x y z h e = inl refl
+fixed-sum (Some a) x y z h e = inr (omega arith)
+fixed-sum None x y z h e = inl refl
 
 goes_by : (c : Cursor) (k : Role) (n : Count) (have : ℕ) → T (plain_role k)
     → (advance c k n have).at ≡ c.at + fills_of k n have

@@ -1,5 +1,6 @@
 -- Where no value is starred, the fields reach as far as the pass of the description does: each field takes the highest
 -- position to just where its row says.
+use Rattle.std.specs.declared.option.Option.TheVariants.{Some}
 use Rattle.std.specs.Prelude.{if◌then◌else◌}
 use Prim.Native.Nat.{ℕ, ◌+◌, ◌≤◌, max}
 use native.Mathlib.Omega.{arith}
@@ -26,7 +27,6 @@ use Rattle.describe.specs.inside.Measure.{passed}
 use Rattle.describe.proofs.Passing.{passed_length}
 use Rattle.describe.specs.Placed.{Placed, fields_in}
 use Rattle.describe.proofs.Counts.{AllKept}
-use Rattle.describe.specs.declared.fields.Extent.TheVariants.{Fixed}
 use Rattle.describe.specs.declared.fields.Track.{Track}
 use Rattle.describe.specs.Rows.{filling, onward, star, count_shown, number_shown, row_of, rows_from, rows_of}
 use Rattle.describe_claims.specs.Claim.{reach, furthest}
@@ -36,14 +36,14 @@ use Rattle.describe_claims.proofs.Letters.{is_goto, AllLetters}
 
 -- the track of a cursor that is fixed
 abbrev fixed_at : Cursor → Track
-fixed_at c = record { at = Fixed c.at; highest = Fixed c.end }
+fixed_at c = record { at = Some c.at; highest = Some c.end }
 
 -- a value without a star
 abbrev Unstarred : Role → Count → Type 0
 Unstarred (Data s) n = T (no_star n)
 Unstarred (Move m) n = Unit {0}
 
-same-track : {a b x y : ℕ} → a ≡ b → x ≡ y → ◌≡◌ {A = Track} (record { at = Fixed a; highest = Fixed x }) (record { at = Fixed b; highest = Fixed y })
+same-track : {a b x y : ℕ} → a ≡ b → x ≡ y → ◌≡◌ {A = Track} (record { at = Some a; highest = Some x }) (record { at = Some b; highest = Some y })
 same-track e f = cc
 
 fixed_on : (c : Cursor) (k : Role) (n : Count) → c.at ≤ c.end → Unstarred k n → has_meaning true k n ≡ true

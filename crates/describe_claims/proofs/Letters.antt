@@ -1,5 +1,7 @@
 -- What the letter of a field says of its type: whether it is `@`, and that an integer has 1 to 8 bytes. Every letter is
 -- below 128.
+use Rattle.std.specs.declared.option.Option.{Option}
+use Rattle.std.specs.declared.option.Option.TheVariants.{Some, None}
 use Rattle.std.specs.Prelude.{if◌then◌else◌}
 use Prim.Native.Nat.{ℕ, ◌+◌, ◌<◌}
 use native.Mathlib.Omega.{arith}
@@ -11,8 +13,6 @@ use borrow.Author.Tests.{eqb-true, ltb-true}
 use Rattle.layout.specs.declared.Role.{Role}
 use Rattle.layout.specs.declared.Role.TheVariants.{Data, Move}
 use Rattle.layout.specs.declared.Motion.TheVariants.{Skip, Back, Goto}
-use Rattle.layout.specs.declared.Typed.{Typed}
-use Rattle.layout.specs.declared.Typed.TheVariants.{Known, Unknown}
 use Rattle.layout.specs.Layout.{type_of}
 use Rattle.layout.specs.inside.Parsing.{FitRole}
 use Rattle.layout.proofs.Laws.{AllSound}
@@ -32,16 +32,16 @@ pub record Letter (c : ℕ) (k : Role) : Type 0 where
 
 -- ---- letter by letter
 
-abbrev Told : ℕ → Typed → Type 0
-Told c (Known k) = Letter c k
-Told c Unknown = Unit {0}
+abbrev Told : ℕ → Option Role → Type 0
+Told c (Some k) = Letter c k
+Told c None = Unit {0}
 
 module _ (c : ℕ) where
-  other : (n : ℕ) (k : Role) (rest : Typed) → ltb n 128 ≡ true → eqb n 64 ≡ is_goto k → FitRole k → Told c rest
-      → Told c (if eqb c n then Known k else rest)
+  other : (n : ℕ) (k : Role) (rest : Option Role) → ltb n 128 ≡ true → eqb n 64 ≡ is_goto k → FitRole k → Told c rest
+      → Told c (if eqb c n then Some k else rest)
   other n k rest l g f h = go (eqb c n) refl
     where
-      go : (t : Bool) → eqb c n ≡ t → Told c (if t then Known k else rest)
+      go : (t : Bool) → eqb c n ≡ t → Told c (if t then Some k else rest)
       go true e =
           let same : n ≡ c = sym (eqb-true c n e) in subst (λ (x : ℕ). Letter x k) same (record { goto = g; fit = f; small = ltb-true n 128 l })
       go false e = h
@@ -70,11 +70,11 @@ module _ (c : ℕ) where
       (other 88 _ _ refl refl tt
       (last (eqb c 64) refl)))))))))))))))))))
     where
-      last : (t : Bool) → eqb c 64 ≡ t → Told c (if t then Known (Move Goto) else Unknown)
+      last : (t : Bool) → eqb c 64 ≡ t → Told c (if t then Some (Move Goto) else None)
       last true e = record { goto = e; fit = tt; small = let same : c ≡ 64 = eqb-true c 64 e in omega arith }
       last false e = tt
 
-  letter-told : (k : Role) → type_of c ≡ Known k → Letter c k
+  letter-told : (k : Role) → type_of c ≡ Some k → Letter c k
   letter-told k e = rw e at letter
 
 -- ---- all fields

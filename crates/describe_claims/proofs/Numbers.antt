@@ -1,4 +1,5 @@
 -- Every number of a row fits four bytes, so that the bytes say just these numbers.
+use Rattle.std.specs.declared.option.Option.TheVariants.{Some, None}
 use Prim.Native.Nat.{ℕ, ◌+◌, ◌*◌, ◌^◌, ◌≤◌, ◌<◌}
 use native.Mathlib.Omega.{arith}
 use mathlib.Core.Path.{◌≡◌, refl, sym, ap, ◌∙◌}
@@ -19,11 +20,9 @@ use Rattle.record.proofs.Stores.{add-run}
 use Rattle.describe.specs.Placed.{Placed, fields_in}
 use Rattle.describe.specs.Places.{MadeOf}
 use Rattle.describe.proofs.Counts.{AllKept}
-use Rattle.describe.specs.declared.fields.Extent.{Extent}
-use Rattle.describe.specs.declared.fields.Extent.TheVariants.{Fixed, Open}
 use Rattle.describe.specs.declared.fields.Track.{Track}
 use Rattle.describe.specs.declared.fields.Row.{Row}
-use Rattle.describe.specs.Rows.{filling, onward, track_start, count_shown, slot_shown, number_shown, row_of, rows_from, rows_of, number_size, row_numbers, row_bytes}
+use Rattle.describe.specs.Rows.{Extent, filling, onward, track_start, count_shown, slot_shown, number_shown, row_of, rows_from, rows_of, number_size, row_numbers, row_bytes}
 use Rattle.describe.specs.inside.Walk.{AtMost, field_reach, layout_reach}
 use Rattle.describe.proofs.fields.Moves.{most-more, filling-most, Near, onward_near}
 use Rattle.describe_claims.proofs.Letters.{AllLetters}
@@ -43,8 +42,8 @@ slot-fits (Data s) k h = omega arith
 slot-fits (Move m) k h = omega arith
 
 number_fits : (e : Extent) → AtMost layout_reach e → Fits (number_shown e)
-number_fits (Fixed n) h = omega arith
-number_fits Open h = omega arith
+number_fits (Some n) h = omega arith
+number_fits None h = omega arith
 
 eight : {a b c d e f g h : ℕ} → Fits a → Fits b → Fits c → Fits d → Fits e → Fits f → Fits g → Fits h
     → All Fits (a ∷ b ∷ c ∷ d ∷ e ∷ f ∷ g ∷ h ∷ [])

@@ -1,5 +1,6 @@
 -- A position is open just where starred values decide it: with all of them empty the run stays within the reach of the
 -- other fields, and with many items in each it is far beyond that wherever the track is open.
+use Rattle.std.specs.declared.option.Option.TheVariants.{Some, None}
 use Prim.Native.Nat.{ℕ, ◌+◌, ◌-◌, ◌*◌, ◌≤◌, max}
 use native.Mathlib.Nat.{mul-le-mul}
 use native.Mathlib.Omega.{arith}
@@ -30,10 +31,8 @@ use Rattle.describe.specs.Description.{fewest, field_reach, layout_reach}
 use Rattle.describe.proofs.Passing.{served-fewest, advance-near}
 use Rattle.describe.specs.Placed.{Placed, fields_in}
 use Rattle.describe.proofs.Counts.{Kept, AllKept}
-use Rattle.describe.specs.declared.fields.Extent.{Extent}
-use Rattle.describe.specs.declared.fields.Extent.TheVariants.{Fixed, Open}
 use Rattle.describe.specs.declared.fields.Track.{Track}
-use Rattle.describe.specs.Rows.{plus, highest, less, filling, position_after, onward, track_start, none, number_shown, rows_from, rows_of}
+use Rattle.describe.specs.Rows.{Extent, plus, highest, less, filling, position_after, onward, track_start, none, number_shown, rows_from, rows_of}
 use Rattle.describe_claims.specs.Claim.{◌⇔◌, having, Decided, many_items}
 use Rattle.describe_claims.proofs.Follows.{Is, Follows, follows_on, ServedBy, packs-on}
 
@@ -67,22 +66,22 @@ far = 2 * layout_reach + 1
 
 -- a number that is open is far, but for `off` bytes that the fields before may have taken off
 abbrev Far : ℕ → Extent → ℕ → Type 0
-Far off (Fixed n) x = Unit {0}
-Far off Open x = far ≤ x + off
+Far off (Some n) x = Unit {0}
+Far off None x = far ≤ x + off
 
 far-more : (off more : ℕ) (a : Extent) (x y : ℕ) → x + off ≤ y + more → Far off a x → Far more a y
-far-more off more (Fixed n) x y l h = tt
-far-more off more Open x y l h = omega arith
+far-more off more (Some n) x y l h = tt
+far-more off more None x y l h = omega arith
 
 far-plus : (off : ℕ) (a b : Extent) (x y : ℕ) → Far off a x → Far off b y → Far off (plus a b) (x + y)
-far-plus off (Fixed a) (Fixed b) x y h k = tt
-far-plus off (Fixed a) Open x y h k = omega arith
-far-plus off Open b x y h k = omega arith
+far-plus off (Some a) (Some b) x y h k = tt
+far-plus off (Some a) None x y h k = omega arith
+far-plus off None b x y h k = omega arith
 
 far-highest : (off : ℕ) (a b : Extent) (x y : ℕ) → Far off a x → Far off b y → Far off (highest a b) (max x y)
-far-highest off (Fixed a) (Fixed b) x y h k = tt
-far-highest off (Fixed a) Open x y h k = omega arith
-far-highest off Open b x y h k = omega arith
+far-highest off (Some a) (Some b) x y h k = tt
+far-highest off (Some a) None x y h k = omega arith
+far-highest off None b x y h k = omega arith
 
 -- `many` items fill far more bytes
 far-items : (s : Shape) (many : ℕ) → FitRole (Data s) → many_items ≤ many → far ≤ bytes_for s many
@@ -100,8 +99,8 @@ far-filling off s Star many f h = omega (arith, far-items s many f h)
 far-filling off s (Times n) many f h = tt
 
 far-less : (off n : ℕ) (a : Extent) (x : ℕ) → n ≤ field_reach → Far off a x → Far (off + field_reach) (less a n) (x - n)
-far-less off n (Fixed a) x l h = tt
-far-less off n Open x l h = omega arith
+far-less off n (Some a) x l h = tt
+far-less off n None x l h = omega arith
 
 -- ---- one field
 
@@ -119,9 +118,9 @@ module _ (off : ℕ) (t : Track) (c : Cursor) (h : FarOff off t c) (many : ℕ) 
       → Far more (position_after t k n) (advance c k n many).at
   behind-far (Data s) n f l m =
       far-plus more t.at (filling (Data s) n) c.at (bytes_for s (amount n many)) at_more (far-filling more s n many f enough)
-  behind-far (Move Skip) Absent f l m = far-plus more t.at (Fixed 1) c.at 1 at_more tt
+  behind-far (Move Skip) Absent f l m = far-plus more t.at (Some 1) c.at 1 at_more tt
   behind-far (Move Skip) Star f l m = absurd (true≢false (sym m))
-  behind-far (Move Skip) (Times n) f l m = far-plus more t.at (Fixed n) c.at n at_more tt
+  behind-far (Move Skip) (Times n) f l m = far-plus more t.at (Some n) c.at n at_more tt
   behind-far (Move Back) Absent f l m = far-less off 1 t.at c.at (omega arith) h.0
   behind-far (Move Back) Star f l m = tt
   behind-far (Move Back) (Times n) f l m = far-less off n t.at c.at (omega (arith, leb-true n max_count l)) h.0
@@ -159,8 +158,8 @@ record Apart (i : ℕ) (t : Track) (r q : Run) : Type 0 where
 
 told : (a : Extent) (i x y : ℕ) → i ≤ max_layout → x ≤ i * field_reach → Is a x → Is a y → Far (i * field_reach) a y
     → (number_shown a ≡ none) ⇔ (x ≡ y → ⊥)
-told (Fixed a) i x y few low h k f = (λ e. absurd (omega arith), λ z. absurd (z (sym h ∙ k)))
-told Open i x y few low h k f = (λ e z. omega arith, λ z. refl)
+told (Some a) i x y few low h k f = (λ e. absurd (omega arith), λ z. absurd (z (sym h ∙ k)))
+told None i x y few low h k f = (λ e z. omega arith, λ z. refl)
 
 module _ (many : ℕ) (enough : many_items ≤ many) where
   apart_next : (i : ℕ) (t : Track) (r q : Run) → Apart i t r q → (f : Field) → FitRole f.role → Kept true f

@@ -1,6 +1,7 @@
 -- The slots are counted field by field; and in a plain layout, where the cursor only goes forward by what each field
 -- fills, the positions are the ends of the fields before. A reading begins its fields there as long as the record has
 -- bytes for them.
+use Rattle.std.specs.declared.option.Option.TheVariants.{Some}
 use Prim.Native.Nat.{ℕ, zero, suc, ◌+◌, ◌-◌, ◌≤◌, ◌<◌, min}
 use native.Mathlib.Nat.{add-zero}
 use native.Mathlib.Numerals.{add-one}
@@ -28,10 +29,8 @@ use Rattle.runs.specs.OneRun.{run}
 use Rattle.runs.proofs.Calls.{T→true}
 use Rattle.evolution.specs.Claim.{plain, starts_from}
 use Rattle.describe.specs.Placed.{Placed, fields_in}
-use Rattle.describe.specs.declared.fields.Extent.{Extent}
-use Rattle.describe.specs.declared.fields.Extent.TheVariants.{Fixed}
 use Rattle.describe.specs.declared.fields.Track.{Track}
-use Rattle.describe.specs.Rows.{none, filling, onward, track_start, rows_from, rows_of}
+use Rattle.describe.specs.Rows.{Extent, none, filling, onward, track_start, rows_from, rows_of}
 use Rattle.describe_claims.specs.Claim.{takers, slots_shown, positions, count_up}
 
 -- ---- slots
@@ -68,8 +67,8 @@ rows_taken ps few =
 -- how far it goes, in packing and in reading
 abbrev Plain : Role → Count → Type 0
 Plain (Data s) n =
-    (filling (Data s) n ≡ Fixed (fills (Data s) n)) × (0 < amount n 0) × ((all : ℕ) → amount n all ≡ amount n 0)
-Plain (Move Skip) n = (filling (Move Skip) n ≡ Fixed (fills (Move Skip) n)) × ((all : ℕ) → amount n all ≡ amount n 0)
+    (filling (Data s) n ≡ Some (fills (Data s) n)) × (0 < amount n 0) × ((all : ℕ) → amount n all ≡ amount n 0)
+Plain (Move Skip) n = (filling (Move Skip) n ≡ Some (fills (Move Skip) n)) × ((all : ℕ) → amount n all ≡ amount n 0)
 Plain (Move Back) n = ⊥
 Plain (Move Goto) n = ⊥
 
@@ -100,7 +99,7 @@ all_plain (f ∷ fs) h =
 
 abbrev Begin : List Placed → Type 0
 Begin ps =
-    (k a : ℕ) (h : Extent) → k + length ps ≤ max_layout → AllPlain (fields_in ps) → positions (rows_from k (record { at = Fixed a; highest = h }) ps) ≡ starts_from a (fields_in ps)
+    (k a : ℕ) (h : Extent) → k + length ps ≤ max_layout → AllPlain (fields_in ps) → positions (rows_from k (record { at = Some a; highest = h }) ps) ≡ starts_from a (fields_in ps)
 
 begin-step : (ps : List Placed) → Begin ps → (c : Role) (u : Bool) (n : Count) (place letter size : ℕ)
     → Begin (record { what = record { role = c; unsigned = u; count = n }; place = place; letter = letter; size = size } ∷ ps)
@@ -121,7 +120,7 @@ begin (p ∷ ps) k a h few l =
 pub rows-begin : (ps : List Placed) → length ps ≤ max_layout → T (plain (fields_in ps))
     → positions (rows_of ps) ≡ starts_from 0 (fields_in ps)
 unfolding rows_of
-rows-begin ps few h = begin ps 0 0 (Fixed 0) (omega arith) (all_plain (fields_in ps) h)
+rows-begin ps few h = begin ps 0 0 (Some 0) (omega arith) (all_plain (fields_in ps) h)
 
 -- ---- a reading of a record that is long enough
 

@@ -1,20 +1,19 @@
 -- Laws of binary and hex digits.
 use Prim.Native.Nat.{ℕ, zero, suc, ◌+◌, ◌-◌, ◌*◌, ◌%◌, ◌/◌, ◌≤◌, ◌<◌, min}
-use native.Mathlib.Nat.{not-suc-le-zero, le_of_suc-le-suc, add_assoc}
-use native.Mathlib.Numerals.{add-one}
+use native.Mathlib.Nat.{not-suc-le-zero, le_of_suc-le-suc}
 use native.Mathlib.Omega.{arith}
-use mathlib.Core.Path.{◌≡◌, refl, sym, ◌∙◌}
+use mathlib.Core.Path.{◌≡◌, refl, sym, ◌∙◌, ap}
 use mathlib.Core.Bool.{Bool, true, false, ◌&&◌, ◌||◌, and-true, and_assoc}
 use mathlib.Core.List.{List, [], ◌∷◌, map, map-append, reverse, reverse-cons}
 use lib.ListN.{length, take, drop, get_or, length-drop, length-take}
 use lib.Seq.{get_or-drop, get_or-take, take-take, take_all}
-use Rattle.record.specs.Bytes.{part, ceil_div, ordered}
-use Rattle.record.proofs.Stores.{get_d_reverse, length_part}
-use Rattle.digits.specs.inside.Numerals.{place_of, DigitsAt}
-use lib.Dec.{leb, ltb}
-use borrow.Author.Tests.{lt-ltb, le-ltb, le-leb, lt-leb, leb-false, ltb-true}
-use Rattle.layout.specs.Layout.{is_decimal}
-use Rattle.record.specs.Geometry.{base, per_byte}
+use Rattle.record.specs.Bytes.{part, ordered}
+use Rattle.record.proofs.Stores.{get_d_reverse}
+use Rattle.std.specs.Char.{is_ascii_hexdigit}
+use Rattle.digits.specs.inside.Numerals.{place_of, AreDigits}
+use lib.Dec.{leb, ltb, eqb}
+use borrow.Author.Tests.{eq-eqb, ne_eqb, lt-ltb, le-ltb, le-leb, lt-leb, leb-false, ltb-true}
+use Rattle.record.specs.Geometry.{base}
 use Rattle.record.specs.Packing.{digit_value, all_digits}
 use Rattle.record.proofs.Fields.{split}
 
@@ -34,27 +33,29 @@ module _ (P : ℕ → Type 0) (c : ℕ) where
   digit-cases p q r s =
       within 48 c 57 (λ h k e. rw e (p h k)) (λ e. within 65 c 70 (λ h k e2. rw (e, e2) (q h k)) (λ e2. within 97 c 102 (λ h k e3. rw (e, e2, e3) (r h k)) (λ e3. rw (e, e2, e3) s)))
 
--- the tests by which the code finds the digits of either base
-abbrev pub is_hex : ℕ → Bool
-is_hex c = is_decimal c || (leb 65 c && leb c 70) || (leb 97 c && leb c 102)
-
 decimal-value : (c : ℕ) → 48 ≤ c → c ≤ 57 → digit_value c ≡ c - 48
 unfolding digit_value
 decimal-value c h k = rw (le-leb 48 c h, le-leb c 57 k)
 
-pub hex-digit : (c : ℕ) → ltb (digit_value c) 16 ≡ is_hex c
+pub hex-digit : (c : ℕ) → ltb (digit_value c) 16 ≡ is_ascii_hexdigit c
 unfolding digit_value
 hex-digit c =
     within 48 c 57 (λ h k e. rw (e, lt-ltb (c - 48) 16 (omega arith)))
     (λ e. within 65 c 70 (λ h k e2. rw (e, e2, lt-ltb (c - 55) 16 (omega arith)))
     (λ e2. within 97 c 102 (λ h k e3. rw (e, e2, e3, lt-ltb (c - 87) 16 (omega arith))) (λ e3. rw (e, e2, e3))))
 
-pub binary-digit : (c : ℕ) → ltb (digit_value c) 2 ≡ (leb 48 c && leb c 49)
+pub binary-digit : (c : ℕ) → (eqb c 48 || eqb c 49) ≡ ltb (digit_value c) 2
 binary-digit c =
     within 48 c 49
-    (λ h k e. let v : digit_value c ≡ c - 48 = decimal-value c h (omega arith) in rw (e, v) (lt-ltb (c - 48) 2 (omega arith)))
-    (λ e. rw e (le-ltb (digit_value c) 2
-    (digit-cases (λ v. 2 ≤ v) c (λ h k. let past : leb c 49 ≡ false = rw (le-leb 48 c h) at e in omega (arith, leb-false c 49 past)) (λ h k. omega arith) (λ h k. omega arith) (omega arith))))
+    (λ h k e. rw (decimal-value c h (omega arith), lt-ltb (c - 48) 2 (omega arith))
+    (split 49 c (λ l. rw (ne_eqb c 48 (λ q. omega arith), eq-eqb c 49 (omega arith))) (λ l. rw (eq-eqb c 48 (omega arith)))))
+    (λ e. let out : 48 ≤ c → c ≤ 49 → ⊥ = λ h k. let past : leb c 49 ≡ false = rw (le-leb 48 c h) at e in omega (arith, leb-false c 49 past) in
+    rw (
+      ne_eqb c 48 (λ q. out (omega arith) (omega arith)),
+      ne_eqb c 49 (λ q. out (omega arith) (omega arith)),
+      le-ltb (digit_value c) 2
+          (digit-cases (λ v. 2 ≤ v) c (λ h k. split c 49 (λ l. absurd (out h l)) (λ l. omega arith)) (λ h k. omega arith) (λ h k. omega arith) (omega arith)),
+    ))
 
 -- the low bits of a digit's character, and 9 more for a letter
 pub hex-value : (c : ℕ) → digit_value c < 16 → c % 16 + 9 * (c / 64) ≡ digit_value c
@@ -72,16 +73,11 @@ all_more hex [] i h = absurd (not-suc-le-zero h)
 all_more hex (c ∷ cs) zero h = and-true (ltb (digit_value c) (base hex))
 all_more hex (c ∷ cs) (suc i) h = rw (all_more hex cs i (le_of_suc-le-suc h), and_assoc)
 
-pub all-next : (hex : Bool) (area : List ℕ) (start n i : ℕ) → start + n ≤ length area → i < n
-    → all_digits hex (part area start (i + 1)) ≡ (all_digits hex (part area start i) && ltb (digit_value (get_or area (start + i) 0)) (base hex))
-all-next hex area start n i h k =
-    rw (add-one, ← get_or-drop start area i 0) (all_more hex (drop start area) i (simp length-drop (omega arith)))
-
 and_both : (a b : Bool) → (a && b) ≡ true → (a ≡ true) × (b ≡ true)
 and_both true b h = (refl, h)
 and_both false b h = absurd (let z : ◌≡◌ {A = ℕ} 0 1 = cc in omega arith)
 
-pub all-at : (hex : Bool) (cs : List ℕ) → all_digits hex cs ≡ true → (i : ℕ) → i < length cs → digit_value (get_or cs i 0) < base hex
+pub all-at : (hex : Bool) (cs : List ℕ) → all_digits hex cs ≡ true → AreDigits hex cs
 unfolding all_digits
 all-at hex [] e i h = absurd (not-suc-le-zero h)
 all-at hex (c ∷ cs) e zero h = ltb-true (digit_value c) (base hex) (and_both (ltb (digit_value c) (base hex)) (all_digits hex cs) e).0
@@ -92,27 +88,21 @@ take_min n m l =
     split n m (λ h. let e : min n m ≡ n = omega arith in rw e (take-take n m l h))
     (λ h. let e : min n m ≡ m = omega arith in rw e (take_all n (take m l) (simp length-take (omega arith))))
 
--- what the check of n digits says of each
-pub digits-at : (hex : Bool) (area : List ℕ) (start len n : ℕ) → start + len ≤ length area → all_digits hex (take n (part area start len)) ≡ true → DigitsAt hex area start (min n len)
-digits-at hex area start len n fits e i h =
-    let cs : List ℕ = part area start (min n len) in
-    let is : get_or cs i 0 ≡ get_or area (start + i) 0 = get_or-take (min n len) (drop start area) i 0 h ∙ get_or-drop start area i 0 in
-    rw is at (all-at hex cs (rw take_min at e) i (omega (arith, length_part (min n len) start area (omega arith))))
+-- those of n digits that are there
+pub take-there : (n : ℕ) (cs : List ℕ) → take (min n (length cs)) cs ≡ take n cs
+take-there n cs = sym (take_min n (length cs) cs) ∙ ap (take n) (take_all (length cs) cs (omega arith))
+
+-- what the check of n digits says of them
+pub checked : (hex : Bool) (n : ℕ) (cs : List ℕ) → all_digits hex (take n cs) ≡ true → AreDigits hex (take (min n (length cs)) cs)
+checked hex n cs e = rw (take-there n cs) (all-at hex (take n cs) e)
+
+-- a part of digits
+pub part-digits : (hex : Bool) (cs : List ℕ) (j count : ℕ) → AreDigits hex cs → AreDigits hex (part cs j count)
+part-digits hex cs j count d i h =
+    let inside : i < min count (length cs - j) = rw (length-take, length-drop) at h in
+    rw (get_or-take count (drop j cs) i 0 (omega arith), get_or-drop j cs i 0) (d (j + i) (omega arith))
 
 -- ---- the digits of a byte
-
--- the turns of a loop over n digits that takes a byte a turn
-pub more_bytes : (hex : Bool) (n k : ℕ) → k * per_byte hex < n → k < ceil_div n (per_byte hex)
-more_bytes true n k h = omega arith
-more_bytes false n k h = omega arith
-
-pub per-byte : (hex : Bool) → (0 < per_byte hex) × (per_byte hex ≤ 8)
-per-byte true = omega arith
-per-byte false = omega arith
-
-pub base-pos : (hex : Bool) → 0 < base hex
-base-pos true = omega arith
-base-pos false = omega arith
 
 pub place-lt : (high : Bool) (n j : ℕ) → j < n → place_of high n j < n
 place-lt true n j h = omega arith
@@ -130,6 +120,3 @@ map_at f (x ∷ xs) (suc j) h = map_at f xs j (le_of_suc-le-suc h)
 pub map_turned : (f : ℕ → ℕ) (xs : List ℕ) → map f (reverse xs) ≡ reverse (map f xs)
 map_turned f [] = refl
 map_turned f (x ∷ xs) = rw (reverse-cons x xs, map-append, map_turned f xs) (sym (reverse-cons (f x) (map f xs)))
-
-pub digits-part : (hex : Bool) (area : List ℕ) (start have j count : ℕ) → DigitsAt hex area start have → j + count ≤ have → DigitsAt hex area (start + j) count
-digits-part hex area start have j count d h i k = rw (add_assoc start j i) (d (j + i) (omega arith))

@@ -1,11 +1,12 @@
 // Binary and hex digits, `b B h H`: which characters are digits, and where a digit stands in its byte.
 #![tactic(auto)]
 
-ghost use Rattle.std.specs.Prelude.{◌≡◌, ◌&&◌, ◌+◌, ◌≤◌, ◌<◌, leb, ltb, length};
-ghost use Rattle.record.specs.Bytes.{part};
-ghost use Rattle.record.specs.Geometry.{base};
+ghost use Rattle.std.specs.Prelude.{◌≡◌, ◌<◌, ltb};
+ghost use Rattle.record.specs.Geometry.{base, per_byte};
 ghost use Rattle.record.specs.Packing.{digit_value, all_digits};
 ghost use Rattle.digits.specs.inside.Numerals.{place_of};
+
+use slot_table::sizes;
 
 // The byte that digits make.
 mod bytes;
@@ -19,60 +20,52 @@ pub mod load;
 // The most binary digits that are left after whole bytes: the budget has as many steps for them.
 pub const SPARE: usize = 7;
 
-fn both(a: bool, b: bool) -> bool
-    ensures { result ≡ (a && b) }
-{
-    if a { b } else { false }
+// The digits of a field: whether they are hex or binary, and whether a byte's first digit is its highest or its lowest.
+#[derive(Clone, Copy)]
+struct Numeral {
+    hex: bool,
+    high: bool,
 }
 
-fn between(a: u8, c: u8, b: u8) -> bool
-    ensures { result ≡ (leb a c && leb c b) }
-{
-    both(a <= c, c <= b)
-}
+impl Numeral {
+    // How many digits fill a byte.
+    fn per_byte(self) -> usize
+        ensures { result ≡ per_byte self.hex }
+    {
+        sizes::per_byte(self.hex)
+    }
 
-fn is_hex(c: u8) -> bool
-    ensures { result ≡ ltb (digit_value c) 16 }
-{
-    if between(b'0', c, b'9') {
-        return true;
+    // Where the digit number j of a byte stands, from the lowest.
+    fn place(self, j: usize) -> usize
+        requires { j < per_byte self.hex }
+        ensures value { result ≡ place_of self.high (per_byte self.hex) j }
+        ensures inside { result < per_byte self.hex }
+    {
+        if self.high {
+            self.per_byte() - 1 - j
+        } else {
+            j
+        }
     }
-    if between(b'A', c, b'F') {
-        return true;
-    }
-    between(b'a', c, b'f')
 }
 
 fn is_digit(c: u8, hex: bool) -> bool
     ensures { result ≡ ltb (digit_value c) (base hex) }
 {
     if hex {
-        is_hex(c)
+        c.is_ascii_hexdigit()
     } else {
-        between(b'0', c, b'1')
+        c == b'0' || c == b'1'
     }
 }
 
-// Whether each of n bytes is a digit. The loop looks at all of them: without an exit it is done many bytes at a time.
-pub fn all_digits(area: &[u8], start: usize, n: usize, hex: bool) -> bool
-    requires { start + n ≤ length area.now }
-    ensures { result ≡ all_digits hex (part area.now start n) }
+// Whether all of these are digits. The loop looks at each: without an exit it is done many bytes at a time.
+pub fn all_digits(chars: &[u8], hex: bool) -> bool
+    ensures { result ≡ all_digits hex chars.now }
 {
     let mut good = true;
-    let mut i = 0;
-    while i < n {
-        good = both(good, is_digit(area[start + i], hex));
-        i += 1;
+    for &c in chars {
+        good &= is_digit(c, hex);
     }
     good
-}
-
-// ---- a digit's place in a byte
-
-// Where the digit number j of n, from the lowest, stands.
-pub fn place(high: bool, n: usize, j: usize) -> usize
-    requires { j < n }
-    ensures { (result ≡ place_of high n j) × (result < n) }
-{
-    if high { n - 1 - j } else { j }
 }

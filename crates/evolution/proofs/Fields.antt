@@ -19,7 +19,8 @@ use Rattle.record.specs.Geometry.{base, per_byte}
 use Rattle.record.specs.Reading.{loaded, widened, doubles, digit_char}
 use Rattle.evolution.specs.Claim.{read_back, lowered}
 use Rattle.record.proofs.Fields.{Served, split, item, length-item, number-item, length-patterns}
-use Rattle.pack_store.proofs.stores.StoreLaws.{take-map, take-patterns}
+use Rattle.std.proofs.lemmas.List.{take-map}
+use Rattle.pack_store.proofs.stores.StoreLaws.{take-patterns}
 use Rattle.record.proofs.Bytes.{length-fit, ordered-ordered, length-ordered, digits_number, pieces-join, join-pieces, both, All, all_take, all_drop, all_append, all_replicate, all-ordered}
 
 -- ---- integers

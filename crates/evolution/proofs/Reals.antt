@@ -9,14 +9,14 @@ use mathlib.Core.List.{List, [], ◌∷◌, map}
 use borrow.Author.Tests.{le-ltb}
 use lib.ListN.{length, take, length-map}
 use lib.Seq.{take_all, length-take-le}
-use Rattle.real.specs.Patterns.{single_body, single_infinity, is_na_n}
+use Rattle.real.specs.Patterns.{single_body, single_infinity, is_nan}
 use Rattle.real.specs.Narrowing.{single_of}
 use Rattle.real.specs.Widening.{double_of}
 use Rattle.real.proofs.NarrowLaws.{single-below, single-finite}
 use Rattle.real.proofs.WidenLaws.{double-nan, single-again}
-use Rattle.record.specs.Packing.{stored, low_bytes, no_na_n, reals_fit}
+use Rattle.record.specs.Packing.{stored, low_bytes, no_nan, reals_fit}
 use Rattle.record.proofs.Bytes.{All, all_take, all-below}
-use Rattle.pack_store.proofs.stores.StoreLaws.{take-map}
+use Rattle.std.proofs.lemmas.List.{take-map}
 use Rattle.evolution.specs.Claim.{read_back}
 use Rattle.evolution.specs.Again.{came_back, PacksAgain, RealsAgain}
 
@@ -38,11 +38,11 @@ doubles-fit (x ∷ xs) h = ap₂ (λ (y : ℕ) (ys : List ℕ). y ∷ ys) (mod-e
 once : List ℕ → List ℕ
 once xs = map double_of (map single_of xs)
 
-not-nan : (d : ℕ) → is_na_n (double_of (single_of d)) ≡ false
+not-nan : (d : ℕ) → is_nan (double_of (single_of d)) ≡ false
 not-nan d = double-nan (single_of d) ∙ le-ltb single_infinity (single_body (single_of d)) (le_of_lt (single-finite d))
 
-no-nans : (xs : List ℕ) → no_na_n (once xs) ≡ true
-unfolding no_na_n once
+no-nans : (xs : List ℕ) → no_nan (once xs) ≡ true
+unfolding no_nan once
 no-nans [] = refl
 no-nans (x ∷ xs) = rw (not-nan x, no-nans xs)
 
@@ -84,7 +84,7 @@ module _ (big u : Bool) (n : ℕ) (xs : List ℕ) (enough : n ≤ length xs) (fi
   singles-again =
       record {
         values = came-singles;
-        served = rw came-singles (ap no_na_n all ∙ no-nans first);
+        served = rw came-singles (ap no_nan all ∙ no-nans first);
         same = rw came-singles
             (first-stored 4 big n (map single_of (once first)) (map single_of xs) (ap (take n) (twice first)
             ∙ take_all n (map single_of first) (omega (arith, length-map first single_of, length-first))

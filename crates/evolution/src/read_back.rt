@@ -1,4 +1,4 @@
-// What one layout packs, cut anywhere, read by another: the calls of which demand 3 speaks.
+// What one layout packs, cut anywhere, read by another: the calls of which the claim speaks.
 // The claim is in specs/Claim.antt, its proof in proofs/; `read_back` keeps it.
 ghost use Rattle.evolution.specs.Calls.{ReadsBackAs};
 
@@ -32,13 +32,12 @@ pub fn read_back(
         (record { answer = result; output = out.new; table = table.new; values = values.new }) }
 {
     let a = packer::pack(written_by, slots, area, out);
-    let number = a.number;
-    if number != 0 {
+    if a.number != 0 {
         return ReadAnswer {
             answer: a,
             steps: 0,
         };
     }
-    let k = record::least(cut, a.first as usize);
+    let k = cut.min(a.first as usize);
     reader::read(read_by, &out[..k], table, values, mark)
 }

@@ -2,21 +2,20 @@
 use Rattle.std.specs.Prelude.{if◌then◌else◌}
 use Prim.Native.Nat.{ℕ, ◌*◌, ◌/◌, ◌%◌, ◌≤◌, ◌<◌}
 use native.Mathlib.Omega.{arith}
-use mathlib.Core.Path.{◌≡◌, refl, sym, ◌∙◌}
+use mathlib.Core.Path.{◌≡◌, refl}
 use mathlib.Core.Bool.{Bool, true, false, ◌&&◌}
 use mathlib.Core.List.{List}
 use borrow.Author.Tests.{le-leb, leb-true, eq-eqb, eqb-true}
 use lib.Dec.{eqb, leb}
 use lib.ListN.{length, take}
 use lib.Seq.{length-take-le}
-use Rattle.layout.specs.inside.Parsing.{short_layout}
 use Rattle.record.proofs.Bytes.{and-true}
 use Rattle.record.specs.Table.{max_slots, slot_width}
 use Rattle.record.proofs.Fields.{split}
 use Rattle.host.specs.Numbers.{number_size, numbers_in}
 use Rattle.host.proofs.numbers.NumberLaws.{length-numbers_in}
 use Rattle.host.specs.Host.{slot_size, guarded}
-use Rattle.host.specs.inside.Small.{slot_bytes_fit, few_numbers, is_small}
+use Rattle.host.specs.inside.Small.{slot_bytes_fit}
 
 -- ---- the sizes of the runs
 
@@ -50,14 +49,6 @@ too_many size bad whole =
     let z : ◌≡◌ {A = ℕ} 0 1 = cc in
     absurd (omega arith))
     (λ over. omega (arith, eqb-true (size % slot_size) 0 whole))
-
--- ---- small calls
-
--- the test for the small arrays lets through no more numbers than they hold
-pub few : {b : Bool} (layout : ℕ) {numbers : ℕ} → b ≡ is_small layout numbers → b ≡ true → numbers ≤ few_numbers
-unfolding is_small
-few {b} layout {numbers} e h =
-    leb-true numbers few_numbers (and-true (leb layout short_layout) (leb numbers few_numbers) (sym e ∙ h)).1
 
 -- ---- what the calls share
 

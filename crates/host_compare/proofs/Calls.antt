@@ -15,7 +15,7 @@ use Rattle.layout.specs.declared.Refusal.TheVariants.{BadSize}
 use Rattle.layout.specs.Refusals.{number_of, Result, ok, refused, ◌>>=◌, demand}
 use Rattle.layout.proofs.Laws.{no-number-zero}
 use Rattle.record.specs.declared.Answer.{Answer}
-use Rattle.record.specs.Bytes.{part, store_at}
+use Rattle.record.specs.Bytes.{store_at}
 use Rattle.record.specs.Table.{max_slots, slot_width, Value}
 use Rattle.record.specs.Packing.{refusal}
 use Rattle.record.specs.Reading.{reads}
@@ -32,7 +32,7 @@ use Rattle.host.proofs.numbers.NumberLaws.{length-numbers_in, length-bytes_of, b
 use Rattle.host.specs.Host.{slot_size, reply_size, reply_of}
 use Rattle.host.specs.inside.Small.{slot_bytes_fit}
 use Rattle.host.proofs.Guards.{Fit, too_many}
-use Rattle.host_compare.specs.Calls.{finding_size, whole_slots, compares_lent, compare_call, curlew_compare}
+use Rattle.host_compare.specs.Calls.{finding_size, whole_slots, compares_lent, compare_call, curlew_compare, CompareServed, HostCompares}
 use Rattle.host_compare.specs.inside.report.{Fits, put_back}
 use Rattle.host_compare.specs.inside.Steps.{second_cut}
 
@@ -55,10 +55,10 @@ cut {A} slots next bad many = go (whole_slots slots) refl
 whole : (slots : List ℕ) → Fit (length slots) → whole_slots slots ≡ true
 whole slots f = eq-eqb (length slots % slot_size) 0 f.whole
 
--- a reading looks at the number of the slots alone
-reads_same : (layout bs area xs ys : List ℕ) → length xs ≡ length ys → reads layout bs xs area 0 ≡ reads layout bs ys area 0
-unfolding reads
-reads_same layout bs area xs ys same = rw (length-slots xs, length-slots ys, same)
+-- a check looks at the number of the slots alone
+pub checks-same : (layout bs area room slots : List ℕ) → length room ≡ length slots / number_size → read_checked layout bs room area 0 ≡ read_checked layout bs (numbers_in slots) area 0
+unfolding read_checked reads
+checks-same layout bs area room slots same = rw (length-slots room, length-slots (numbers_in slots), length-numbers_in slots, same)
 
 -- what the check of the first reading says to a second table that is not served
 module _ (layout bs slots area : List ℕ) where
@@ -82,17 +82,11 @@ cut-second {a} e z = rw (← e, eq-eqb a.number 0 z)
 -- ---- each way out of the call
 
 module _ (layout first second fslots farea sslots sarea report reply : List ℕ) where
-  pub unwritten : eqb (length reply) reply_size ≡ false
-      → record {
-        returned = number_of BadSize;
-        first_slots = fslots;
-        first_area = farea;
-        second_slots = sslots;
-        second_area = sarea;
-        report = report;
-        reply = reply;
-      } ≡ curlew_compare layout first second fslots farea sslots
-      sarea report reply
+  -- a call that returned r, and wrote the reply alone
+  abbrev Refuses : ℕ → List ℕ → Type 0
+  Refuses r reply' = HostCompares layout first second fslots fslots farea farea sslots sslots sarea sarea report report reply reply' r
+
+  pub unwritten : eqb (length reply) reply_size ≡ false → Refuses (number_of BadSize) reply
   unfolding curlew_compare
   unwritten h = rw h
 
@@ -100,29 +94,11 @@ module _ (layout first second fslots farea sslots sarea report reply : List ℕ)
     -- a refusal writes the reply alone
     refused-by : {why : Refusal} {place r : ℕ} {a : Answer} {reply' : List ℕ}
         → compares_lent layout first second fslots farea sslots sarea report ≡ refused why place → a ≡ refusal why place
-        → (r ≡ a.number) × (reply' ≡ reply_of a)
-        → record {
-          returned = r;
-          first_slots = fslots;
-          first_area = farea;
-          second_slots = sslots;
-          second_area = sarea;
-          report = report;
-          reply = reply';
-        } ≡ curlew_compare layout first second fslots farea sslots sarea report reply
+        → (r ≡ a.number) × (reply' ≡ reply_of a) → Refuses r reply'
     unfolding curlew_compare compare_call compare_effect
     refused-by {why} e p q = rw (eq-eqb (length reply) reply_size sized, e, q.0, q.1, p, ne_eqb (number_of why) 0 (λ z. no-number-zero why z))
 
-    pub first-cut : {r : ℕ} {a : Answer} {reply' : List ℕ} → slot_bytes_fit (length fslots) ≡ false → a ≡ refusal BadSize 0 → (r ≡ a.number) × (reply' ≡ reply_of a)
-        → record {
-          returned = r;
-          first_slots = fslots;
-          first_area = farea;
-          second_slots = sslots;
-          second_area = sarea;
-          report = report;
-          reply = reply';
-        } ≡ curlew_compare layout first second fslots farea sslots sarea report reply
+    pub first-cut : {r : ℕ} {a : Answer} {reply' : List ℕ} → slot_bytes_fit (length fslots) ≡ false → a ≡ refusal BadSize 0 → (r ≡ a.number) × (reply' ≡ reply_of a) → Refuses r reply'
     unfolding compares_lent
     first-cut bad p q = refused-by lent p q
       where
@@ -142,36 +118,13 @@ module _ (layout first second fslots farea sslots sarea report reply : List ℕ)
       unfolding compares
       second-many e many = rw (e, reads-many layout second (numbers_in sslots) sarea many)
 
-      pub second-cut : (ns : List ℕ) {r : ℕ} {reply' : List ℕ} → length ns ≡ length fslots / number_size → slot_bytes_fit (length sslots) ≡ false
-          → (r ≡ (second_cut (read_checked layout first ns farea 0)).number) × (reply' ≡ reply_of (second_cut (read_checked layout first ns farea 0)))
-          → record {
-            returned = r;
-            first_slots = fslots;
-            first_area = farea;
-            second_slots = sslots;
-            second_area = sarea;
-            report = report;
-            reply = reply';
-          } ≡ curlew_compare layout first second fslots farea sslots sarea report
-          reply
-      second-cut ns {r} {reply'} lent bad q = by (reads layout first (numbers_in fslots) farea 0) refl
+      pub second-cut : {r : ℕ} {reply' : List ℕ} → slot_bytes_fit (length sslots) ≡ false
+          → (r ≡ (second_cut (read_checked layout first (numbers_in fslots) farea 0)).number) × (reply' ≡ reply_of (second_cut (read_checked layout first (numbers_in fslots) farea 0))) → Refuses r reply'
+      second-cut {r} {reply'} bad q = by (reads layout first (numbers_in fslots) farea 0) refl
         where
-          same : reads layout first ns farea 0 ≡ reads layout first (numbers_in fslots) farea 0
-          same = reads_same layout first farea ns (numbers_in fslots) (lent ∙ sym (length-numbers_in fslots))
-
-          by : (o : Result (List Value)) → reads layout first (numbers_in fslots) farea 0 ≡ o
-              → record {
-                returned = r;
-                first_slots = fslots;
-                first_area = farea;
-                second_slots = sslots;
-                second_area = sarea;
-                report = report;
-                reply = reply';
-              } ≡ curlew_compare layout first second fslots farea sslots sarea report
-              reply
-          by (refused why place) e = refused-by {why = why} {place = place} (lent-first ∙ rw e) (cut-refused layout first ns farea (same ∙ e)) q
-          by (ok vs) e = refused-by {why = BadSize} {place = 0} (lent-first ∙ rw e (cut sslots _ bad (second-many e))) (cut-accepted layout first ns farea (same ∙ e)) q
+          by : (o : Result (List Value)) → reads layout first (numbers_in fslots) farea 0 ≡ o → Refuses r reply'
+          by (refused why place) e = refused-by {why = why} {place = place} (lent-first ∙ rw e) (cut-refused layout first (numbers_in fslots) farea e) q
+          by (ok vs) e = refused-by {why = BadSize} {place = 0} (lent-first ∙ rw e (cut sslots _ bad (second-many e))) (cut-accepted layout first (numbers_in fslots) farea e) q
 
       module _ (s : Fit (length sslots)) where
         again : (o : Result (List Value)) → reads layout first (numbers_in fslots) farea 0 ≡ o
@@ -182,26 +135,8 @@ module _ (layout first second fslots farea sslots sarea report reply : List ℕ)
         again (ok vs) e = rw e
 
         pub served : {r : ℕ} {fslots' farea' sslots' sarea' report' reply' : List ℕ}
-            → record {
-              returned = r;
-              first_slots = fslots';
-              first_area = farea';
-              second_slots = sslots';
-              second_area = sarea';
-              report = report';
-              reply = reply';
-            } ≡ compare_call fslots sslots report
-            (compare layout first second (numbers_in fslots) farea (numbers_in sslots) sarea (numbers_in report))
-            → record {
-              returned = r;
-              first_slots = fslots';
-              first_area = farea';
-              second_slots = sslots';
-              second_area = sarea';
-              report = report';
-              reply = reply';
-            } ≡ curlew_compare layout first second fslots farea
-            sslots sarea report reply
+            → CompareServed layout first second fslots fslots' farea farea' sslots sslots' sarea sarea' report report' reply reply' r
+            → HostCompares layout first second fslots fslots' farea farea' sslots sslots' sarea sarea' report report' reply reply' r
         unfolding curlew_compare compare
         served p = p ∙ rw (eq-eqb (length reply) reply_size sized, lent-first, whole sslots s, again (reads layout first (numbers_in fslots) farea 0) refl)
 
@@ -225,7 +160,7 @@ kept-bytes : (n : ℕ) (slots after : List ℕ) {slots' : List ℕ} → Kept n (
 kept-bytes n slots after k whole below e = e ∙ sym (bytes-stored slots (take (n * slot_width) after) whole below) ∙ ap numbers_bytes (kept_store n (numbers_in slots) after k)
 
 -- the findings are written, and the rest of the report stays
-findings-bytes : (n : ℕ) (findings numbers report : List ℕ) {report' : List ℕ} → report_width * n ≤ length findings → report' ≡ store_at report 0 (numbers_bytes (part findings 0 (report_width * n)))
+findings-bytes : (n : ℕ) (findings numbers report : List ℕ) {report' : List ℕ} → report_width * n ≤ length findings → report' ≡ store_at report 0 (numbers_bytes (take (report_width * n) findings))
     → report' ≡ numbers_bytes (take (report_width * n) (take (report_width * n) findings ++ drop (report_width * n) numbers)) ++ drop (finding_size * n) report
 findings-bytes n findings numbers report h e =
     let long : length (take (report_width * n) findings) ≡ report_width * n = length-take-le (report_width * n) findings h in
@@ -251,9 +186,13 @@ module _ (layout first second fslots farea sslots sarea report findings : List �
       let room : length findings ≡ min (length (numbers_in report)) (report_width * max_slots) = rw length-numbers_in short in
       report-over layout first second (numbers_in fslots) farea (numbers_in sslots) sarea (numbers_in report) findings room ∙ ap (report_over (numbers_in report)) (sym p)
 
-  left : {r : ℕ} {reply' : List ℕ} → (r ≡ a.number) × (reply' ≡ reply_of a) → (a.number ≡ 0 → ⊥)
-      → record { returned = r; first_slots = fslots; first_area = farea'; second_slots = sslots; second_area = sarea'; report = report; reply = reply' }
+  -- the bytes of both tables, the report and the reply that a call leaves which returned r
+  abbrev Served : List ℕ → List ℕ → List ℕ → List ℕ → ℕ → Type 0
+  Served fslots' sslots' report' reply' r =
+      record { returned = r; first_slots = fslots'; first_area = farea'; second_slots = sslots'; second_area = sarea'; report = report'; reply = reply' }
       ≡ compare_call fslots sslots report (compare layout first second (numbers_in fslots) farea (numbers_in sslots) sarea (numbers_in report))
+
+  left : {r : ℕ} {reply' : List ℕ} → (r ≡ a.number) × (reply' ≡ reply_of a) → (a.number ≡ 0 → ⊥) → Served fslots sslots report reply' r
   unfolding compare_call
   left q h = rw (over, ne_eqb a.number 0 h, q.0, q.1)
 
@@ -263,7 +202,7 @@ module _ (layout first second fslots farea sslots sarea report findings : List �
         let accepted : (compare layout first second (numbers_in fslots) farea (numbers_in sslots) sarea findings).answer.number ≡ 0 = rw (← p) z in
         subst (Settled (numbers_in fslots) (numbers_in sslots) findings) (sym p) (settled layout first second (numbers_in fslots) farea (numbers_in sslots) sarea findings accepted)
 
-    findings-lent : (length findings' * number_size ≤ length report) × (0 + report_width * a.first ≤ length findings')
+    findings-lent : (length findings' * number_size ≤ length report) × (report_width * a.first ≤ length findings')
     findings-lent = (omega (arith, settles.long, short), omega (arith, settles.findings, settles.long))
 
     written : {fslots' sslots' report' reply' : List ℕ} {r : ℕ} → (r ≡ a.number) × (reply' ≡ reply_of a)
@@ -271,9 +210,7 @@ module _ (layout first second fslots farea sslots sarea report findings : List �
         → All (λ b. b < 256) sslots
         → fslots' ≡ store_at fslots 0 (numbers_bytes (take (a.first * slot_width) ns'))
         → sslots' ≡ store_at sslots 0 (numbers_bytes (take (a.first * slot_width) ms'))
-        → report' ≡ store_at report 0 (numbers_bytes (part findings' 0 (report_width * a.first)))
-        → record { returned = r; first_slots = fslots'; first_area = farea'; second_slots = sslots'; second_area = sarea'; report = report'; reply = reply' }
-        ≡ compare_call fslots sslots report (compare layout first second (numbers_in fslots) farea (numbers_in sslots) sarea (numbers_in report))
+        → report' ≡ store_at report 0 (numbers_bytes (take (report_width * a.first) findings')) → Served fslots' sslots' report' reply' r
     unfolding compare_call
     written q w b w' b' f g h =
         let s = settles in
@@ -299,16 +236,12 @@ module _ (layout first second fslots farea sslots sarea report findings : List �
       (b' : All (λ b. b < 256) sslots) where
     by_answer : (t : Bool) → eqb a.number 0 ≡ t → fslots' ≡ (if t then store_at fslots 0 (numbers_bytes (take (a.first * slot_width) ns')) else fslots)
         → sslots' ≡ (if t then store_at sslots 0 (numbers_bytes (take (a.first * slot_width) ms')) else sslots)
-        → report' ≡ (if t then store_at report 0 (numbers_bytes (part findings' 0 (report_width * a.first))) else
-        report)
-        → record { returned = r; first_slots = fslots'; first_area = farea'; second_slots = sslots'; second_area = sarea'; report = report'; reply = reply' }
-        ≡ compare_call fslots sslots report (compare layout first second (numbers_in fslots) farea (numbers_in sslots) sarea (numbers_in report))
+        → report' ≡ (if t then store_at report 0 (numbers_bytes (take (report_width * a.first) findings')) else
+        report) → Served fslots' sslots' report' reply' r
     by_answer true e f g h = written (eqb-true a.number 0 e) q w b w' b' f g h
     by_answer false e f g h = rw (f, g, h) (left q (eqb-false a.number 0 e))
 
     pub left_by : fslots' ≡ put_back a fslots (numbers_bytes (take (a.first * slot_width) ns')) → sslots' ≡ put_back a sslots (numbers_bytes (take (a.first * slot_width) ms'))
-        → report' ≡ put_back a report (numbers_bytes (part findings' 0 (report_width * a.first)))
-        → record { returned = r; first_slots = fslots'; first_area = farea'; second_slots = sslots'; second_area = sarea'; report = report'; reply = reply' }
-        ≡ compare_call fslots sslots report (compare layout first second (numbers_in fslots) farea (numbers_in sslots) sarea (numbers_in report))
+        → report' ≡ put_back a report (numbers_bytes (take (report_width * a.first) findings')) → Served fslots' sslots' report' reply' r
     unfolding put_back
     left_by f g h = by_answer (eqb a.number 0) refl f g h

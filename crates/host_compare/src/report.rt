@@ -30,6 +30,6 @@ pub fn write_back(
     let fields = a.first as usize;
     host::numbers::encode(first_slots, first_room, fields);
     host::numbers::encode(second_slots, second_room, fields);
-    host::numbers::encode_run(report, findings, 0, compare::report::REPORT_WIDTH * fields);
+    host::numbers::encode_run(report, &findings[..compare::report::REPORT_WIDTH * fields]);
     host::reply_with(reply, a)
 }

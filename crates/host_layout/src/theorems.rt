@@ -1,6 +1,7 @@
 // What a layout promises, asked by a C host; and whether one layout is another with fields added.
 ghost use Rattle.host_layout.specs.Theorems.{Tells, HostPromises, HostExtends};
 
+use layout::Refusal;
 use promises::Told;
 
 // Writes four numbers into the reply, and hands back the first; a reply of another size stays as it is.
@@ -8,10 +9,9 @@ fn tell(t: Told, reply: &mut [u8]) -> u32
     ensures { Tells t reply.old reply.new result }
 {
     if !host::long_reply_fits(reply.len()) {
-        return 1;
+        return Refusal::BadSize.number();
     }
-    let a = t.answer;
-    host::reply_long(reply, a, t.fourth)
+    host::reply_long(reply, t.answer, t.fourth)
 }
 
 // Says where a layout breaks each of the three promises.

@@ -2,7 +2,7 @@
 use Prim.Native.Nat.{ℕ, ◌*◌, ◌<◌}
 use native.Mathlib.Omega.{arith}
 use mathlib.Core.Path.{◌≡◌, refl, ap, ◌∙◌}
-use mathlib.Core.Bool.{true, false}
+use mathlib.Core.Bool.{Bool, true, false}
 use mathlib.Core.List.{List, [], ◌∷◌, ◌++◌}
 use borrow.Author.Tests.{lt-leb}
 use lib.Dec.{eqb}
@@ -16,14 +16,21 @@ use Rattle.record.specs.Geometry.{table_fits}
 use Rattle.record.specs.Packing.{refusal}
 use Rattle.record.proofs.NumberLaws.{length-number_bytes}
 use Rattle.record.proofs.Stores.{store-next, store-whole}
-use Rattle.mean.specs.declared.marks.LegMean.TheVariants.{Unmarked}
+use Rattle.std.specs.Prelude.{Option, None, Some, Float}
+use Rattle.std.specs.Option.{is_some}
+use mir.Val.{bool_byte}
 use Rattle.mean.specs.declared.marks.Marks.{Marks}
 use Rattle.mean.specs.Mean.{legs, marks_effect, mean}
 use Rattle.host.specs.Numbers.{number_size, numbers_in, numbers_bytes}
 use Rattle.host.proofs.numbers.NumberLaws.{length-bytes_of}
 use Rattle.host.specs.inside.Small.{slot_bytes_fit}
 use Rattle.host.proofs.Guards.{Fit, guarded-unwritten, guarded-refused, guarded-served}
-use Rattle.host_mean.specs.Calls.{mean_reply_size, mean_reply, mean_call, curlew_mean}
+use Rattle.host_mean.specs.Calls.{follows, mean_reply_size, mean_reply, mean_call, curlew_mean}
+
+-- whether a mean follows, as the code finds it
+pub follows-is : (m : Option Float) {b : Bool} {n : ℕ} → n ≡ bool_byte b → b ≡ is_some m → n ≡ follows m
+follows-is None e d = rw (e, d)
+follows-is (Some x) e d = rw (e, d)
 
 -- the numbers and then the pattern fill the reply
 pub reply-filled : (d : List ℕ) (a b c f p : ℕ) → length d ≡ mean_reply_size
@@ -37,7 +44,7 @@ reply-filled d a b c f p e =
     store-next {to = number_size * 4} d 0 s t refl (omega arith) refl refl (omega arith) ∙ store-whole d (s ++ t) whole
 
 -- more slots than a call may be lent are refused with 1
-mean-many : (ns area : List ℕ) → slot_width * max_slots < length ns → record { answer = refusal BadSize 0; mean = Unmarked } ≡ mean ns area
+mean-many : (ns area : List ℕ) → slot_width * max_slots < length ns → record { answer = refusal BadSize 0; mean = None } ≡ mean ns area
 unfolding mean legs marks_effect
 mean-many ns area many =
     let over : table_fits (length ns) (length area) ≡ false = rw (lt-leb (length ns) (slot_width * max_slots) many) in
@@ -57,10 +64,10 @@ module _ (slots area : List ℕ) where
 
     module _ (sized : eqb (length reply) mean_reply_size ≡ true) where
       pub mean-refused : {a : Answer} {r : ℕ} {reply' : List ℕ} → slot_bytes_fit (length slots) ≡ false → a ≡ refusal BadSize 0
-          → (r ≡ a.number) × (reply' ≡ mean_reply (record { answer = a; mean = Unmarked })) → record { returned = r; reply = reply' } ≡ curlew_mean slots area reply
+          → (r ≡ a.number) × (reply' ≡ mean_reply (record { answer = a; mean = None })) → record { returned = r; reply = reply' } ≡ curlew_mean slots area reply
       unfolding curlew_mean mean_call
       mean-refused {a} {r} {reply'} bad e q =
-          let here : record { returned = r; reply = reply' } ≡ mean_call (record { answer = refusal BadSize 0; mean = Unmarked }) = rw (q.0, q.1, e) in
+          let here : record { returned = r; reply = reply' } ≡ mean_call (record { answer = refusal BadSize 0; mean = None }) = rw (q.0, q.1, e) in
           here ∙ guarded-refused mean_reply_size reply slots _ _ _ sized bad (λ many. ap mean_call (mean-many (numbers_in slots) area many))
 
       pub mean-served : Fit (length slots) → mean_call (mean (numbers_in slots) area) ≡ curlew_mean slots area reply

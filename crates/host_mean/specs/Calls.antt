@@ -1,6 +1,6 @@
 -- The mean of the marked legs for a C host (02, M-104; 01, Slot tables). THE EFFECT OF A CALL is `curlew_mean`, at the
 -- end.
-use Rattle.std.specs.Prelude.{ℕ, ◌+◌, ◌*◌, ◌≡◌, List, [], ◌∷◌, ◌++◌}
+use Rattle.std.specs.Prelude.{ℕ, ◌+◌, ◌*◌, ◌≡◌, List, [], ◌∷◌, ◌++◌, Float, Option, None, Some}
 use Rattle.std.specs.Float.{binary64}
 use Rattle.std.specs.Float.Ieee.{to_bits}
 use Rattle.layout.specs.declared.Refusal.TheVariants.{BadSize}
@@ -8,8 +8,6 @@ use Rattle.layout.specs.Refusals.{number_of}
 use Rattle.record.specs.Bytes.{number_bytes}
 use Rattle.record.specs.Table.{integer_size}
 use Rattle.record.specs.Packing.{refusal}
-use Rattle.mean.specs.declared.marks.LegMean.{LegMean}
-use Rattle.mean.specs.declared.marks.LegMean.TheVariants.{Unmarked, Of}
 use Rattle.mean.specs.declared.marks.Marks.{Marks}
 use Rattle.mean.specs.Mean.{mean}
 use Rattle.host.specs.Numbers.{number_size, numbers_in, numbers_bytes}
@@ -18,15 +16,15 @@ use Rattle.host.specs.Host.{guarded}
 -- ---- the reply
 
 -- 1 where a mean follows, 0 where no leg is marked
-abbrev pub follows : LegMean → ℕ
-follows Unmarked = 0
-follows (Of x) = 1
+abbrev pub follows : Option Float → ℕ
+follows None = 0
+follows (Some x) = 1
 
 -- the bit pattern of a mean; 0 where there is none
-unfoldable pub pattern : LegMean → ℕ
+unfoldable pub pattern : Option Float → ℕ
 unfolding to_bits
-pattern Unmarked = 0
-pattern (Of x) = to_bits binary64 x
+pattern None = 0
+pattern (Some x) = to_bits binary64 x
 
 -- the answer's three numbers, whether a mean follows, and the bytes of its pattern
 unfoldable pub mean_reply : Marks → List ℕ
@@ -55,7 +53,7 @@ unfolding mean_call numbers_in mean
 curlew_mean slots area reply =
     guarded mean_reply_size reply slots
     (record { returned = number_of BadSize; reply = reply })
-    (mean_call (record { answer = refusal BadSize 0; mean = Unmarked }))
+    (mean_call (record { answer = refusal BadSize 0; mean = None }))
     (mean_call (mean (numbers_in slots) area))
 
 -- what a call promises that returned r; and what it promises where the reply is written and the slots are whole

@@ -2,19 +2,21 @@
 use Prim.Native.Nat.{ℕ, ◌*◌, ◌/◌, ◌≤◌, ◌<◌}
 use native.Mathlib.Omega.{arith}
 use mathlib.Core.Path.{◌≡◌, sym, ap, ◌∙◌}
-use borrow.Author.Tests.{ne_eqb}
+use borrow.Author.Tests.{ne_eqb, leb-true}
 use mathlib.Core.Bool.{true, false}
 use mathlib.Core.List.{List}
-use lib.Dec.{eqb}
-use lib.ListN.{length}
+use lib.Dec.{eqb, leb}
+use lib.ListN.{length, take, length-take}
 use Rattle.layout.specs.declared.Refusal.{Refusal}
 use Rattle.layout.specs.declared.Refusal.TheVariants.{BadSize, BadSlots}
-use Rattle.layout.specs.declared.Parsed.{Parsed}
-use Rattle.layout.specs.declared.Parsed.TheVariants.{Fields, Refused}
-use Rattle.layout.specs.Refusals.{number_of}
+use Rattle.layout.specs.declared.Fields.{Fields}
+use Rattle.layout.specs.declared.Refused.{Refused}
+use Rattle.std.specs.declared.result.Result as Std
+use Rattle.std.specs.declared.result.Result.TheVariants.{Ok, Err}
+use Rattle.layout.specs.Refusals.{number_of, refused}
 use Rattle.layout.specs.Layout.{max_layout}
 use Rattle.layout.proofs.Laws.{no-number-zero}
-use Rattle.layout.proofs.Decoded.{Learnt, parsed-fields, parsed-refused}
+use Rattle.layout.proofs.Decoded.{Learnt, parsed-fields, parsed-refused, decoded-front, learnt-front}
 use Rattle.record.specs.declared.Answer.{Answer}
 use Rattle.record.specs.declared.ReadAnswer.{ReadAnswer}
 use Rattle.record.specs.Table.{max_slots, slot_width, max_record}
@@ -32,8 +34,8 @@ use Rattle.reader.specs.inside.passes.{ReadReady, read_codes}
 use Rattle.reader.proofs.passes.Whole as codes
 use Rattle.host.specs.Numbers.{number_size, numbers_in}
 use Rattle.host.proofs.numbers.NumberLaws.{length-numbers_in}
-use Rattle.host.specs.Host.{reply_size, long_reply_size, reply_of, long_reply, pack_call, read_call}
-use Rattle.host.specs.inside.Small.{slot_bytes_fit}
+use Rattle.host.specs.Host.{slot_size, reply_size, long_reply_size, reply_of, long_reply, pack_call, read_call}
+use Rattle.host.specs.inside.Small.{slot_bytes_fit, few_numbers}
 use Rattle.host.proofs.Guards.{Fit, guarded-unwritten, guarded-refused, guarded-served}
 use Rattle.host.proofs.Calls as host
 use Rattle.host_record.specs.Reading.{steps_call}
@@ -42,7 +44,7 @@ use Rattle.host_record.proofs.read.Calls.{fields-many, fields-room, fields-repli
 use Rattle.plans.specs.Plans.{plan_fields, prepare, pack_plan, read_plan}
 use Rattle.plans.proofs.Calls.{plan-inside, plan-sizes, plan-refused, plan-codes}
 use Rattle.host_plans.specs.Calls.{curlew_prepare, curlew_pack_plan, curlew_read_plan}
-use Rattle.host_plans.specs.inside.Steps.{PackJudged, Packable, ReadJudged, PlanReady}
+use Rattle.host_plans.specs.inside.Steps.{PackJudged, Packable, PlanPacks, ReadJudged, PlanReady}
 
 -- ---- a layout prepared
 
@@ -56,6 +58,11 @@ module _ (layout run reply : List ℕ) where
       → record { returned = r; plan = run'; reply = reply' } ≡ curlew_prepare layout run reply
   unfolding curlew_prepare
   prepare-replied h p q = rw (h, ← p, q.0, q.1)
+
+-- ---- the numbers of the slots
+
+pub few-numbers : {size : ℕ} → leb size (few_numbers * number_size) ≡ true → size ≤ few_numbers * number_size
+few-numbers {size} h = leb-true size (few_numbers * number_size) h
 
 -- ---- packing by a plan
 
@@ -91,64 +98,68 @@ module _ (plan slots area out : List ℕ) where
           pack-served f (rw e left) q
 
 -- once the plan is judged
-module _ {p : Parsed} {plan slots area out : List ℕ} (j : PackJudged p plan slots area out) where
+module _ {p : Std.Result Fields Refused} {plan slots area out : List ℕ} (j : PackJudged p plan slots area out) where
   fine : lengths_fit (length plan) (length (numbers_in slots)) (length out) (length area) ≡ true
   fine = rw length-numbers_in j.fine
 
   limits : Sized (length plan) (length (numbers_in slots)) (length out) (length area)
   limits = sized fine
 
-  pub pack-place : {why : Refusal} {place : ℕ} → p ≡ Refused why place → place < max_layout
-  pack-place e = omega (arith, limits.text, plan-inside true plan _ _ (parsed-refused (plan_fields true plan) p _ _ plan j.parsed e))
+  pub all-numbers : length slots ≤ slot_width * max_slots * number_size
+  all-numbers = omega (arith, limits.lent.table, length-numbers_in slots, j.whole)
 
-  pub pack-bad : {why : Refusal} {place : ℕ} {a : Answer} → p ≡ Refused why place → a ≡ refusal why place → record { answer = a; output = out } ≡ pack_plan plan (numbers_in slots) area out
+  pub pack-place : {e : Refused} → p ≡ Err e → e.place < max_layout
+  pack-place h = omega (arith, limits.text, plan-inside true plan _ _ (parsed-refused (plan_fields true plan) p _ plan j.parsed h))
+
+  pub pack-bad : {e : Refused} {a : Answer} → p ≡ Err e → a ≡ refusal e.why e.place → record { answer = a; output = out } ≡ pack_plan plan (numbers_in slots) area out
   unfolding pack_plan
-  pack-bad e q =
+  pack-bad h q =
       rw q
-      (whole.pack-refused (length plan) (plan_fields true plan) (numbers_in slots) area out fine _ _ (parsed-refused (plan_fields true plan) p _ _ plan j.parsed e))
+      (whole.pack-refused (length plan) (plan_fields true plan) (numbers_in slots) area out fine _ _ (parsed-refused (plan_fields true plan) p _ plan j.parsed h))
 
-  module _ {n needed : ℕ} (e : p ≡ Fields n needed) where
-    learnt : Learnt (plan_fields true plan) n needed plan
-    learnt = parsed-fields (plan_fields true plan) p n needed plan j.parsed e
+  module _ {f : Fields} (e : p ≡ Ok f) where
+    learnt : Learnt (plan_fields true plan) f.count f.slots plan
+    learnt = parsed-fields (plan_fields true plan) p f plan j.parsed e
 
-    pub pack-slots : {a : Answer} → (length slots / number_size / slot_width ≡ needed → ⊥) → a ≡ refusal BadSlots 0 → record { answer = a; output = out } ≡ pack_plan plan (numbers_in slots) area out
+    pub pack-slots : {a : Answer} → (length slots / slot_size ≡ f.slots → ⊥) → a ≡ refusal BadSlots 0 → record { answer = a; output = out } ≡ pack_plan plan (numbers_in slots) area out
     unfolding pack_plan
     pack-slots h q =
+        let other : length (numbers_in slots) / slot_width ≡ f.slots → ⊥ = λ s. h (omega (arith, length-numbers_in slots, s)) in
         rw q
         (whole.pack-slots (length plan) (plan_fields true plan) (numbers_in slots) area out fine _ learnt.fields
-        (whole.other-slots (numbers_in slots) needed _ learnt.taken (rw length-numbers_in h)))
+        (whole.other-slots (numbers_in slots) f.slots _ learnt.taken other))
 
-    module _ (enough : length slots / number_size / slot_width ≡ needed) where
-      same : length (numbers_in slots) / slot_width ≡ needed
-      same = rw length-numbers_in enough
+    module _ (enough : length slots / slot_size ≡ f.slots) where
+      same : length (numbers_in slots) / slot_width ≡ f.slots
+      same = omega (arith, length-numbers_in slots)
 
-      pub packable : Packable n plan slots out
+      pub packable : Packable (take f.count plan) slots out
       packable =
           record {
             whole = j.whole;
-            prepared = record { few = learnt.few; room = learnt.room; slots = omega (arith, learnt.taken, same); limit = limits.lent.table };
+            prepared = record {
+              room = omega (arith, learnt.room, length-take f.count plan);
+              slots = rw (← decoded-front f.count plan) (omega (arith, learnt.taken, same));
+              limit = limits.lent.table;
+            };
             room = limits.whole;
           }
 
-      pub pack-fields : {a : Answer} {out' : List ℕ} → record { answer = a; output = out' } ≡ finishes plan n (numbers_in slots) area out
-          → record { answer = a; output = out' } ≡ pack_plan plan (numbers_in slots) area out
+      pub pack-fields : {a : Answer} {out' : List ℕ} → PlanPacks (take f.count plan) slots area out out' a → record { answer = a; output = out' } ≡ pack_plan plan (numbers_in slots) area out
       unfolding pack_plan
       pack-fields q =
           q
-          ∙ whole.pack-finish (length plan) (plan_fields true plan) (numbers_in slots) area out fine _ learnt.fields
-          (whole.same-slots (numbers_in slots) needed _ learnt.taken same)
-
--- slots that can be packed are whole and few
-pub slots-whole : {n : ℕ} {plan slots out : List ℕ} → Packable n plan slots out → Fit (length slots)
-slots-whole {slots = slots} k = record { few = omega (arith, k.prepared.limit, length-numbers_in slots, k.whole); whole = k.whole }
+          ∙ rw (← decoded-front f.count plan)
+          (whole.pack-finish (length plan) (plan_fields true plan) (numbers_in slots) area out fine _ learnt.fields
+          (whole.same-slots (numbers_in slots) f.slots _ learnt.taken same))
 
 -- the numbers that were decoded
-module _ (n : ℕ) (plan slots area out ns : List ℕ) (e : ns ≡ numbers_in slots) where
-  pub decoded-ready : Packable n plan slots out → Prepared n plan ns × (length out ≤ max_record)
+module _ (plan slots area out ns : List ℕ) (e : ns ≡ numbers_in slots) where
+  pub decoded-ready : Packable plan slots out → Prepared plan ns × (length out ≤ max_record)
   decoded-ready k = (rw e k.prepared, k.room)
 
-  pub decoded-pack : {x : Packed} → x ≡ finishes plan n ns area out → x ≡ finishes plan n (numbers_in slots) area out
-  decoded-pack q = q ∙ ap (λ (l : List ℕ). finishes plan n l area out) e
+  pub decoded-pack : {x : Packed} → x ≡ finishes plan ns area out → x ≡ finishes plan (numbers_in slots) area out
+  decoded-pack q = q ∙ ap (λ (l : List ℕ). finishes plan l area out) e
 
 -- ---- reading by a plan
 
@@ -211,54 +222,54 @@ module _ (plan bytes slots area : List ℕ) (mark : ℕ) where
           → (r ≡ a.number) × (reply' ≡ long_reply a 0) → record { returned = r; slots = slots; area = area; reply = reply' } ≡ curlew_read_plan plan bytes slots area mark reply
       read-unfit {a} {r} {reply'} f bad e q =
           let unfit : read_lent_fits (length plan) (length (numbers_in slots)) (length bytes) (length area) mark ≡ false = rw length-numbers_in bad in
-          let left : record { answer = record { answer = a; steps = 0 }; slots = numbers_in slots; area = area } ≡ read_plan plan bytes (numbers_in slots) area mark =
-          plan-refused plan bytes (numbers_in slots) area mark (sizes-refuse-fields (length plan) (plan_fields false plan) bytes (numbers_in slots) area mark unfit) e in
-          read-served f (left-refused slots area BadSize 0 e q ∙ ap (steps_call slots) left)
+          let left : record { answer = record { answer = refusal BadSize 0; steps = 0 }; slots = numbers_in slots; area = area } ≡ read_plan plan bytes (numbers_in slots) area mark =
+          plan-refused plan bytes (numbers_in slots) area mark (sizes-refuse-fields (length plan) (plan_fields false plan) bytes (numbers_in slots) area mark unfit) in
+          read-served f (left-refused slots area BadSize 0 e q ∙ ap (steps_call slots) (rw e left))
 
 -- once the plan is judged
-module _ {p : Parsed} {plan bytes slots area : List ℕ} {mark : ℕ} {reply : List ℕ} (j : ReadJudged p plan bytes slots area mark reply) where
+module _ {p : Std.Result Fields Refused} {plan bytes slots area : List ℕ} {mark : ℕ} {reply : List ℕ} (j : ReadJudged p plan bytes slots area mark reply) where
   sizes : Lent (length plan) (length (numbers_in slots)) (length bytes) (length area) mark
   sizes = lent (rw length-numbers_in j.fine)
 
-  pub read-place : {why : Refusal} {place : ℕ} → p ≡ Refused why place → place < max_layout
-  read-place e = omega (arith, sizes.text, plan-inside false plan _ _ (parsed-refused (plan_fields false plan) p _ _ plan j.parsed e))
+  pub all-lent : length slots ≤ slot_width * max_slots * number_size
+  all-lent = omega (arith, sizes.table, length-numbers_in slots, j.whole)
 
-  pub read-bad : {why : Refusal} {place r : ℕ} {a : Answer} {reply' : List ℕ} → p ≡ Refused why place → a ≡ refusal why place → (r ≡ a.number) × (reply' ≡ long_reply a 0)
+  pub read-place : {e : Refused} → p ≡ Err e → e.place < max_layout
+  read-place h = omega (arith, sizes.text, plan-inside false plan _ _ (parsed-refused (plan_fields false plan) p _ plan j.parsed h))
+
+  pub read-bad : {e : Refused} {r : ℕ} {a : Answer} {reply' : List ℕ} → p ≡ Err e → a ≡ refusal e.why e.place → (r ≡ a.number) × (reply' ≡ long_reply a 0)
       → record { returned = r; slots = slots; area = area; reply = reply' } ≡ steps_call slots (read_plan plan bytes (numbers_in slots) area mark)
-  read-bad {why} {place} {r} {a} {reply'} e h q =
-      let left : record { answer = record { answer = a; steps = 0 }; slots = numbers_in slots; area = area } ≡ read_plan plan bytes (numbers_in slots) area mark =
-      plan-refused plan bytes (numbers_in slots) area mark
-      (fields-refuse (length plan) (plan_fields false plan) bytes (numbers_in slots) area mark sizes (parsed-refused (plan_fields false plan) p why place plan j.parsed e)) h in
-      left-refused slots area why place h q ∙ ap (steps_call slots) left
+  read-bad {e} {r} {a} {reply'} h k q =
+      let bad : plan_fields false plan ≡ refused e.why e.place = parsed-refused (plan_fields false plan) p e plan j.parsed h in
+      let left : record { answer = record { answer = refusal e.why e.place; steps = 0 }; slots = numbers_in slots; area = area } ≡ read_plan plan bytes (numbers_in slots) area mark =
+      plan-refused plan bytes (numbers_in slots) area mark (fields-refuse (length plan) (plan_fields false plan) bytes (numbers_in slots) area mark sizes bad) in
+      left-refused slots area e.why e.place k q ∙ ap (steps_call slots) (rw k left)
 
-  pub readable : {n taken : ℕ} → p ≡ Fields n taken → PlanReady n taken plan bytes slots area mark reply
-  readable {n} {taken} e =
-      let l : Learnt (plan_fields false plan) n taken plan = parsed-fields (plan_fields false plan) p n taken plan j.parsed e in
+  pub readable : {f : Fields} → p ≡ Ok f → PlanReady f plan bytes slots area mark reply
+  readable {f} e =
+      let l : Learnt (plan_fields false plan) f.count f.slots plan = parsed-fields (plan_fields false plan) p f plan j.parsed e in
       record { sized = j.sized; whole = j.whole; fine = j.fine; fields = l.fields; count = l.taken; few = l.few }
 
 -- with room for the slots' numbers, whatever it holds
-module _ {n taken : ℕ} {plan bytes slots area : List ℕ} {mark : ℕ} {reply : List ℕ} (k : PlanReady n taken plan bytes slots area mark reply) where
+module _ {f : Fields} {plan bytes slots area : List ℕ} {mark : ℕ} {reply : List ℕ} (k : PlanReady f plan bytes slots area mark reply) where
   room-fit : Lent (length plan) (length slots / number_size) (length bytes) (length area) mark
   room-fit = lent k.fine
-
-  pub read_whole : Fit (length slots)
-  read_whole = record { few = omega (arith, room-fit.table, k.whole); whole = k.whole }
 
   pub mark-inside : mark ≤ length area
   mark-inside = room-fit.start
 
-  pub sure-sizes : (n ≤ max_layout) × (length bytes ≤ max_record)
-  sure-sizes = (omega (arith, k.few, room-fit.text), room-fit.whole)
+  pub sure-sizes : (length (take f.count plan) ≤ max_layout) × (length bytes ≤ max_record)
+  sure-sizes = (omega (arith, length-take f.count plan, room-fit.text), room-fit.whole)
 
-  learnt-by : Learnt (plan_fields false plan) n taken plan
-  learnt-by = record { fields = k.fields; taken = k.count; few = k.few; room = room-fit.text }
+  learnt-by : Learnt (plan_fields false plan) (length (take f.count plan)) f.slots (take f.count plan)
+  learnt-by = learnt-front (record { fields = k.fields; taken = k.count; few = k.few; room = room-fit.text })
 
   module _ (ns : List ℕ) (long : length slots ≡ length ns * number_size) where
     here : Lent (length plan) (length ns) (length bytes) (length area) mark
     here = let e : length slots / number_size ≡ length ns = omega arith in rw e at room-fit
 
-    pub room-ready : ReadReady n taken plan bytes ns area mark
+    pub room-ready : ReadReady (length (take f.count plan)) f.slots (take f.count plan) bytes ns area mark
     room-ready = codes.ready (length plan) (plan_fields false plan) bytes ns area mark here learnt-by
 
-    pub room-read : {x : ReadAll} → x ≡ read_codes n taken plan bytes ns area mark → x ≡ read_plan plan bytes ns area mark
+    pub room-read : {x : ReadAll} → x ≡ read_codes (length (take f.count plan)) f.slots (take f.count plan) bytes ns area mark → x ≡ read_plan plan bytes ns area mark
     room-read q = plan-codes plan bytes ns area mark here learnt-by q

@@ -3,12 +3,13 @@
 // `plans::pack` and `plans::read`: a call that hands on as many runs costs more than the checks of a small plan.)
 #![tactic(auto)]
 
-ghost use Rattle.std.specs.Prelude.{◌≡◌, ◌*◌, length};
+ghost use Rattle.std.specs.Prelude.{◌≡◌, ◌*◌, ◌≤◌, length};
+ghost use Rattle.record.specs.Table.{slot_width, max_slots};
 ghost use Rattle.host.specs.Numbers.{number_size};
 ghost use Rattle.host_plans.specs.Calls.{HostPrepares, HostPacksPlan, HostReadsPlan};
-ghost use Rattle.host_plans.specs.inside.Steps.{RoomFor, Packable, PlanPacks, PackJudged, PacksByPlan, PlanReady, ReadJudged, ReadsByPlan};
+ghost use Rattle.host_plans.specs.inside.Steps.{Packable, PlanPacks, PackJudged, PacksByPlan, PlanReady, ReadJudged, ReadsByPlan};
 
-use layout::{Parsed, Refusal};
+use layout::{Fields, Refusal, Refused};
 use reader::checking;
 use record::Answer;
 use slot_table::sizes;
@@ -18,63 +19,47 @@ pub fn prepare(layout: &[u8], plan: &mut [u32], reply: &mut [u8]) -> u32
     ensures { HostPrepares layout.now plan.old plan.new reply.old reply.new result }
 {
     if !host::reply_fits(reply.len()) {
-        return 1;
+        return Refusal::BadSize.number();
     }
     let a = plans::prepare(layout, plan);
     host::reply_with(reply, a)
 }
 
-// Packs by the n fields of a plan, with room lent for the slots' numbers: for few slots, and for more. (Each has one
-// caller, so that the compiler builds it in there.)
-fn pack_few(
-    plan: &[u32],
-    n: usize,
-    slots: &[u8],
-    area: &[u8],
-    out: &mut [u8],
-    room: &mut [u32],
-) -> Answer
-    requires { Packable n plan.now slots.now out.old × RoomFor slots.now room.old }
-    ensures { PlanPacks n plan.now slots.now area.now out.old out.new result }
+// Packs by a plan of fields alone, with room for N numbers of slots.
+fn pack_in<const N: usize>(plan: &[u32], slots: &[u8], area: &[u8], out: &mut [u8]) -> Answer
+    requires { Packable plan.now slots.now out.old × (length slots.now ≤ N * number_size)
+        × (N ≤ slot_width * max_slots) }
+    ensures { PlanPacks plan.now slots.now area.now out.old out.new result }
 {
+    let mut room: [u32; N] = [0; N];
+    let room = &mut room[..slots.len() / host::numbers::NUMBER_SIZE];
     host::numbers::decode(slots, room);
-    packer::passes::pack(plan, n, room, area, out)
-}
-
-fn pack_many(
-    plan: &[u32],
-    n: usize,
-    slots: &[u8],
-    area: &[u8],
-    out: &mut [u8],
-    room: &mut [u32],
-) -> Answer
-    requires { Packable n plan.now slots.now out.old × RoomFor slots.now room.old }
-    ensures { PlanPacks n plan.now slots.now area.now out.old out.new result }
-{
-    host::numbers::decode(slots, room);
-    packer::passes::pack(plan, n, room, area, out)
+    packer::passes::pack(plan, room, area, out)
 }
 
 // What is left of a packing once the plan is judged.
-fn packed(p: Parsed, plan: &[u32], slots: &[u8], area: &[u8], out: &mut [u8]) -> Answer
-    requires { PackJudged p plan.now slots.now area.now out.old }
+fn packed(
+    judged: Result<Fields, Refused>,
+    plan: &[u32],
+    slots: &[u8],
+    area: &[u8],
+    out: &mut [u8],
+) -> Answer
+    requires { PackJudged judged plan.now slots.now area.now out.old }
     ensures { PacksByPlan plan.now slots.now area.now out.old out.new result }
 {
-    match p {
-        Parsed::Refused(why, place) => Answer::refused(why, place as u32),
-        Parsed::Fields(n, needed) => {
-            let k = slots.len() / host::numbers::NUMBER_SIZE;
-            if k / record::SLOT_WIDTH != needed {
-                return Answer::refused(Refusal::BadSlots, 0);
-            }
-            if k <= host::FEW_NUMBERS {
-                let mut room: [u32; host::FEW_NUMBERS] = [0; host::FEW_NUMBERS];
-                return pack_few(plan, n, slots, area, out, &mut room[..k]);
-            }
-            let mut room: [u32; record::MAX_NUMBERS] = [0; record::MAX_NUMBERS];
-            pack_many(plan, n, slots, area, out, &mut room[..k])
-        }
+    let fields = match judged {
+        Ok(fields) => fields,
+        Err(e) => return Answer::refused(e.why, e.place as u32),
+    };
+    if slots.len() / host::SLOT_SIZE != fields.slots {
+        return Answer::refused(Refusal::BadSlots, 0);
+    }
+    let plan = &plan[..fields.count];
+    if host::few(slots.len()) {
+        pack_in::<{ host::FEW_NUMBERS }>(plan, slots, area, out)
+    } else {
+        pack_in::<{ record::MAX_NUMBERS }>(plan, slots, area, out)
     }
 }
 
@@ -83,7 +68,7 @@ pub fn pack(plan: &[u32], slots: &[u8], area: &[u8], out: &mut [u8], reply: &mut
     ensures { HostPacksPlan plan.now slots.now area.now out.old out.new reply.old reply.new result }
 {
     if !host::reply_fits(reply.len()) {
-        return 1;
+        return Refusal::BadSize.number();
     }
     if !host::slots_fit(slots.len()) {
         return host::reply_with(reply, Answer::refused(Refusal::BadSize, 0));
@@ -92,59 +77,40 @@ pub fn pack(plan: &[u32], slots: &[u8], area: &[u8], out: &mut [u8], reply: &mut
     if !sizes::lengths_fit(plan.len(), numbers, out.len(), area.len()) {
         return host::reply_with(reply, Answer::refused(Refusal::BadSize, 0));
     }
-    let p = plans::judge(plan, true);
-    let a = packed(p, plan, slots, area, out);
+    let a = packed(plans::judge(plan, true), plan, slots, area, out);
     host::reply_with(reply, a)
 }
 
-// Reads by the n fields of a plan, of which `taken` take a slot, with room lent for the slots' numbers: what stands
-// there does not count. For few slots, and for more. (The test of `reader::passes::read` stands in the first too: the
-// fields are then written by a call from there, where it costs least.)
-fn read_few(
+// Reads by the fields of a plan, with room for N numbers of slots: what stands there does not count. (The test of
+// `reader::passes::read` stands here too: the fields are then written by a call from here, where it costs least.)
+fn read_in<const N: usize>(
     plan: &[u32],
-    n: usize,
-    taken: usize,
+    fields: Fields,
     bytes: &[u8],
     slots: &mut [u8],
     area: &mut [u8],
     mark: usize,
     reply: &mut [u8],
-    room: &mut [u32],
 ) -> u32
-    requires { PlanReady n taken plan.now bytes.now slots.old area.old mark reply.old
-        × (length slots.old ≡ length room.old * number_size) }
+    requires { PlanReady fields plan.now bytes.now slots.old area.old mark reply.old
+        × (length slots.old ≤ N * number_size) × (N ≤ slot_width * max_slots) }
     ensures { ReadsByPlan plan.now bytes.now slots.old slots.new area.old area.new mark reply.old reply.new result }
 {
-    if checking::surely_fits(n, taken, bytes.len(), room.len(), area.len() - mark) {
-        let r = reading::fill(plan, n, bytes, room, area, mark);
+    let mut room: [u32; N] = [0; N];
+    let room = &mut room[..slots.len() / host::numbers::NUMBER_SIZE];
+    let codes = &plan[..fields.count];
+    let left = area.len() - mark;
+    if checking::surely_fits(codes.len(), fields.slots, bytes.len(), room.len(), left) {
+        let r = reading::fill(codes, bytes, room, area, mark);
         return host_record::read::read_back(slots, reply, room, r);
     }
-    let r = reader::passes::read(plan, n, taken, bytes, room, area, mark);
-    host_record::read::read_back(slots, reply, room, r)
-}
-
-fn read_many(
-    plan: &[u32],
-    n: usize,
-    taken: usize,
-    bytes: &[u8],
-    slots: &mut [u8],
-    area: &mut [u8],
-    mark: usize,
-    reply: &mut [u8],
-    room: &mut [u32],
-) -> u32
-    requires { PlanReady n taken plan.now bytes.now slots.old area.old mark reply.old
-        × (length slots.old ≡ length room.old * number_size) }
-    ensures { ReadsByPlan plan.now bytes.now slots.old slots.new area.old area.new mark reply.old reply.new result }
-{
-    let r = reader::passes::read(plan, n, taken, bytes, room, area, mark);
+    let r = reader::passes::read(codes, fields.slots, bytes, room, area, mark);
     host_record::read::read_back(slots, reply, room, r)
 }
 
 // What is left of a reading once the plan is judged.
 fn read_judged(
-    p: Parsed,
+    judged: Result<Fields, Refused>,
     plan: &[u32],
     bytes: &[u8],
     slots: &mut [u8],
@@ -152,44 +118,17 @@ fn read_judged(
     mark: usize,
     reply: &mut [u8],
 ) -> u32
-    requires { ReadJudged p plan.now bytes.now slots.old area.old mark reply.old }
+    requires { ReadJudged judged plan.now bytes.now slots.old area.old mark reply.old }
     ensures { ReadsByPlan plan.now bytes.now slots.old slots.new area.old area.new mark reply.old reply.new result }
 {
-    match p {
-        Parsed::Refused(why, place) => host::reply_long(
-            reply,
-            Answer::refused(why, place as u32),
-            0,
-        ),
-        Parsed::Fields(n, taken) => {
-            let k = slots.len() / host::numbers::NUMBER_SIZE;
-            if k <= host::FEW_NUMBERS {
-                let mut room: [u32; host::FEW_NUMBERS] = [0; host::FEW_NUMBERS];
-                return read_few(
-                    plan,
-                    n,
-                    taken,
-                    bytes,
-                    slots,
-                    area,
-                    mark,
-                    reply,
-                    &mut room[..k],
-                );
-            }
-            let mut room: [u32; record::MAX_NUMBERS] = [0; record::MAX_NUMBERS];
-            read_many(
-                plan,
-                n,
-                taken,
-                bytes,
-                slots,
-                area,
-                mark,
-                reply,
-                &mut room[..k],
-            )
-        }
+    let fields = match judged {
+        Ok(fields) => fields,
+        Err(e) => return host::reply_long(reply, Answer::refused(e.why, e.place as u32), 0),
+    };
+    if host::few(slots.len()) {
+        read_in::<{ host::FEW_NUMBERS }>(plan, fields, bytes, slots, area, mark, reply)
+    } else {
+        read_in::<{ record::MAX_NUMBERS }>(plan, fields, bytes, slots, area, mark, reply)
     }
 }
 
@@ -205,7 +144,7 @@ pub fn read(
     ensures { HostReadsPlan plan.now bytes.now slots.old slots.new area.old area.new mark reply.old reply.new result }
 {
     if !host::long_reply_fits(reply.len()) {
-        return 1;
+        return Refusal::BadSize.number();
     }
     if !host::slots_fit(slots.len()) {
         return host::reply_long(reply, Answer::refused(Refusal::BadSize, 0), 0);
@@ -214,6 +153,13 @@ pub fn read(
     if !checking::sizes_fit(plan.len(), numbers, bytes.len(), area.len(), mark) {
         return host::reply_long(reply, Answer::refused(Refusal::BadSize, 0), 0);
     }
-    let p = plans::judge(plan, false);
-    read_judged(p, plan, bytes, slots, area, mark, reply)
+    read_judged(
+        plans::judge(plan, false),
+        plan,
+        bytes,
+        slots,
+        area,
+        mark,
+        reply,
+    )
 }

@@ -1,14 +1,16 @@
 // Reading for a C host. A short layout and few slots get small arrays: clearing the large ones costs more than a small
 // record.
-ghost use Rattle.std.specs.Prelude.{◌≡◌, ◌*◌, ◌≤◌, length};
-ghost use Rattle.record.specs.Table.{slot_width};
+ghost use Rattle.std.specs.Prelude.{◌≡◌, ◌*◌, ◌%◌, ◌≤◌, length};
+ghost use Rattle.layout.specs.Layout.{max_layout};
+ghost use Rattle.record.specs.Table.{slot_width, max_slots};
 ghost use Rattle.host.specs.Numbers.{number_size};
-ghost use Rattle.host.specs.Host.{long_reply_size, long_reply};
+ghost use Rattle.host.specs.Host.{slot_size, long_reply_size, long_reply};
 ghost use Rattle.host_record.specs.Reading.{HostReads};
 ghost use Rattle.host_record.specs.inside.Steps.{written_back, Reads};
 
-use layout::Refusal;
-use record::{Answer, ReadAnswer};
+use host::FEW_NUMBERS;
+use layout::{MAX_LAYOUT, Refusal, SHORT_LAYOUT};
+use record::{Answer, MAX_NUMBERS, ReadAnswer};
 
 // Writes a reading's answer into the reply, and back into the slots those that an accepted reading set; the rest stays
 // as lent.
@@ -26,37 +28,23 @@ pub fn read_back(slots: &mut [u8], reply: &mut [u8], room: &[u32], r: ReadAnswer
     host::reply_long(reply, a, r.steps)
 }
 
-// Reads, quicker by a short layout, with room lent for the slots' numbers: what stands there does not count.
-fn read_short(
+// Reads, with CODES codes for the layout's fields and room for N numbers of slots: what stands there does not count.
+fn read_in<const CODES: usize, const N: usize>(
     layout: &[u8],
     bytes: &[u8],
     slots: &mut [u8],
     area: &mut [u8],
     mark: usize,
     reply: &mut [u8],
-    room: &mut [u32],
 ) -> u32
-    requires { (length reply.old ≡ long_reply_size) × (length slots.old ≡ length room.old * number_size) }
+    requires codes { (CODES ≤ max_layout) × (length layout.now ≤ max_layout → length layout.now ≤ CODES) }
+    requires numbers { (length reply.old ≡ long_reply_size) × (length slots.old % slot_size ≡ 0)
+        × (length slots.old ≤ N * number_size) × (N ≤ slot_width * max_slots) }
     ensures { Reads layout.now bytes.now slots.old slots.new area.old area.new mark reply.old reply.new result }
 {
-    let r = reader::read_short(layout, bytes, room, area, mark);
-    read_back(slots, reply, room, r)
-}
-
-// Reads, as quick by any layout, with room lent for the slots' numbers: what stands there does not count.
-fn read_long(
-    layout: &[u8],
-    bytes: &[u8],
-    slots: &mut [u8],
-    area: &mut [u8],
-    mark: usize,
-    reply: &mut [u8],
-    room: &mut [u32],
-) -> u32
-    requires { (length reply.old ≡ long_reply_size) × (length slots.old ≡ length room.old * number_size) }
-    ensures { Reads layout.now bytes.now slots.old slots.new area.old area.new mark reply.old reply.new result }
-{
-    let r = reader::read(layout, bytes, room, area, mark);
+    let mut room: [u32; N] = [0; N];
+    let room = &mut room[..slots.len() / host::numbers::NUMBER_SIZE];
+    let r = reader::read_by::<CODES>(layout, bytes, room, area, mark);
     read_back(slots, reply, room, r)
 }
 
@@ -72,16 +60,13 @@ pub fn read(
     ensures { HostReads layout.now bytes.now slots.old slots.new area.old area.new mark reply.old reply.new result }
 {
     if !host::long_reply_fits(reply.len()) {
-        return 1;
+        return Refusal::BadSize.number();
     }
     if !host::slots_fit(slots.len()) {
         return host::reply_long(reply, Answer::refused(Refusal::BadSize, 0), 0);
     }
-    let n = slots.len() / host::numbers::NUMBER_SIZE;
-    if host::small(layout.len(), n) {
-        let mut room: [u32; host::FEW_NUMBERS] = [0; host::FEW_NUMBERS];
-        return read_short(layout, bytes, slots, area, mark, reply, &mut room[..n]);
+    if layout.len() <= SHORT_LAYOUT && host::few(slots.len()) {
+        return read_in::<SHORT_LAYOUT, FEW_NUMBERS>(layout, bytes, slots, area, mark, reply);
     }
-    let mut room: [u32; record::MAX_NUMBERS] = [0; record::MAX_NUMBERS];
-    read_long(layout, bytes, slots, area, mark, reply, &mut room[..n])
+    read_in::<MAX_LAYOUT, MAX_NUMBERS>(layout, bytes, slots, area, mark, reply)
 }

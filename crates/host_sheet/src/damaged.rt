@@ -1,29 +1,29 @@
 // Rescuing a damaged sheet for a C host.
-ghost use Rattle.std.specs.Prelude.{◌≡◌, ◌*◌, eqb, length};
+ghost use Rattle.std.specs.Prelude.{◌≡◌, ◌*◌, length};
 ghost use Rattle.host.specs.Numbers.{number_size};
 ghost use Rattle.host_sheet.specs.Rescuing.{rescue_reply_size, rescue_reply, RescueServed, HostRescues};
 
 use layout::Refusal;
+use record::Answer;
 use rescue::fill::Rescued;
-
-// The bytes of a reply of four numbers.
-const RESCUE_REPLY_SIZE: usize = host::numbers::NUMBER_SIZE * 4;
-
-// Whether a reply of `size` bytes is one of a rescue.
-fn reply_fits(size: usize) -> bool
-    ensures { result ≡ eqb size rescue_reply_size }
-{
-    size == RESCUE_REPLY_SIZE
-}
 
 // Writes an answer into the reply, and hands back its number.
 fn reply_with(reply: &mut [u8], a: Rescued) -> u32
     requires { length reply.old ≡ rescue_reply_size }
     ensures { (result ≡ a.number) × (reply.new ≡ rescue_reply a) }
 {
-    let four: [u32; 4] = [a.number, a.first, a.second, a.third];
-    host::numbers::encode_run(reply, &four, 0, 4);
-    a.number
+    let Rescued {
+        number,
+        first,
+        second,
+        third,
+    } = a;
+    let answer = Answer {
+        number,
+        first,
+        second,
+    };
+    host::reply_long(reply, answer, third)
 }
 
 // Rescues, with room lent for the slots' numbers: what stands there does not count. Only the slots of the legs are
@@ -59,13 +59,13 @@ pub fn rescue(
 ) -> u32
     ensures { HostRescues sheet.now legs slots.old slots.new area.old area.new mark reply.old reply.new result }
 {
-    if !reply_fits(reply.len()) {
-        return 1;
+    if !host::long_reply_fits(reply.len()) {
+        return Refusal::BadSize.number();
     }
     if !host::slots_fit(slots.len()) {
         return reply_with(reply, Rescued::refused(Refusal::BadSize));
     }
     let n = slots.len() / host::numbers::NUMBER_SIZE;
-    let mut room: [u32; record::MAX_NUMBERS] = [0; record::MAX_NUMBERS];
+    let mut room = [0; record::MAX_NUMBERS];
     rescue_by(sheet, legs, slots, area, mark, reply, &mut room[..n])
 }

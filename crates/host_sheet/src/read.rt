@@ -33,12 +33,12 @@ pub fn read(sheet: &[u8], slots: &mut [u8], area: &mut [u8], mark: usize, reply:
     ensures { HostReadsSheet sheet.now slots.old slots.new area.old area.new mark reply.old reply.new result }
 {
     if !host::reply_fits(reply.len()) {
-        return 1;
+        return Refusal::BadSize.number();
     }
     if !host::slots_fit(slots.len()) {
         return host::reply_with(reply, Answer::refused(Refusal::BadSize, 0));
     }
     let n = slots.len() / host::numbers::NUMBER_SIZE;
-    let mut room: [u32; record::MAX_NUMBERS] = [0; record::MAX_NUMBERS];
+    let mut room = [0; record::MAX_NUMBERS];
     read_by(sheet, slots, area, mark, reply, &mut room[..n])
 }

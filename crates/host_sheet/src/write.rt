@@ -24,12 +24,12 @@ pub fn write(slots: &[u8], area: &[u8], sheet: &mut [u8], reply: &mut [u8]) -> u
     ensures { HostWritesSheet slots.now area.now sheet.old sheet.new reply.old reply.new result }
 {
     if !host::reply_fits(reply.len()) {
-        return 1;
+        return Refusal::BadSize.number();
     }
     if !host::slots_fit(slots.len()) {
         return host::reply_with(reply, Answer::refused(Refusal::BadSize, 0));
     }
     let n = slots.len() / host::numbers::NUMBER_SIZE;
-    let mut room: [u32; record::MAX_NUMBERS] = [0; record::MAX_NUMBERS];
+    let mut room = [0; record::MAX_NUMBERS];
     write_by(slots, area, sheet, reply, &mut room[..n])
 }

@@ -1,21 +1,16 @@
 -- Laws of bytes in their order or turned round, and of runs of bytes, one after the other.
-use Prim.Native.Nat.{ℕ, zero, suc, ◌+◌, ◌-◌, ◌*◌, ◌≤◌, ◌<◌}
-use native.Mathlib.Nat.{add-zero, suc-mul, zero-mul, add-sub_cancel}
+use Prim.Native.Nat.{ℕ, zero, suc, ◌+◌, ◌*◌, ◌≤◌, ◌<◌}
+use native.Mathlib.Nat.{suc-mul, zero-mul, add-sub_cancel}
 use native.Mathlib.Omega.{arith}
 use mathlib.Core.Path.{◌≡◌, refl, sym, ap, ◌∙◌}
 use mathlib.Core.Bool.{Bool, true, false}
-use mathlib.Core.List.{List, ◌++◌, map, map-id, map-map, append_assoc, append-nil}
-use lib.ListN.{length, take, drop, get_or}
+use mathlib.Core.List.{List, map, map-id, map-map}
+use lib.ListN.{length, take, drop}
 use lib.Seq.{take-take, drop-drop}
 use Rattle.record.specs.Bytes.{part, store_at, pieces, join, ordered}
 use Rattle.record.proofs.Bytes.{length-ordered, join-pieces, drop-take}
-use Rattle.record.proofs.Stores.{runs, runs-first, length_runs, length_part, get_d_reverse, Wrote, wrote-next, store-next, length-store_at}
+use Rattle.record.proofs.Stores.{runs, runs-first, length_runs, length_part, Wrote, wrote-next}
 use Rattle.integers.specs.inside.Eights.{eights}
-
--- ---- bytes
-
-pub turned-at : (xs : List ℕ) (n j : ℕ) → j < n → length xs ≡ n → get_or (ordered true xs) j 0 ≡ get_or xs (n - 1 - j) 0
-turned-at xs n j h e = rw (← e) (get_d_reverse xs j (omega arith))
 
 -- ---- runs
 
@@ -23,11 +18,6 @@ pub runs_same : (n : ℕ) (f g : ℕ → List ℕ) → ((i : ℕ) → i < n → 
 unfolding runs
 runs_same zero f g h = refl
 runs_same (suc n) f g h = rw (runs_same n f g (λ i l. h i (omega arith)), h n (omega arith))
-
-runs-add : (n m : ℕ) (f : ℕ → List ℕ) → runs (n + m) f ≡ runs n f ++ runs m (λ i. f (n + i))
-unfolding runs
-runs-add n zero f = rw add-zero (sym (append-nil (runs n f)))
-runs-add n (suc m) f = let on : n + suc m ≡ suc (n + m) = omega arith in rw (on, runs-add n m f) (append_assoc (runs n f) (runs m (λ i. f (n + i))) (f (n + m)))
 
 -- what is made of the pieces of a run, one after the other
 module _ (f : List ℕ → List ℕ) (k : ℕ) (xs : List ℕ) where
@@ -74,21 +64,9 @@ eights-kept xs start n inside =
     let kept : map (ordered false) (pieces 8 n (drop start xs)) ≡ pieces 8 n (drop start xs) = map-id (pieces 8 n (drop start xs)) in
     sym (rw (kept, ← pieces-take 8 n (drop start xs)) (join-pieces 8 n (part xs start (n * 8)) (length_part (n * 8) start xs inside)))
 
--- one more run stored after those before it; and m more
+-- one more run stored after those before it
 pub eight-more : {d₀ d d' : List ℕ} {at i n : ℕ} (xs : List ℕ) (start : ℕ) → Wrote d₀ at (eight_at true xs start) d i → i < n → at + n * 8 ≤ length d₀ → start + n * 8 ≤ length xs
     → d' ≡ store_at d (at + i * 8) (eight_at true xs start i) → Wrote d₀ at (eight_at true xs start) d' (i + 1)
 eight-more {d₀} {d} {d'} {at} {i} {n} xs start w h room inside e =
     let front : length (runs i (eight_at true xs start)) ≡ i * 8 = length-eights true xs start n i inside (omega arith) in
     wrote-next {to = at + i * 8} w (omega arith) (omega (arith, length-eight_at true xs start n i inside h)) e
-
-pub eights-more : {d₀ d d' : List ℕ} {at i n : ℕ} (xs : List ℕ) (start m : ℕ) → Wrote d₀ at (eight_at true xs start) d i → i + m ≤ n → at + n * 8 ≤ length d₀ → start + n * 8 ≤ length xs
-    → d' ≡ store_at d (at + i * 8) (eights true m (drop (start + i * 8) xs)) → Wrote d₀ at (eight_at true xs start) d' (i + m)
-eights-more {d₀} {d} {d'} {at} {i} {n} xs start m w h room inside e =
-    let f : ℕ → List ℕ = eight_at true xs start in
-    let here : (k : ℕ) → k < m → eight_at true xs (start + i * 8) k ≡ f (i + k) = λ k _. let p : start + i * 8 + k * 8 ≡ start + (i + k) * 8 = omega arith in rw p in
-    let some : eights true m (drop (start + i * 8) xs) ≡ runs m (λ k. f (i + k)) = eights-runs true xs (start + i * 8) m ∙ runs_same m _ _ here in
-    let front : length (runs i f) ≡ i * 8 = length-eights true xs start n i inside (omega arith) in
-    let all : length (runs (i + m) f) ≡ (i + m) * 8 = length-eights true xs start n (i + m) inside h in
-    let is : d' ≡ store_at d₀ at (runs (i + m) f) =
-    store-next {to = at + i * 8} d₀ at (runs i f) (runs m (λ k. f (i + k))) w.is (omega arith) (e ∙ ap (store_at d (at + i * 8)) some) (runs-add i m f) (omega arith) in
-    record { long = ap length is ∙ length-store_at d₀ at (runs (i + m) f) (omega arith); is = is }

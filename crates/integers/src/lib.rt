@@ -1,9 +1,10 @@
-// What storing and reading the integers of `c s S i I w W` share: bytes copied in their order or turned round, two and
-// four bytes as a number, and runs of eight.
+// What storing and reading the integers of `c s S i I w W` share: bytes copied in their order or turned round, and runs
+// of eight. Runs go whole, with a place in each, since contracts say what the rest of a run holds; and loops go by
+// index, since two runs go at two paces.
 #![tactic(auto)]
 
-ghost use Rattle.std.specs.Prelude.{◌≡◌, true, List, ℕ, ◌+◌, ◌*◌, ◌≤◌, ◌<◌, length, get_or, drop};
-ghost use Rattle.record.specs.Bytes.{part, store_at, digits, ordered};
+ghost use Rattle.std.specs.Prelude.{◌≡◌, true, ◌+◌, ◌*◌, ◌^◌, ◌≤◌, ◌<◌, length, drop};
+ghost use Rattle.record.specs.Bytes.{part, store_at, number, ordered};
 ghost use Rattle.integers.specs.inside.Eights.{eights};
 
 use byte_runs::big_endian;
@@ -13,116 +14,26 @@ pub mod store;
 // Integers read.
 pub mod load;
 
-// Where byte j of a run of n stands before the run is turned round, or not.
-pub fn place(turn: bool, n: usize, j: usize) -> usize
-    requires { j < n }
-    ensures { (result < n) × ((xs : List ℕ) → length xs ≡ n → get_or (ordered turn xs) j 0 ≡ get_or xs result 0) }
+// The number that w bytes make, the low one first or, where `big` says so, last.
+fn number_at(bytes: &[u8], at: usize, w: usize, big: bool) -> u64
+    requires { (w ≤ 8) × (at + w ≤ length bytes.now) }
+    ensures { (result ≡ number 256 (ordered big (part bytes.now at w))) × (result < 256 ^ w) }
 {
-    if turn { n - 1 - j } else { j }
+    if big {
+        return big_endian::number_at(bytes, at, w);
+    }
+    let mut eight = [0; record::INTEGER_SIZE];
+    eight[..w].copy_from_slice(&bytes[at..at + w]);
+    u64::from_le_bytes(eight)
 }
 
-// Copies n bytes, turned round or not.
-pub fn copy_ordered(out: &mut [u8], at: usize, from: &[u8], start: usize, n: usize, turn: bool)
-    requires { (at + n ≤ length out.old) × (start + n ≤ length from.now) }
+// Copies n bytes, turned round or not: as a number, so that the compiler loads and stores them at once.
+fn copy_ordered(out: &mut [u8], at: usize, from: &[u8], start: usize, n: usize, turn: bool)
+    requires { (n ≤ 8) × (at + n ≤ length out.old) × (start + n ≤ length from.now) }
     ensures { out.new ≡ store_at out.old at (ordered turn (part from.now start n)) }
 {
-    let mut j = 0;
-    while j < n {
-        let p = place(turn, n, j);
-        out[at + j] = from[start + p];
-        j += 1;
-    }
-}
-
-// Two bytes as a number, the first in the low place. In a function of their own the compiler loads them at once.
-pub fn pair_at(from: &[u8], at: usize) -> u16
-    requires { at + 2 ≤ length from.now }
-    ensures { digits 256 2 result ≡ part from.now at 2 }
-{
-    from[at] as u16 + 256 * from[at + 1] as u16
-}
-
-// Stores the two bytes of a number, the low one first, turned round or not.
-pub fn put_pair(out: &mut [u8], at: usize, v: u16, turn: bool)
-    requires { at + 2 ≤ length out.old }
-    ensures { out.new ≡ store_at out.old at (ordered turn (digits 256 2 v)) }
-{
-    if turn {
-        out[at + 1] = (v % 256) as u8;
-        out[at] = (v / 256 % 256) as u8;
-        return;
-    }
-    out[at] = (v % 256) as u8;
-    out[at + 1] = (v / 256 % 256) as u8;
-}
-
-// Four bytes turned round or not. Of the turning the compiler makes one instruction.
-pub fn turn_four(x: u32, turn: bool) -> u32
-    ensures { digits 256 4 result ≡ ordered turn (digits 256 4 x) }
-{
-    if turn {
-        let x1 = x / 256;
-        let x2 = x1 / 256;
-        let x3 = x2 / 256;
-        return x % 256 * 16777216 + x1 % 256 * 65536 + x2 % 256 * 256 + x3 % 256;
-    }
-    x
-}
-
-// Four bytes as a number, the first in the lowest place, or in the highest where they are turned round.
-pub fn four_at(from: &[u8], at: usize, turn: bool) -> u32
-    requires { at + 4 ≤ length from.now }
-    ensures { digits 256 4 result ≡ ordered turn (part from.now at 4) }
-{
-    turn_four(byte_runs::four_at(from, at, false) as u32, turn)
-}
-
-// Stores the four bytes of a number, the lowest first. Written out like this they become one store.
-pub fn put_four(out: &mut [u8], at: usize, x: u32)
-    requires { at + 4 ≤ length out.old }
-    ensures { out.new ≡ store_at out.old at (digits 256 4 x) }
-{
-    out[at] = (x % 256) as u8;
-    let x1 = x / 256;
-    out[at + 1] = (x1 % 256) as u8;
-    let x2 = x1 / 256;
-    out[at + 2] = (x2 % 256) as u8;
-    let x3 = x2 / 256;
-    out[at + 3] = (x3 % 256) as u8;
-}
-
-// Stores the eight bytes of a number, the lowest first. Written out like this they become one store.
-pub fn put_low_first(out: &mut [u8], at: usize, x: u64)
-    requires { at + 8 ≤ length out.old }
-    ensures { out.new ≡ store_at out.old at (digits 256 8 x) }
-{
-    out[at] = (x % 256) as u8;
-    let x1 = x / 256;
-    out[at + 1] = (x1 % 256) as u8;
-    let x2 = x1 / 256;
-    out[at + 2] = (x2 % 256) as u8;
-    let x3 = x2 / 256;
-    out[at + 3] = (x3 % 256) as u8;
-    let x4 = x3 / 256;
-    out[at + 4] = (x4 % 256) as u8;
-    let x5 = x4 / 256;
-    out[at + 5] = (x5 % 256) as u8;
-    let x6 = x5 / 256;
-    out[at + 6] = (x6 % 256) as u8;
-    let x7 = x6 / 256;
-    out[at + 7] = (x7 % 256) as u8;
-}
-
-// Copies eight bytes, turned round: the highest byte of their number is the last one.
-fn turn_eight(out: &mut [u8], at: usize, from: &[u8], start: usize)
-    requires { (at + 8 ≤ length out.old) × (start + 8 ≤ length from.now) }
-    ensures { out.new ≡ store_at out.old at (ordered true (part from.now start 8)) }
-{
-    put_low_first(
-        out,
-        at,
-        big_endian::number_at(from, start, record::INTEGER_SIZE),
-    );
+    let x = number_at(from, start, n, turn);
+    out[at..at + n].copy_from_slice(&x.to_le_bytes()[..n]);
 }
 
 // Copies n runs of eight bytes, each turned round.
@@ -130,24 +41,9 @@ fn turn_each(out: &mut [u8], at: usize, from: &[u8], start: usize, n: usize)
     requires { (at + n * 8 ≤ length out.old) × (start + n * 8 ≤ length from.now) }
     ensures { out.new ≡ store_at out.old at (eights true n (drop start from.now)) }
 {
-    let mut i = 0;
-    while i < n {
-        turn_eight(out, at + i * 8, from, start + i * 8);
-        i += 1;
+    for i in 0..n {
+        copy_ordered(out, at + i * 8, from, start + i * 8, 8, true);
     }
-}
-
-// Copies n runs of eight bytes, each turned round, four runs a turn: of a known count the compiler makes straight code.
-fn turn_eights(out: &mut [u8], at: usize, from: &[u8], start: usize, n: usize)
-    requires { (at + n * 8 ≤ length out.old) × (start + n * 8 ≤ length from.now) }
-    ensures { out.new ≡ store_at out.old at (eights true n (drop start from.now)) }
-{
-    let mut i = 0;
-    while 4 <= n - i {
-        turn_each(out, at + i * 8, from, start + i * 8, 4);
-        i += 4;
-    }
-    turn_each(out, at + i * 8, from, start + i * 8, n - i);
 }
 
 // Copies n runs of eight bytes, each turned round or not.
@@ -156,7 +52,7 @@ pub fn copy_eights(out: &mut [u8], at: usize, from: &[u8], start: usize, n: usiz
     ensures { out.new ≡ store_at out.old at (eights turn n (drop start from.now)) }
 {
     if turn {
-        return turn_eights(out, at, from, start, n);
+        return turn_each(out, at, from, start, n);
     }
     byte_runs::copy(out, at, from, start, n * 8)
 }

@@ -1,24 +1,10 @@
 // `c s S i I w W`, stored: from integers of eight big-endian bytes in the area into fields of 1 to 8 bytes. A field's
 // bytes are the last ones of an item, in their order where the field is big-endian, else turned round.
-ghost use Rattle.std.specs.Prelude.{◌≡◌, not, ◌+◌, ◌-◌, ◌*◌, ◌≤◌, length, drop};
+ghost use Rattle.std.specs.Prelude.{◌≡◌, ◌+◌, ◌*◌, ◌≤◌, length, drop};
 ghost use Rattle.layout.specs.declared.Shape.TheVariants.{Integers};
-ghost use Rattle.record.specs.Bytes.{part, store_at, ordered};
+ghost use Rattle.record.specs.Bytes.{store_at};
 ghost use Rattle.record.specs.Table.{integers_in};
 ghost use Rattle.record.specs.Packing.{stored};
-
-// Stores the w low-order bytes of an integer of the area: two or four as a number, others one by one.
-fn store_item(out: &mut [u8], at: usize, area: &[u8], start: usize, w: usize, big: bool)
-    requires { (w ≤ 8) × (at + w ≤ length out.old) × (start + 8 ≤ length area.now) }
-    ensures { out.new ≡ store_at out.old at (ordered (not big) (part area.now (start + (8 - w)) w)) }
-{
-    if w == 2 {
-        return super::put_pair(out, at, super::pair_at(area, start + 6), !big);
-    }
-    if w == 4 {
-        return super::put_four(out, at, super::four_at(area, start + 4, !big));
-    }
-    super::copy_ordered(out, at, area, start + (8 - w), w, !big)
-}
 
 // Stores the w low-order bytes of each of n integers of the area, one after the other. Callers have a constant for w,
 // so that the turn of each width becomes a loop of its own.
@@ -27,10 +13,8 @@ fn store_each(out: &mut [u8], at: usize, area: &[u8], start: usize, n: usize, w:
     ensures { out.new
         ≡ store_at out.old at (stored (Integers w big) n (integers_in n (drop start area.now))) }
 {
-    let mut i = 0;
-    while i < n {
-        store_item(out, at + i * w, area, start + i * 8, w, big);
-        i += 1;
+    for i in 0..n {
+        super::copy_ordered(out, at + i * w, area, start + i * 8 + (8 - w), w, !big);
     }
 }
 

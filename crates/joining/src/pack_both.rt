@@ -1,5 +1,5 @@
 // A record of two templates, packed one after the other into one buffer.
-// What is accepted keeps M-113, whose claim is in specs/Claim.antt and whose proof is in proofs/.
+// The claim about what is accepted is in specs/Claim.antt, and its proof in proofs/.
 ghost use Rattle.std.specs.Prelude.{◌≡◌, length};
 ghost use Rattle.joining.specs.Calls.{PacksBoth};
 
@@ -21,17 +21,15 @@ fn both_by(
     ensures { PacksBoth first.now first_slots.now second.now second_slots.now area.now out.old out.new result }
 {
     let a = packer::pack(first, first_slots, area, room);
-    let number = a.number;
-    if number != 0 {
+    if a.number != 0 {
         return a;
     }
     let n = a.first as usize;
     let b = packer::pack(second, second_slots, area, &mut out[n..]);
-    let refused = b.number;
-    if refused != 0 {
+    if b.number != 0 {
         return b;
     }
-    byte_runs::copy(out, 0, room, 0, n);
+    out[..n].copy_from_slice(&room[..n]);
     Answer::accepted(a.first + b.first, 0)
 }
 

@@ -7,12 +7,13 @@ use mathlib.Core.Path.{◌≡◌, refl, sym, ap, ◌∙◌}
 use mathlib.Core.Bool.{Bool, true, false}
 use mathlib.Core.List.{List, [], ◌∷◌, ◌++◌, map, map-append}
 use lib.ListN.{length, get_or, drop, take, set, length-map, length-take, drop_of_length-le, get_or-map}
-use lib.Seq.{drop-cons, get_or-take, take-suc-set, length-take-le}
+use lib.Seq.{drop-cons, get_or-take, take-suc-set, length-take-le, take-length}
 use Rattle.layout.specs.declared.Role.TheVariants.{Data}
 use Rattle.layout.specs.declared.Field.{Field}
-use Rattle.layout.specs.declared.Refusal.{Refusal}
-use Rattle.layout.specs.declared.Parsed.{Parsed}
-use Rattle.layout.specs.declared.Parsed.TheVariants.{Fields, Refused}
+use Rattle.layout.specs.declared.Fields.{Fields}
+use Rattle.layout.specs.declared.Refused.{Refused}
+use Rattle.std.specs.declared.result.Result as Std
+use Rattle.std.specs.declared.result.Result.TheVariants.{Ok, Err}
 use Rattle.layout.specs.Refusals.{Result, ok, refused}
 use Rattle.layout.specs.Layout.{max_layout, takes_slot, to_nat, slot_count, slots_taken}
 use Rattle.layout.specs.Codes.{last_data, count_from, field_of, code_for, flag_unit, count_unit}
@@ -23,6 +24,11 @@ use Rattle.layout.proofs.Numbered.{data-role, move-role, slot-numbered}
 pub decoded-length : (n : ℕ) (ws : List ℕ) → n ≤ length ws → length (decoded n ws) ≡ n
 unfolding decoded
 decoded-length n ws h = length-map (take n ws) field_of ∙ length-take-le n ws h
+
+-- the codes at the front hold their fields alone
+pub decoded-front : (n : ℕ) (ws : List ℕ) → decoded n ws ≡ decoded (length (take n ws)) (take n ws)
+unfolding decoded
+decoded-front n ws = ap (map field_of) (sym (take-length (take n ws)))
 
 -- a code more is a field more
 pub decoded-more : (n w : ℕ) (ws : List ℕ) → n < length ws → decoded (n + 1) (set ws n w) ≡ decoded n ws ++ (field_of w ∷ [])
@@ -104,24 +110,34 @@ pub record Learnt (o : Result (List Field)) (n slots : ℕ) (ws : List ℕ) : Ty
   pub few : n ≤ length ws
   pub room : length ws ≤ max_layout
 
-pub parsed-fields : (o : Result (List Field)) (r : Parsed) (n slots : ℕ) (ws : List ℕ) → Parses o r ws → r ≡ Fields n slots → Learnt o n slots ws
+pub parsed-fields : (o : Result (List Field)) (r : Std.Result Fields Refused) (f : Fields) (ws : List ℕ) → Parses o r ws → r ≡ Ok f → Learnt o f.count f.slots ws
 unfolding decoded
-parsed-fields (ok fs) r n slots ws p e =
-    let l : n ≡ length fs = cc p.answer in
-    let k : slots ≡ slot_count fs = cc p.answer in
-    let d : decoded n ws ≡ fs = ap (λ (i : ℕ). decoded i ws) l ∙ p.codes in
-    let m : min n (length ws) ≡ n = sym (length-map (take n ws) field_of ∙ length-take n ws) ∙ ap length d ∙ sym l in
+parsed-fields (ok fs) r f ws p e =
+    let same : f ≡ record { count = length fs; slots = slot_count fs } = cc p.answer in
+    let l : f.count ≡ length fs = ap (λ (g : Fields). g.count) same in
+    let k : f.slots ≡ slot_count fs = ap (λ (g : Fields). g.slots) same in
+    let d : decoded f.count ws ≡ fs = ap (λ (i : ℕ). decoded i ws) l ∙ p.codes in
+    let m : min f.count (length ws) ≡ f.count = sym (length-map (take f.count ws) field_of ∙ length-take f.count ws) ∙ ap length d ∙ sym l in
     record { fields = ap ok (sym d); taken = k ∙ ap slot_count (sym d); few = omega arith; room = p.room }
-parsed-fields (refused why p) r n slots ws q e = let z : ◌≡◌ {A = ℕ} 0 1 = cc q.answer in absurd (omega arith)
+parsed-fields (refused why p) r f ws q e = let z : ◌≡◌ {A = ℕ} 0 1 = cc q.answer in absurd (omega arith)
+
+-- the codes at the front hold the fields by themselves
+pub learnt-front : {o : Result (List Field)} {n taken : ℕ} {ws : List ℕ} → Learnt o n taken ws → Learnt o (length (take n ws)) taken (take n ws)
+learnt-front {n = n} {ws = ws} l =
+    let same = decoded-front n ws in
+    record { fields = l.fields ∙ ap ok same; taken = l.taken ∙ ap slot_count same; few = omega arith; room = omega (arith, length-take n ws, l.room) }
 
 -- and that the codes are those of the fields
-pub parsed-plan : (o : Result (List Field)) (r : Parsed) (n slots : ℕ) (ws : List ℕ) → Parses o r ws → r ≡ Fields n slots → map code_for (decoded n ws) ≡ take n ws
-parsed-plan (ok fs) r n slots ws p e =
-    let l : n ≡ length fs = cc p.answer in
-    let d : decoded n ws ≡ fs = ap (λ (i : ℕ). decoded i ws) l ∙ p.codes in
+pub parsed-plan : (o : Result (List Field)) (r : Std.Result Fields Refused) (f : Fields) (ws : List ℕ) → Parses o r ws → r ≡ Ok f → map code_for (decoded f.count ws) ≡ take f.count ws
+parsed-plan (ok fs) r f ws p e =
+    let same : f ≡ record { count = length fs; slots = slot_count fs } = cc p.answer in
+    let l : f.count ≡ length fs = ap (λ (g : Fields). g.count) same in
+    let d : decoded f.count ws ≡ fs = ap (λ (i : ℕ). decoded i ws) l ∙ p.codes in
     rw (d, l) p.plan
-parsed-plan (refused why p) r n slots ws q e = let z : ◌≡◌ {A = ℕ} 0 1 = cc q.answer in absurd (omega arith)
+parsed-plan (refused why p) r f ws q e = let z : ◌≡◌ {A = ℕ} 0 1 = cc q.answer in absurd (omega arith)
 
-pub parsed-refused : (o : Result (List Field)) (r : Parsed) (why : Refusal) (p : ℕ) (ws : List ℕ) → Parses o r ws → r ≡ Refused why p → o ≡ refused why p
-parsed-refused (ok fs) r why p ws q e = let z : ◌≡◌ {A = ℕ} 0 1 = cc q.answer in absurd (omega arith)
-parsed-refused (refused why' p') r why p ws q e = cc q.answer
+pub parsed-refused : (o : Result (List Field)) (r : Std.Result Fields Refused) (e : Refused) (ws : List ℕ) → Parses o r ws → r ≡ Err e → o ≡ refused e.why e.place
+parsed-refused (ok fs) r e ws q h = let z : ◌≡◌ {A = ℕ} 0 1 = cc q.answer in absurd (omega arith)
+parsed-refused (refused why p) r e ws q h =
+    let same : e ≡ record { why = why; place = p } = cc q.answer in
+    rw same refl

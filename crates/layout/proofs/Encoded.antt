@@ -6,8 +6,9 @@ use mathlib.Core.Path.{◌≡◌, refl}
 use mathlib.Core.Bool.{Bool, true, false, ◌&&◌}
 use borrow.Author.Tests.{eqb-true}
 use lib.Dec.{eqb}
-use Rattle.layout.specs.declared.Typed.{Typed}
-use Rattle.layout.specs.declared.Typed.TheVariants.{Known, Unknown}
+use Rattle.layout.specs.declared.Role.{Role}
+use Rattle.std.specs.declared.option.Option.{Option}
+use Rattle.std.specs.declared.option.Option.TheVariants.{Some, None}
 use Rattle.layout.specs.Codes.{last_type, type_numbered, known, count_from, type_number, count_number}
 use Rattle.layout.specs.inside.Parsing.{HasType}
 
@@ -30,17 +31,17 @@ below p (suc n) h d l = elim (dec_lt d n) [
 
 -- ---- the numbers of types
 
-abbrev agrees : Typed → ℕ → Bool
-agrees (Known k) d = eqb (type_number k) d
-agrees Unknown d = true
+abbrev agrees : Option Role → ℕ → Bool
+agrees (Some k) d = eqb (type_number k) d
+agrees None d = true
 
 all-agree : all_below (λ d. agrees (type_numbered d) d) (suc last_type) ≡ true
 unfolding type_numbered
 all-agree = refl
 
-agrees-known : (t : Typed) (d : ℕ) → agrees t d ≡ true → t ≡ Known (known t) → type_number (known t) ≡ d
-agrees-known (Known k) d h e = eqb-true (type_number k) d h
-agrees-known Unknown d h e = absurd (let z : ◌≡◌ {A = ℕ} 0 1 = cc in omega arith)
+agrees-known : (t : Option Role) (d : ℕ) → agrees t d ≡ true → t ≡ Some (known t) → type_number (known t) ≡ d
+agrees-known (Some k) d h e = eqb-true (type_number k) d h
+agrees-known None d h e = absurd (let z : ◌≡◌ {A = ℕ} 0 1 = cc in omega arith)
 
 pub number-back : (d : ℕ) → d ≤ last_type → HasType d → type_number (known (type_numbered d)) ≡ d
 number-back d l h = agrees-known (type_numbered d) d (below (λ d. agrees (type_numbered d) d) (suc last_type) all-agree d (omega arith)) (h l)

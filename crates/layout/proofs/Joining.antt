@@ -1,6 +1,8 @@
 -- Two texts joined: the second, accepted by itself, begins with nothing that could continue the last field of the
 -- first, and its fields are the same wherever it stands. So the joined text has the fields of the first and then those
 -- of the second.
+use Rattle.std.specs.declared.option.Option.{Option}
+use Rattle.std.specs.declared.option.Option.TheVariants.{Some, None}
 use Rattle.std.specs.Prelude.{if◌then◌else◌}
 use Prim.Native.Nat.{ℕ, zero, suc, ◌+◌, ◌-◌, ◌*◌, ◌/◌, ◌≤◌}
 use native.Mathlib.Nat.{not-suc-le-zero, le_of_suc-le-suc, lt_of_not-le}
@@ -15,8 +17,6 @@ use lib.ListN.{length, drop, length-drop}
 use lib.Seq.{drop-append-le}
 use Rattle.layout.specs.declared.Role.{Role}
 use Rattle.layout.specs.declared.Field.{Field}
-use Rattle.layout.specs.declared.Typed.{Typed}
-use Rattle.layout.specs.declared.Typed.TheVariants.{Known, Unknown}
 use Rattle.layout.specs.declared.Refusal.TheVariants.{BadType, BadCount, BadMove}
 use Rattle.layout.specs.Refusals.{Result, ok, refused, ◌>>=◌, demand}
 use Rattle.layout.specs.Layout.{is_decimal, digit_run, decimal, type_of, flagged, count_of, count_length, in_limit, has_meaning, to_nat, Step, space, field, bad, step_from, field_after, field_at, step_of, step_extra, step_then, fields_from, fields_of}
@@ -31,7 +31,7 @@ Apart [] = Unit {0}
 Apart (c ∷ cs) = (eqb c 117 ≡ false) × (eqb c 42 ≡ false) × (is_decimal c ≡ false)
 
 no-type {ℓ} : {X : Type ℓ} (packing : Bool) (at c : ℕ) (cs : List ℕ) (fs : List Field) → fields_from packing at 0 (c ∷ cs) ≡ ok fs
-    → eqb c 32 ≡ false → type_of c ≡ Unknown → X
+    → eqb c 32 ≡ false → type_of c ≡ None → X
 unfolding fields_from step_of field_at
 no-type packing at c cs fs e h k = no-refusal (rw (h, k, field_at) at e)
 
@@ -92,10 +92,10 @@ at_same : (packing : Bool) (at c : ℕ) (cs ys : List ℕ) → Apart ys → fiel
 unfolding field_at
 at_same packing at c cs ys h = by-type (type_of c)
   where
-    by-type : (t : Typed) → ◌≡◌ {A = Result (Field × ℕ)} (elim t [ Known k ↦ field_after packing at k (cs ++ ys) | Unknown ↦ refused BadType at ])
-        (elim t [ Known k ↦ field_after packing at k cs | Unknown ↦ refused BadType at ])
-    by-type (Known k) = after_same packing at k cs ys h
-    by-type Unknown = refl
+    by-type : (t : Option Role) → ◌≡◌ {A = Result (Field × ℕ)} (elim t [ Some k ↦ field_after packing at k (cs ++ ys) | None ↦ refused BadType at ])
+        (elim t [ Some k ↦ field_after packing at k cs | None ↦ refused BadType at ])
+    by-type (Some k) = after_same packing at k cs ys h
+    by-type None = refl
 
 step_same : (packing : Bool) (at c : ℕ) (cs ys : List ℕ) → Apart ys → step_of packing at c (cs ++ ys) ≡ step_of packing at c cs
 unfolding step_of
@@ -109,15 +109,15 @@ inside-end p q false m f n size h = omega arith
 inside-end p q true false f n size h = omega arith
 inside-end p q true true f n size h = h
 
-inside-typed : (packing : Bool) (at : ℕ) (cs : List ℕ) (t : Typed)
-    → step_extra (step_from (elim t [ Known k ↦ field_after packing at k cs | Unknown ↦ refused BadType at ])) ≤ length cs
+inside-typed : (packing : Bool) (at : ℕ) (cs : List ℕ) (t : Option Role)
+    → step_extra (step_from (elim t [ Some k ↦ field_after packing at k cs | None ↦ refused BadType at ])) ≤ length cs
 unfolding field_after
-inside-typed packing at cs (Known k) =
+inside-typed packing at cs (Some k) =
     let u = flagged cs in
     let rest : List ℕ = drop (to_nat u) cs in
     inside-end (suc at + to_nat u) at (in_limit (count_of rest)) (has_meaning packing k (count_of rest)) _ (to_nat u + count_length rest) (length cs)
     (omega (arith, flag-within cs, count-within rest, length-drop (to_nat u) cs))
-inside-typed packing at cs Unknown = omega arith
+inside-typed packing at cs None = omega arith
 
 inside : (packing : Bool) (at c : ℕ) (cs : List ℕ) → step_extra (step_of packing at c cs) ≤ length cs
 unfolding step_of field_at
@@ -141,15 +141,15 @@ same_end p q p' q' false m f n = tt
 same_end p q p' q' true false f n = tt
 same_end p q p' q' true true f n = refl
 
-same_typed : (packing : Bool) (at at' : ℕ) (cs : List ℕ) (t : Typed)
-    → Same (step_from (elim t [ Known k ↦ field_after packing at k cs | Unknown ↦ refused BadType at ]))
-    (step_from (elim t [ Known k ↦ field_after packing at' k cs | Unknown ↦ refused BadType at' ]))
+same_typed : (packing : Bool) (at at' : ℕ) (cs : List ℕ) (t : Option Role)
+    → Same (step_from (elim t [ Some k ↦ field_after packing at k cs | None ↦ refused BadType at ]))
+    (step_from (elim t [ Some k ↦ field_after packing at' k cs | None ↦ refused BadType at' ]))
 unfolding field_after
-same_typed packing at at' cs (Known k) =
+same_typed packing at at' cs (Some k) =
     let u = flagged cs in
     let rest : List ℕ = drop (to_nat u) cs in
     same_end (suc at + to_nat u) at (suc at' + to_nat u) at' (in_limit (count_of rest)) (has_meaning packing k (count_of rest)) _ (to_nat u + count_length rest)
-same_typed packing at at' cs Unknown = tt
+same_typed packing at at' cs None = tt
 
 same_step : (packing : Bool) (at at' c : ℕ) (cs : List ℕ) → Same (step_of packing at c cs) (step_of packing at' c cs)
 unfolding step_of field_at

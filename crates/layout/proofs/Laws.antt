@@ -1,4 +1,6 @@
 -- Laws of the layout reader that the crates above go by.
+use Rattle.std.specs.declared.option.Option.{Option}
+use Rattle.std.specs.declared.option.Option.TheVariants.{Some, None}
 use Rattle.std.specs.Prelude.{if◌then◌else◌}
 use Prim.Native.Nat.{ℕ, zero, suc, ◌+◌, ◌-◌, ◌*◌, ◌≤◌, ◌<◌, min}
 use native.Mathlib.Nat.{suc-ne-zero, add-zero, lt_of_not-le}
@@ -17,8 +19,6 @@ use Rattle.layout.specs.declared.Motion.TheVariants.{Skip, Back, Goto}
 use Rattle.layout.specs.declared.Count.{Count}
 use Rattle.layout.specs.declared.Count.TheVariants.{Absent, Star, Times}
 use Rattle.layout.specs.declared.Field.{Field}
-use Rattle.layout.specs.declared.Typed.{Typed}
-use Rattle.layout.specs.declared.Typed.TheVariants.{Known, Unknown}
 use Rattle.layout.specs.declared.Refusal.{Refusal}
 use Rattle.layout.specs.declared.Refusal.TheVariants.{BadType, BadCount, BadMove}
 use Rattle.layout.specs.Refusals.{number_of, Result, ok, refused, ◌>>=◌, demand}
@@ -62,11 +62,11 @@ no-number-zero n e = absurd (suc-ne-zero _ e)
 
 -- ---- the types
 
-abbrev pub FitType : Typed → Type 0
-FitType (Known k) = FitRole k
-FitType Unknown = Unit {0}
+abbrev pub FitType : Option Role → Type 0
+FitType (Some k) = FitRole k
+FitType None = Unit {0}
 
-pub fit-either : (t : Bool) (a b : Typed) → FitType a → FitType b → FitType (if t then a else b)
+pub fit-either : (t : Bool) (a b : Option Role) → FitType a → FitType b → FitType (if t then a else b)
 fit-either true a b h k = h
 fit-either false a b h k = k
 
@@ -121,14 +121,14 @@ later-end at true (Move Goto) Absent u m h = tt
 later-end at true (Move Goto) Star u m h = (refl, h)
 later-end at true (Move Goto) (Times n) u m h = (refl, h)
 
-later-typed : (at : ℕ) (cs : List ℕ) (t : Typed) → FitType t
-    → Later (step_from (elim t [ Known k ↦ field_after true at k cs | Unknown ↦ refused BadType at ]))
-    (step_from (elim t [ Known k ↦ field_after false at k cs | Unknown ↦ refused BadType at ]))
+later-typed : (at : ℕ) (cs : List ℕ) (t : Option Role) → FitType t
+    → Later (step_from (elim t [ Some k ↦ field_after true at k cs | None ↦ refused BadType at ]))
+    (step_from (elim t [ Some k ↦ field_after false at k cs | None ↦ refused BadType at ]))
 unfolding field_after
-later-typed at cs (Known k) h =
+later-typed at cs (Some k) h =
     let rest = drop (to_nat (flagged cs)) cs in
     later-end at (in_limit (count_of rest)) k (count_of rest) (flagged cs) (to_nat (flagged cs) + count_length rest) h
-later-typed at cs Unknown h = tt
+later-typed at cs None h = tt
 
 later-space : (t : Bool) (a b : Step) → Later a b → Later (if t then space else a) (if t then space else b)
 later-space true a b h = refl

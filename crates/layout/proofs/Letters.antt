@@ -4,14 +4,14 @@ use mathlib.Core.Path.{◌≡◌, refl, ap, ◌∙◌}
 use mathlib.Core.Bool.{false}
 use borrow.Author.Tests.{ne_eqb}
 use lib.Dec.{eqb}
-use Rattle.layout.specs.declared.Typed.TheVariants.{Unknown}
+use Rattle.std.specs.declared.option.Option.TheVariants.{None}
 use Rattle.layout.specs.Layout.{type_of}
 
 module _ (c : ℕ) (outside : c / 64 ≡ 1 → ⊥) where
   apart : (k : ℕ) → k / 64 ≡ 1 → eqb c k ≡ false
   apart k e = ne_eqb c k (λ same. outside (ap (λ (n : ℕ). n / 64) same ∙ e))
 
-  pub no-letter : type_of c ≡ Unknown
+  pub no-letter : type_of c ≡ None
   unfolding type_of
   no-letter =
       rw (

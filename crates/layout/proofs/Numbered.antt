@@ -1,5 +1,8 @@
 -- Laws of the types by number: the form that a number has, what the type of a number takes, and how many bytes an
 -- integer has. A number passes or fails each test of `type_numbered` by the range in which it lies.
+use Rattle.layout.specs.declared.Role.{Role}
+use Rattle.std.specs.declared.option.Option.{Option}
+use Rattle.std.specs.declared.option.Option.TheVariants.{Some, None}
 use Rattle.std.specs.Prelude.{if◌then◌else◌}
 use Prim.Native.Nat.{ℕ, zero, suc, ◌-◌, ◌*◌, ◌/◌, ◌%◌, ◌^◌, ◌≤◌, ◌<◌}
 use native.Mathlib.Omega.{arith}
@@ -14,8 +17,6 @@ use Rattle.layout.specs.declared.Shape.{Shape}
 use Rattle.layout.specs.declared.Shape.TheVariants.{Text, Digits, Integers, Reals}
 use Rattle.layout.specs.declared.Motion.TheVariants.{Skip, Back, Goto}
 use Rattle.layout.specs.declared.Count.{Count}
-use Rattle.layout.specs.declared.Typed.{Typed}
-use Rattle.layout.specs.declared.Typed.TheVariants.{Known, Unknown}
 use Rattle.layout.specs.Layout.{takes_slot, has_meaning}
 use Rattle.layout.specs.Codes.{last_text, last_binary, last_digits, last_integers, last_single, last_data, skip_number, back_number, goto_number, last_type, width_numbered, type_numbered, known}
 use Rattle.layout.specs.inside.Parsing.{size_numbered, shape_of, shape_numbered, FitRole}
@@ -74,8 +75,8 @@ shape-trimmed d e = ap shape_numbered e
 
 -- ---- what takes a slot, and what moves the cursor
 
-abbrev one_of : Bool → Bool → Bool → Shape → Shape → Shape → Shape → Typed
-one_of text digits integers r s t v = if text then Known (Data r) else if digits then Known (Data s) else if integers then Known (Data t) else Known (Data v)
+abbrev one_of : Bool → Bool → Bool → Shape → Shape → Shape → Shape → Option Role
+one_of text digits integers r s t v = if text then Some (Data r) else if digits then Some (Data s) else if integers then Some (Data t) else Some (Data v)
 
 pub data-role : (d : ℕ) → d ≤ last_data → known (type_numbered d) ≡ Data (shape_numbered d)
 unfolding type_numbered shape_numbered
@@ -87,8 +88,8 @@ data-role d h = rw (le-leb d last_data h) (shapes (leb d last_text) (leb d last_
     shapes false false true r s t v = refl
     shapes false false false r s t v = refl
 
-abbrev pub moving : Bool → Bool → Bool → Typed
-moving skip back goto = if skip then Known (Move Skip) else if back then Known (Move Back) else if goto then Known (Move Goto) else Unknown
+abbrev pub moving : Bool → Bool → Bool → Option Role
+moving skip back goto = if skip then Some (Move Skip) else if back then Some (Move Back) else if goto then Some (Move Goto) else None
 
 pub move-type : (d : ℕ) → last_data < d → type_numbered d ≡ moving (eqb d skip_number) (eqb d back_number) (eqb d goto_number)
 unfolding type_numbered
@@ -107,7 +108,7 @@ move-role d h = rw (move-type d h) (moves (eqb d skip_number) (eqb d back_number
     moves false false true = refl
     moves false false false = refl
 
-pub number-unknown : (d : ℕ) → last_type < d → type_numbered d ≡ Unknown
+pub number-unknown : (d : ℕ) → last_type < d → type_numbered d ≡ None
 number-unknown d h =
     let skip : d ≡ skip_number → ⊥ = λ e. omega arith in
     let back : d ≡ back_number → ⊥ = λ e. omega arith in

@@ -1,4 +1,7 @@
 -- The place of a layout's refusal lies in its text, so that it fits the answer.
+use Rattle.layout.specs.declared.Role.{Role}
+use Rattle.std.specs.declared.option.Option.{Option}
+use Rattle.std.specs.declared.option.Option.TheVariants.{Some, None}
 use Rattle.std.specs.Prelude.{if◌then◌else◌}
 use Prim.Native.Nat.{ℕ, zero, suc, ◌+◌, ◌<◌}
 use native.Mathlib.Omega.{arith}
@@ -8,8 +11,6 @@ use mathlib.Core.List.{List, [], ◌∷◌}
 use lib.Dec.{eqb}
 use lib.ListN.{length, drop, length-drop}
 use Rattle.layout.specs.declared.Field.{Field}
-use Rattle.layout.specs.declared.Typed.{Typed}
-use Rattle.layout.specs.declared.Typed.TheVariants.{Known, Unknown}
 use Rattle.layout.specs.declared.Refusal.{Refusal}
 use Rattle.layout.specs.declared.Refusal.TheVariants.{BadType, BadCount, BadMove}
 use Rattle.layout.specs.Refusals.{Result, ok, refused, ◌>>=◌, demand}
@@ -36,16 +37,16 @@ unfolding count_of
 over-some [] e = absurd (true≢false e)
 over-some (c ∷ cs) e = omega arith
 
-typed-below : (packing : Bool) (at end : ℕ) (cs : List ℕ) (t : Typed) → at + suc (length cs) ≡ end
-    → RefusedBelow {A = Field × ℕ} end (elim t [ Known k ↦ field_after packing at k cs | Unknown ↦ refused BadType at ])
+typed-below : (packing : Bool) (at end : ℕ) (cs : List ℕ) (t : Option Role) → at + suc (length cs) ≡ end
+    → RefusedBelow {A = Field × ℕ} end (elim t [ Some k ↦ field_after packing at k cs | None ↦ refused BadType at ])
 unfolding field_after
-typed-below packing at end cs (Known k) e =
+typed-below packing at end cs (Some k) e =
     let u = to_nat (flagged cs) in
     let rest = drop u cs in
     two-checks at (suc at + u) end (in_limit (count_of rest)) (has_meaning packing k (count_of rest)) (record { role = k; unsigned = flagged cs; count = count_of rest }, u + count_length rest)
     (λ o. omega (arith, over-some rest o, length-drop u cs))
     (omega arith)
-typed-below packing at end cs Unknown e = omega arith
+typed-below packing at end cs None e = omega arith
 
 from-below : (end : ℕ) (o : Result (Field × ℕ)) → RefusedBelow end o → BadBelow end (step_from o)
 from-below end (ok f) h = tt

@@ -1,5 +1,8 @@
 -- One step of the layout reader, on plain values: a count, a flag, a code, and the field at a type character. Each law
 -- rewrites a definition by what the code has tested.
+use mir.Val.{bool_byte}
+use Rattle.std.specs.declared.option.Option.{Option}
+use Rattle.std.specs.declared.option.Option.TheVariants.{Some, None}
 use Rattle.std.specs.Prelude.{if◌then◌else◌}
 use Prim.Native.Nat.{ℕ, zero, suc, ◌+◌, ◌-◌, ◌*◌, ◌/◌, ◌%◌, ◌^◌, ◌≤◌, ◌<◌, min}
 use native.Mathlib.Nat.{add-zero, suc-ne-zero}
@@ -18,10 +21,8 @@ use Rattle.layout.specs.declared.Motion.TheVariants.{Skip, Goto}
 use Rattle.layout.specs.declared.Count.{Count}
 use Rattle.layout.specs.declared.Count.TheVariants.{Absent, Star, Times}
 use Rattle.layout.specs.declared.Field.{Field}
-use Rattle.layout.specs.declared.Typed.{Typed}
-use Rattle.layout.specs.declared.Typed.TheVariants.{Known, Unknown}
 use Rattle.layout.specs.declared.Refusal.TheVariants.{BadType, BadCount, BadMove}
-use Rattle.layout.specs.declared.Found.TheVariants.{Item, Bad}
+use Rattle.std.specs.declared.result.Result.TheVariants.{Ok, Err}
 use Rattle.layout.specs.Refusals.{refused}
 use Rattle.layout.specs.Layout.{max_count, is_decimal, digit_run, decimal, type_of, flagged, count_of, count_length, in_limit, has_meaning, to_nat, takes_slot, field, bad, field_after, field_at, step_of}
 use Rattle.layout.proofs.Encoded.{number-back, count-back}
@@ -89,16 +90,14 @@ module _ (s : List ℕ) (at : ℕ) where
   unfolding flagged
   flag-end h = rw (drop_of_length-le s h)
 
-  pub flag-other : at < length s → (get_or s at 0 ≡ 117 → ⊥) → false ≡ flagged (drop at s)
+  pub flag-byte : at < length s → eqb (get_or s at 0) 117 ≡ flagged (drop at s)
   unfolding flagged
-  flag-other h e = rw (drop-cons s at 0 h, ne_eqb (get_or s at 0) 117 e)
+  flag-byte h = rw (drop-cons s at 0 h)
 
-  pub flag-here : at < length s → get_or s at 0 ≡ 117 → true ≡ flagged (drop at s)
-  unfolding flagged
-  flag-here h e = rw (drop-cons s at 0 h, eq-eqb (get_or s at 0) 117 e)
-
-pub tail-plain : (s : List ℕ) (at v e : ℕ) → false ≡ flagged (drop at s) → CountAt s at v e → TailAt s at 0 v e
-tail-plain s at v e flag count = (ap to_nat flag, rw add-zero count)
+-- a flag as a number
+pub flag-bit : (t : Bool) → bool_byte t ≡ to_nat t
+flag-bit true = refl
+flag-bit false = refl
 
 -- ---- the number of a count
 
@@ -175,9 +174,9 @@ type-fits k =
     (fit-either (eqb k back_number) _ _ tt
     (fit-either (eqb k goto_number) _ _ tt tt))))))
 
-pub known-fits : (t : Typed) → FitType t → FitRole (known t)
-known-fits (Known k) h = h
-known-fits Unknown h = tt
+pub known-fits : (t : Option Role) → FitType t → FitRole (known t)
+known-fits (Some k) h = h
+known-fits None h = tt
 
 count_fits : (n : ℕ) → n < 2 ^ 23 → FitCount (count_from n)
 count_fits zero h = tt
@@ -192,19 +191,19 @@ field_fits w f h e =
 -- ---- the field at a type character
 
 module _ (packing : Bool) (p c : ℕ) (cs : List ℕ) (no-space : c ≡ 32 → ⊥) where
-  at-unknown : type_of c ≡ Unknown → field_at packing p c cs ≡ refused BadType p
+  at-unknown : type_of c ≡ None → field_at packing p c cs ≡ refused BadType p
   unfolding field_at
   at-unknown e = rw (e, field_at)
 
-  at-known : (k : Role) → type_of c ≡ Known k → field_at packing p c cs ≡ field_after packing p k cs
+  at-known : (k : Role) → type_of c ≡ Some k → field_at packing p c cs ≡ field_after packing p k cs
   unfolding field_at
   at-known k e = rw (e, field_at)
 
-  pub step-unknown : type_of c ≡ Unknown → step_of packing p c cs ≡ bad BadType p
+  pub step-unknown : type_of c ≡ None → step_of packing p c cs ≡ bad BadType p
   unfolding step_of
   step-unknown e = rw (ne_eqb c 32 no-space, at-unknown e)
 
-  module _ (k : Role) (e : type_of c ≡ Known k) (u : Bool) (flag : u ≡ flagged cs) (v : ℕ) (held : v ≡ held_number (count_of (drop (to_nat u) cs))) where
+  module _ (k : Role) (e : type_of c ≡ Some k) (u : Bool) (flag : u ≡ flagged cs) (v : ℕ) (held : v ≡ held_number (count_of (drop (to_nat u) cs))) where
     pub step-large : last_count < v → step_of packing p c cs ≡ bad BadCount (suc p + to_nat u)
     unfolding step_of field_after
     step-large h =
@@ -221,7 +220,7 @@ module _ (packing : Bool) (p c : ℕ) (cs : List ℕ) (no-space : c ≡ 32 → �
           let same : count_from v ≡ n = ap count_from held ∙ w.1 in
           rw (ne_eqb c 32 no-space, at-known k e, ← flag, w.0, ← same, m)
 
-      pub step_field : (d : ℕ) → d < 256 → type_numbered d ≡ Known k → has_meaning packing k (count_from v) ≡ true
+      pub step_field : (d : ℕ) → d < 256 → type_numbered d ≡ Some k → has_meaning packing k (count_from v) ≡ true
           → step_of packing p c cs ≡ field (field_of (code_of d u v)) (to_nat u + count_length (drop (to_nat u) cs))
       unfolding step_of field_after
       step_field d h type m =
@@ -266,6 +265,13 @@ pub record Seen (text : List ℕ) (p d b v e : ℕ) : Type 0 where
   pub named : HasType d
   pub tail : TailAt text (p + 1) b v e
 
+pub seen : (text : List ℕ) (p d b v e : ℕ) → (p < length text) × (get_or text p 0 ≡ 32 → ⊥) → d ≤ last_type → (type_of (get_or text p 0) ≡ type_numbered d) × HasType d
+    → TailAt text (p + 1) b v e → Seen text p d b v e
+seen text p d b v e at low type tail = record { start = at.0; low = low; no-space = at.1; type = type.0; named = type.1; tail = tail }
+
+pub found-unknown : (packing : Bool) (text : List ℕ) (p : ℕ) → (get_or text p 0 ≡ 32 → ⊥) → type_of (get_or text p 0) ≡ None → FoundAs packing text p (Err (record { why = BadType; place = p }))
+found-unknown packing text p no-space e = record { step = step-unknown packing p _ _ no-space e; told = tt }
+
 module _ (packing : Bool) (text : List ℕ) (p d b v e : ℕ) (s : Seen text p d b v e) where
   abbrev k : Role
   k = known (type_numbered d)
@@ -273,10 +279,10 @@ module _ (packing : Bool) (text : List ℕ) (p d b v e : ℕ) (s : Seen text p d
   abbrev u : Bool
   u = flagged (drop (suc p) text)
 
-  numbered : type_numbered d ≡ Known k
+  numbered : type_numbered d ≡ Some k
   numbered = s.named s.low
 
-  typed : type_of (get_or text p 0) ≡ Known k
+  typed : type_of (get_or text p 0) ≡ Some k
   typed = s.type ∙ numbered
 
   bit : b ≡ to_nat u
@@ -294,11 +300,11 @@ module _ (packing : Bool) (text : List ℕ) (p d b v e : ℕ) (s : Seen text p d
   number : v ≡ held_number (count_of (drop (to_nat u) (drop (suc p) text)))
   number = s.tail.1.0 ∙ ap (λ (cs : List ℕ). held_number (count_of cs)) tail
 
-  pub read-large : last_count < v → FoundAs packing text p (Bad BadCount (p + 1 + b))
+  pub read-large : last_count < v → FoundAs packing text p (Err (record { why = BadCount; place = p + 1 + b }))
   read-large h =
       record { step = rw place (step-large packing p _ _ s.no-space k typed u refl v number h); told = tt }
 
-  pub read-meaningless : v ≤ last_count → has_meaning packing k (count_from v) ≡ false → FoundAs packing text p (Bad BadMove p)
+  pub read-meaningless : v ≤ last_count → has_meaning packing k (count_from v) ≡ false → FoundAs packing text p (Err (record { why = BadMove; place = p }))
   read-meaningless h m =
       record { step = step-meaningless packing p _ _ s.no-space k typed u refl v number h m; told = tt }
 
@@ -314,7 +320,7 @@ module _ (packing : Bool) (text : List ℕ) (p d b v e : ℕ) (s : Seen text p d
       omega (arith, s.tail.1.1, bit, s.start)
 
   pub read-item : v ≤ last_count → has_meaning packing k (count_from v) ≡ true → (t : ℕ) → t ≡ to_nat (takes_slot k)
-      → FoundAs packing text p (Item (d + flag_unit * b + count_unit * v) (e - (p + 1)) t)
+      → FoundAs packing text p (Ok (record { code = d + flag_unit * b + count_unit * v; more = e - (p + 1); slots = t }))
   read-item h m t slot =
       let w : d + flag_unit * b + count_unit * v ≡ code_of d u v = ap (λ (x : ℕ). d + flag_unit * x + count_unit * v) bit in
       let small : d < 256 = omega (arith, s.low) in

@@ -7,9 +7,9 @@ use mathlib.Core.Bool.{Bool}
 use mathlib.Core.List.{List, [], ◌∷◌, ◌++◌, map, append-nil, append_assoc}
 use lib.ListN.{length, take, set, length-set}
 use Rattle.layout.specs.declared.Field.{Field}
-use Rattle.layout.specs.declared.Refusal.{Refusal}
-use Rattle.layout.specs.declared.Parsed.TheVariants.{Fields, Refused}
-use Rattle.layout.specs.declared.Found.TheVariants.{Item, Bad}
+use Rattle.layout.specs.declared.Item.{Item}
+use Rattle.layout.specs.declared.Refused.{Refused}
+use Rattle.std.specs.declared.result.Result.TheVariants.{Ok, Err}
 use Rattle.layout.specs.Refusals.{Result, ok, refused, ◌>>=◌}
 use Rattle.layout.specs.Layout.{max_layout, step_then, fields_of, slot_count}
 use Rattle.layout.specs.Codes.{field_of, code_for}
@@ -53,10 +53,12 @@ module _ (packing : Bool) (text : List ℕ) (size : ℕ) where
     reading-spaces p h k e =
         record { few = omega (arith, r.few); long = r.long; within = k; less = r.less; so-far = r.so-far ∙ ap (after (decoded n ws)) e; taken = r.taken; plan = r.plan }
 
-    pub reading-more : (w m k : ℕ) → at < length text → FoundAs packing text at (Item w m k) → Reading packing text size (at + 1 + m) (n + 1) (slots + k) (set ws n w)
-    reading-more w m k h a =
+    pub reading-more : (i : Item) → at < length text → FoundAs packing text at (Ok i) → Reading packing text size (at + 1 + i.more) (n + 1) (slots + i.slots) (set ws n i.code)
+    reading-more i h a =
+        let w = i.code in
+        let m = i.more in
         let step = a.step in
-        let e : rest packing text at ≡ step_then (step_found (Item w m k)) (rest packing text (suc at + m)) = rw step at (at_byte packing text at h) in
+        let e : rest packing text at ≡ step_then (step_found (Ok i)) (rest packing text (suc at + m)) = rw step at (at_byte packing text at h) in
         let d : decoded (n + 1) (set ws n w) ≡ decoded n ws ++ (field_of w ∷ []) = decoded-more n w ws (omega (arith, fits, r.few, r.long)) in
         let next : at + 1 + m ≡ suc at + m = omega arith in
         record {
@@ -69,15 +71,15 @@ module _ (packing : Bool) (text : List ℕ) (size : ℕ) where
           plan = plan-more n w ws (omega (arith, fits, r.few, r.long)) r.plan a.told.2;
         }
 
-    pub reading-bad : (why : Refusal) (place : ℕ) → at < length text → FoundAs packing text at (Bad why place) → Parses (fields_of packing text) (Refused why place) ws
+    pub reading-bad : (q : Refused) → at < length text → FoundAs packing text at (Err q) → Parses (fields_of packing text) (Err q) ws
     unfolding fields_of rest
-    reading-bad why place h a =
+    reading-bad q h a =
         let step = a.step in
-        let e : rest packing text at ≡ refused why place = rw step at (at_byte packing text at h) in
-        let o : fields_of packing text ≡ refused why place = r.so-far ∙ ap (after (decoded n ws)) e in
+        let e : rest packing text at ≡ refused q.why q.place = rw step at (at_byte packing text at h) in
+        let o : fields_of packing text ≡ refused q.why q.place = r.so-far ∙ ap (after (decoded n ws)) e in
         rw o (record { answer = refl; codes = tt; plan = tt; room = omega (arith, fits, r.long) })
 
-    pub reading-done : length text ≤ at → Parses (fields_of packing text) (Fields n slots) ws
+    pub reading-done : length text ≤ at → Parses (fields_of packing text) (Ok (record { count = n; slots = slots })) ws
     unfolding fields_of rest
     reading-done h =
         let e : rest packing text at ≡ ok [] = at-end packing text at h in

@@ -1,5 +1,8 @@
 -- A field as one number, its code: what a plan holds for each field, and in what form the layout reader hands fields
 -- on.
+use Rattle.std.specs.declared.option.Option.{Option}
+use Rattle.std.specs.Prelude.{unwrap_or}
+use Rattle.std.specs.declared.option.Option.TheVariants.{Some, None}
 use Rattle.std.specs.Prelude.{ℕ, zero, suc, ◌+◌, ◌*◌, ◌/◌, ◌%◌, Bool, true, false, eqb, leb, ltb, if◌then◌else◌}
 use Rattle.layout.specs.declared.Role.{Role}
 use Rattle.layout.specs.declared.Role.TheVariants.{Data, Move}
@@ -8,8 +11,6 @@ use Rattle.layout.specs.declared.Motion.TheVariants.{Skip, Back, Goto}
 use Rattle.layout.specs.declared.Count.{Count}
 use Rattle.layout.specs.declared.Count.TheVariants.{Absent, Star, Times}
 use Rattle.layout.specs.declared.Field.{Field}
-use Rattle.layout.specs.declared.Typed.{Typed}
-use Rattle.layout.specs.declared.Typed.TheVariants.{Known, Unknown}
 use Rattle.layout.specs.Layout.{to_nat}
 
 -- ---- the types by number
@@ -54,16 +55,16 @@ abbrev pub width_numbered : ℕ → ℕ
 width_numbered k = if ltb k 8 then 1 else if ltb k 10 then 2 else if ltb k 12 then 4 else 8
 
 -- the type that has the number k
-unfoldable pub type_numbered : ℕ → Typed
+unfoldable pub type_numbered : ℕ → Option Role
 type_numbered k =
-    if leb k last_text then Known (Data (Text (32 * k)))
-    else if leb k last_digits then Known (Data (Digits (ltb last_binary k) (eqb (k % 2) 1)))
-    else if leb k last_integers then Known (Data (Integers (width_numbered k) (eqb (k % 2) 1)))
-    else if leb k last_data then Known (Data (Reals (leb k last_single) (eqb (k % 2) 1)))
-    else if eqb k skip_number then Known (Move Skip)
-    else if eqb k back_number then Known (Move Back)
-    else if eqb k goto_number then Known (Move Goto)
-    else Unknown
+    if leb k last_text then Some (Data (Text (32 * k)))
+    else if leb k last_digits then Some (Data (Digits (ltb last_binary k) (eqb (k % 2) 1)))
+    else if leb k last_integers then Some (Data (Integers (width_numbered k) (eqb (k % 2) 1)))
+    else if leb k last_data then Some (Data (Reals (leb k last_single) (eqb (k % 2) 1)))
+    else if eqb k skip_number then Some (Move Skip)
+    else if eqb k back_number then Some (Move Back)
+    else if eqb k goto_number then Some (Move Goto)
+    else None
 
 -- ---- a code: the number of the type, one unit for the flag, and a unit for each of the count's number
 
@@ -80,9 +81,8 @@ count_from (suc zero) = Star
 count_from (suc (suc n)) = Times n
 
 -- the role of a type; a number that no type has stands for X (`parse` writes none, and a plan with one is refused)
-abbrev pub known : Typed → Role
-known (Known k) = k
-known Unknown = Move Back
+abbrev pub known : Option Role → Role
+known t = unwrap_or t (Move Back)
 
 unfoldable pub field_of : ℕ → Field
 unfolding type_numbered

@@ -1,6 +1,8 @@
 -- The text of a layout (01, Layout text, and the numbers 2, 3 and 4 of its table): from bytes to fields. The types
 -- Role, Shape, Motion, Count and Field are the source's (src/lib.rt). A text is the list of its bytes, and a place is
 -- an index into it.
+use Rattle.std.specs.declared.option.Option.{Option}
+use Rattle.std.specs.declared.option.Option.TheVariants.{Some, None}
 use Rattle.std.specs.Prelude.{ℕ, zero, suc, ◌+◌, ◌-◌, ◌*◌, Bool, true, false, ◌&&◌, not, List, [], ◌∷◌, drop, eqb, leb, if◌then◌else◌}
 use Rattle.layout.specs.declared.Role.{Role}
 use Rattle.layout.specs.declared.Role.TheVariants.{Data, Move}
@@ -9,8 +11,6 @@ use Rattle.layout.specs.declared.Motion.TheVariants.{Skip, Back, Goto}
 use Rattle.layout.specs.declared.Count.{Count}
 use Rattle.layout.specs.declared.Count.TheVariants.{Absent, Star, Times}
 use Rattle.layout.specs.declared.Field.{Field}
-use Rattle.layout.specs.declared.Typed.{Typed}
-use Rattle.layout.specs.declared.Typed.TheVariants.{Known, Unknown}
 use Rattle.layout.specs.declared.Refusal.{Refusal}
 use Rattle.layout.specs.declared.Refusal.TheVariants.{BadType, BadCount, BadMove}
 use Rattle.layout.specs.Refusals.{Result, ok, refused, ◌>>=◌, demand}
@@ -29,29 +29,29 @@ max_count = 32768
 
 -- what a type character stands for: the pad of a text; hex or binary digits, high or low digit first; an integer's
 -- bytes, big- or little-endian; a real as a single or a double, big- or little-endian (02, M-108)
-unfoldable pub type_of : ℕ → Typed
+unfoldable pub type_of : ℕ → Option Role
 type_of c =
-    if eqb c 97 then Known (Data (Text 0))  -- a
-    else if eqb c 65 then Known (Data (Text 32))  -- A
-    else if eqb c 98 then Known (Data (Digits false false))  -- b
-    else if eqb c 66 then Known (Data (Digits false true))  -- B
-    else if eqb c 104 then Known (Data (Digits true false))  -- h
-    else if eqb c 72 then Known (Data (Digits true true))  -- H
-    else if eqb c 99 then Known (Data (Integers 1 false))  -- c
-    else if eqb c 115 then Known (Data (Integers 2 false))  -- s
-    else if eqb c 83 then Known (Data (Integers 2 true))  -- S
-    else if eqb c 105 then Known (Data (Integers 4 false))  -- i
-    else if eqb c 73 then Known (Data (Integers 4 true))  -- I
-    else if eqb c 119 then Known (Data (Integers 8 false))  -- w
-    else if eqb c 87 then Known (Data (Integers 8 true))  -- W
-    else if eqb c 114 then Known (Data (Reals true false))  -- r
-    else if eqb c 82 then Known (Data (Reals true true))  -- R
-    else if eqb c 113 then Known (Data (Reals false false))  -- q
-    else if eqb c 81 then Known (Data (Reals false true))  -- Q
-    else if eqb c 120 then Known (Move Skip)  -- x
-    else if eqb c 88 then Known (Move Back)  -- X
-    else if eqb c 64 then Known (Move Goto)  -- @
-    else Unknown
+    if eqb c 97 then Some (Data (Text 0))  -- a
+    else if eqb c 65 then Some (Data (Text 32))  -- A
+    else if eqb c 98 then Some (Data (Digits false false))  -- b
+    else if eqb c 66 then Some (Data (Digits false true))  -- B
+    else if eqb c 104 then Some (Data (Digits true false))  -- h
+    else if eqb c 72 then Some (Data (Digits true true))  -- H
+    else if eqb c 99 then Some (Data (Integers 1 false))  -- c
+    else if eqb c 115 then Some (Data (Integers 2 false))  -- s
+    else if eqb c 83 then Some (Data (Integers 2 true))  -- S
+    else if eqb c 105 then Some (Data (Integers 4 false))  -- i
+    else if eqb c 73 then Some (Data (Integers 4 true))  -- I
+    else if eqb c 119 then Some (Data (Integers 8 false))  -- w
+    else if eqb c 87 then Some (Data (Integers 8 true))  -- W
+    else if eqb c 114 then Some (Data (Reals true false))  -- r
+    else if eqb c 82 then Some (Data (Reals true true))  -- R
+    else if eqb c 113 then Some (Data (Reals false false))  -- q
+    else if eqb c 81 then Some (Data (Reals false true))  -- Q
+    else if eqb c 120 then Some (Move Skip)  -- x
+    else if eqb c 88 then Some (Move Back)  -- X
+    else if eqb c 64 then Some (Move Goto)  -- @
+    else None
 
 -- what moves the cursor has no slot, and everything else has one (01, Layout text)
 abbrev pub takes_slot : Role → Bool
@@ -144,7 +144,7 @@ field_after packing at k cs = do
 -- the field whose type character c stands at the place `at`, followed by cs
 unfoldable pub field_at : Bool → ℕ → ℕ → List ℕ → Result (Field × ℕ)
 unfolding type_of field_after
-field_at packing at c cs = elim (type_of c) [ Known k ↦ field_after packing at k cs | Unknown ↦ refused BadType at ]
+field_at packing at c cs = elim (type_of c) [ Some k ↦ field_after packing at k cs | None ↦ refused BadType at ]
 
 unfoldable pub step_of : Bool → ℕ → ℕ → List ℕ → Step
 unfolding field_at

@@ -2,6 +2,7 @@
 #![tactic(auto)]
 
 ghost use Rattle.std.specs.Prelude.{◌≡◌, ◌^◌, ◌≤◌, ◌<◌};
+ghost use Rattle.layout.specs.Refusals.{number_of};
 ghost use Rattle.layout.specs.Codes.{last_digits, last_data, type_numbered, width_numbered, count_from, known};
 ghost use Rattle.layout.specs.inside.Parsing.{size_numbered, FieldOf, slots_numbered};
 
@@ -10,7 +11,7 @@ pub mod scanner;
 // The layout reader, on whose contract alone packer and reader rely.
 pub mod parser;
 
-// The limit of a layout (01, Slot tables, sizes). A field has a byte at least, so that as many codes hold the fields of
+// The limit of a layout. A field has a byte at least, so that as many codes hold the fields of
 // any layout.
 pub const MAX_LAYOUT: usize = 256;
 
@@ -19,7 +20,8 @@ pub const SHORT_LAYOUT: usize = 32;
 
 // The types by number, each with its character: texts come first, then digits, then integers, then reals, and these
 // take a slot. Of integers and reals an even number is little-endian and the next one big-endian. The moves stand
-// after a gap that has room for further types.
+// after a gap that has room for further types. They stay numbers, as a plan hands them to its host and takes them back;
+// passes go by the number of a type, and by that of a count, where a `Role` and a `Count` would have to be made first.
 pub const TEXT_ZERO: u32 = 0; // a, padded with zero bytes
 
 pub const TEXT_SPACE: u32 = 1; // A, padded with spaces
@@ -115,24 +117,40 @@ pub enum Role {
 // What a call is refused with, in the order of the numbers (the table in include/curlew.h).
 #[derive(Clone, Copy)]
 pub enum Refusal {
-    BadSize,
-    BadType,
-    BadCount,
-    BadMove,
-    BadSlots,
-    NotSet,
-    BadSlot,
-    WrongKind,
-    BadList,
-    BadDigit,
-    NoRoom,
-    BadSheet,
-    BadVersion,
-    BadMark,
-    BadTemplate,
-    BadReal,
-    OtherFields,
-    NotPlain,
+    BadSize = 1,
+    BadType = 2,
+    BadCount = 3,
+    BadMove = 4,
+    BadSlots = 5,
+    NotSet = 6,
+    BadSlot = 7,
+    WrongKind = 8,
+    BadList = 9,
+    BadDigit = 10,
+    NoRoom = 11,
+    BadSheet = 12,
+    BadVersion = 13,
+    BadMark = 14,
+    BadTemplate = 15,
+    BadReal = 16,
+    OtherFields = 17,
+    NotPlain = 18,
+}
+
+impl Refusal {
+    // The refusal at a place.
+    pub fn at(self, place: usize) -> Refused
+        ensures { result ≡ record { why = self; place = place } }
+    {
+        Refused { why: self, place }
+    }
+
+    // The number that stands for a refusal in a reply.
+    pub fn number(self) -> u32
+        ensures { result ≡ number_of self }
+    {
+        self as u32
+    }
 }
 
 #[derive(Clone, Copy)]
@@ -149,26 +167,26 @@ pub struct Field {
     pub count: Count,
 }
 
-// What a type character stands for.
+// Why a call is refused, and the place in what was given that it is refused for.
 #[derive(Clone, Copy)]
-pub enum Typed {
-    Known(Role),
-    Unknown,
+pub struct Refused {
+    pub why: Refusal,
+    pub place: usize,
 }
 
-// What `parse` answers: how many fields there are and how many of them take a slot, or the refusal and its place.
+// How many fields a layout has, and how many of them take a slot.
 #[derive(Clone, Copy)]
-pub enum Parsed {
-    Fields(usize, usize),
-    Refused(Refusal, usize),
+pub struct Fields {
+    pub count: usize,
+    pub slots: usize,
 }
 
-// What `read_field` finds: the field's code, how many bytes follow its type character, and how many slots it takes; or
-// a refusal and its place.
+// A field that was found: its code, how many bytes follow its type character, and how many slots it takes.
 #[derive(Clone, Copy)]
-pub enum Found {
-    Item(u32, usize, usize),
-    Bad(Refusal, usize),
+pub struct Item {
+    pub code: u32,
+    pub more: usize,
+    pub slots: usize,
 }
 
 fn width(k: u32) -> usize
@@ -200,66 +218,40 @@ pub fn width_power(d: u32) -> u32
     }
 }
 
-fn type_numbered(k: u32) -> Typed
+fn type_numbered(k: u32) -> Option<Role>
     ensures { result ≡ type_numbered k }
 {
-    if k <= LAST_TEXT {
-        return Typed::Known(Role::Data(Shape::Text((32 * k) as u8)));
+    match k {
+        0..=LAST_TEXT => Some(Role::Data(Shape::Text((32 * k) as u8))),
+        ..=LAST_DIGITS => Some(Role::Data(Shape::Digits(LAST_BINARY < k, k % 2 == 1))),
+        ..=LAST_INTEGERS => Some(Role::Data(Shape::Integers(width(k), k % 2 == 1))),
+        ..=LAST_DATA => Some(Role::Data(Shape::Reals(k <= LAST_SINGLE, k % 2 == 1))),
+        SKIP => Some(Role::Move(Motion::Skip)),
+        BACK => Some(Role::Move(Motion::Back)),
+        GOTO => Some(Role::Move(Motion::Goto)),
+        _ => None,
     }
-    if k <= LAST_DIGITS {
-        return Typed::Known(Role::Data(Shape::Digits(LAST_BINARY < k, k % 2 == 1)));
-    }
-    if k <= LAST_INTEGERS {
-        return Typed::Known(Role::Data(Shape::Integers(width(k), k % 2 == 1)));
-    }
-    if k <= LAST_DATA {
-        return Typed::Known(Role::Data(Shape::Reals(k <= LAST_SINGLE, k % 2 == 1)));
-    }
-    if k == SKIP {
-        return Typed::Known(Role::Move(Motion::Skip));
-    }
-    if k == BACK {
-        return Typed::Known(Role::Move(Motion::Back));
-    }
-    if k == GOTO {
-        return Typed::Known(Role::Move(Motion::Goto));
-    }
-    Typed::Unknown
 }
 
 // The count that a number stands for.
 pub fn count_from(n: u32) -> Count
     ensures { result ≡ count_from n }
 {
-    if n == 0 {
-        return Count::Absent;
+    match n {
+        0 => Count::Absent,
+        1 => Count::Star,
+        _ => Count::Times((n - 2) as usize),
     }
-    if n == 1 {
-        return Count::Star;
-    }
-    Count::Times((n - 2) as usize)
-}
-
-fn role_numbered(k: u32) -> Role
-    ensures { result ≡ known (type_numbered k) }
-{
-    let t = type_numbered(k);
-    let Typed::Known(role) = t else {
-        return Role::Move(Motion::Back);
-    };
-    role
 }
 
 // The field that a code stands for.
 pub fn field_of(code: u32) -> Field
     ensures { FieldOf code result }
 {
-    let n = count_from(code / COUNT_UNIT);
-    let k = role_numbered(code % FLAG_UNIT);
     Field {
-        role: k,
+        role: type_numbered(code % FLAG_UNIT).unwrap_or(Role::Move(Motion::Back)),
         unsigned: code / FLAG_UNIT % 2 == 1,
-        count: n,
+        count: count_from(code / COUNT_UNIT),
     }
 }
 
@@ -267,5 +259,5 @@ pub fn field_of(code: u32) -> Field
 pub fn slots_in(d: u32) -> usize
     ensures { result ≡ slots_numbered d }
 {
-    if d <= LAST_DATA { 1 } else { 0 }
+    usize::from(d <= LAST_DATA)
 }

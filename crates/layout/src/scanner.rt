@@ -1,10 +1,10 @@
 // The pieces of a layout's text: spaces, type characters, flags and counts, each read from a place on.
 ghost use Rattle.std.specs.Prelude.{◌≡◌, ◌+◌, ◌-◌, ◌*◌, ◌≤◌, ◌<◌, min, length};
-ghost use Rattle.layout.specs.Layout.{type_of};
+ghost use Rattle.layout.specs.Layout.{to_nat, type_of};
 ghost use Rattle.layout.specs.Codes.{type_numbered};
 ghost use Rattle.layout.specs.inside.Parsing.{over_count, HasType, SpacesEnd, NumberAt, CountAt, TailAt};
 
-// The limit of a count (01, Slot tables, sizes), where a larger one is held, and the number that the largest has in a
+// The limit of a count, where a larger one is held, and the number that the largest has in a
 // code.
 const MAX_COUNT: u32 = 32768;
 
@@ -19,10 +19,11 @@ struct Numeral {
     next: usize,
 }
 
-// What follows a type character: 1 for the flag, the number of the count, held, and the place after them.
+// What follows a type character: whether the flag stands there, the number of the count, held, and the place after
+// them.
 #[derive(Clone, Copy)]
 pub struct Tail {
-    pub flag: u32,
+    pub flag: bool,
     pub value: u32,
     pub next: usize,
 }
@@ -58,7 +59,8 @@ fn letter(n: u8) -> u8
     }
 }
 
-// The number of the type that a byte of the text names; above the last where it names none. All type characters are
+// The number of the type that a byte of the text names; above the last where it names none (no option: the number is
+// compared with the last one alone). All type characters are
 // among the 64 from `@` on.
 pub fn type_number(c: u8) -> u32
     ensures { (type_of c ≡ type_numbered result) × HasType result }
@@ -72,15 +74,12 @@ pub fn spaces_end(text: &[u8], at: usize) -> usize
     requires { at ≤ length text.now }
     ensures { SpacesEnd text.now at result }
 {
-    let mut i = at;
-    while i < text.len() {
-        let c = text[i];
-        if c != b' ' {
+    for i in at..text.len() {
+        if text[i] != b' ' {
             return i;
         }
-        i += 1;
     }
-    i
+    text.len()
 }
 
 // A number with one digit more, held just above the limit.
@@ -88,28 +87,27 @@ fn more(v: u32, c: u8) -> u32
     requires { (v ≤ over_count) × (48 ≤ c) }
     ensures { result ≡ min over_count (10 * v + (c - 48)) }
 {
-    let n = 10 * v + (c - b'0') as u32;
-    if n < OVER_COUNT { n } else { OVER_COUNT }
+    let n = 10 * v + u32::from(c - b'0');
+    n.min(OVER_COUNT)
 }
 
 // The number that the decimal digits from `at` on make, held just above the limit, and the place after them.
 fn number(text: &[u8], at: usize) -> Numeral
+    requires { at ≤ length text.now }
     ensures { NumberAt text.now at result.value result.next }
 {
-    let mut v: u32 = 0;
-    let mut i = at;
-    while i < text.len() {
+    let mut value: u32 = 0;
+    for i in at..text.len() {
         let c = text[i];
-        if c < b'0' {
-            return Numeral { value: v, next: i };
+        if !c.is_ascii_digit() {
+            return Numeral { value, next: i };
         }
-        if b'9' < c {
-            return Numeral { value: v, next: i };
-        }
-        v = more(v, c);
-        i += 1;
+        value = more(value, c);
     }
-    Numeral { value: v, next: i }
+    Numeral {
+        value,
+        next: text.len(),
+    }
 }
 
 // The number of the count that stands at `at`, held, and the place after it.
@@ -120,19 +118,13 @@ fn count_at(text: &[u8], at: usize) -> Numeral
         return Numeral { value: 0, next: at };
     }
     let c = text[at];
-    if c < b'*' {
-        return Numeral { value: 0, next: at };
-    }
-    if b'9' < c {
-        return Numeral { value: 0, next: at };
-    }
     if c == b'*' {
         return Numeral {
             value: 1,
             next: at + 1,
         };
     }
-    if c < b'0' {
+    if !c.is_ascii_digit() {
         return Numeral { value: 0, next: at };
     }
     let n = number(text, at);
@@ -144,34 +136,19 @@ fn count_at(text: &[u8], at: usize) -> Numeral
 
 // The flag and the count that stand at `at`, after a type character.
 pub fn tail_at(text: &[u8], at: usize) -> Tail
-    ensures { TailAt text.now at result.flag result.value result.next }
+    ensures { TailAt text.now at (to_nat result.flag) result.value result.next }
 {
-    if text.len() <= at {
+    if at < text.len() && text[at] == b'u' {
+        let n = count_at(text, at + 1);
         return Tail {
-            flag: 0,
-            value: 0,
-            next: at,
-        };
-    }
-    let c = text[at];
-    if b'9' < c {
-        if c != b'u' {
-            return Tail {
-                flag: 0,
-                value: 0,
-                next: at,
-            };
-        }
-        let m = count_at(text, at + 1);
-        return Tail {
-            flag: 1,
-            value: m.value,
-            next: m.next,
+            flag: true,
+            value: n.value,
+            next: n.next,
         };
     }
     let n = count_at(text, at);
     Tail {
-        flag: 0,
+        flag: false,
         value: n.value,
         next: n.next,
     }

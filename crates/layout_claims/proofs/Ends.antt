@@ -8,12 +8,12 @@ use mathlib.Core.List.{List, [], ◌∷◌, ◌++◌, append_assoc, append-nil}
 use borrow.Author.Tests.{ne_eqb}
 use lib.Dec.{eqb}
 use lib.ListN.{length, length-append}
+use Rattle.std.specs.declared.option.Option.{Option}
+use Rattle.std.specs.declared.option.Option.TheVariants.{Some, None}
 use Rattle.layout.specs.declared.Role.{Role}
 use Rattle.layout.specs.declared.Count.{Count}
 use Rattle.layout.specs.declared.Count.TheVariants.{Absent, Star}
 use Rattle.layout.specs.declared.Field.{Field}
-use Rattle.layout.specs.declared.Typed.{Typed}
-use Rattle.layout.specs.declared.Typed.TheVariants.{Known, Unknown}
 use Rattle.layout.specs.Layout.{is_decimal, type_of, flagged}
 use Rattle.layout_claims.specs.Spelling.{Digit, Digits, flag, Counts, absent, star, number, Writes, written, Spells, nothing, spaced, next, Formed}
 use Rattle.layout_claims.specs.Faults.{GoesOn}
@@ -32,7 +32,7 @@ whole (written {k = k} {u = u} {n = n} {count = count} e q) c cs h =
     let bare : size_in bytes ≡ length bytes = rw append-nil at size in
     rw same at bare
 
-module _ {n : Count} {count : List ℕ} (c : ℕ) (k : Role) (u : Bool) (e : type_of c ≡ Known k) (q : Counts n count) where
+module _ {n : Count} {count : List ℕ} (c : ℕ) (k : Role) (u : Bool) (e : type_of c ≡ Some k) (q : Counts n count) where
   abbrev bytes : List ℕ
   bytes = c ∷ (flag u ++ count)
 
@@ -67,7 +67,7 @@ not_digit b h = go (is_decimal b) refl
     go false e = refl
 
 -- what is no field together with a field does not belong to it
-pub ends-apart : {n : Count} {count : List ℕ} (c : ℕ) (k : Role) (u : Bool) → type_of c ≡ Known k → Counts n count
+pub ends-apart : {n : Count} {count : List ℕ} (c : ℕ) (k : Role) (u : Bool) → type_of c ≡ Some k → Counts n count
     → (b : ℕ) (more : List ℕ) → ((f : Field) → Writes f ((c ∷ (flag u ++ count)) ++ (b ∷ [])) → ⊥)
     → Apart u n (b ∷ more)
 unfolding flagged
@@ -125,7 +125,7 @@ loose-ends text c l g = go g.short.1 g.long.0 g.long.1
     go (written {c = b} {k = k} {u = u} {n = n} e q) h w = no_longer b k u e q c (apart-loose u n c [] l) h w
 
 -- and what does not, does not belong to the field that ends there
-module _ {n : Count} {count : List ℕ} (b : ℕ) (k : Role) (u : Bool) (e : type_of b ≡ Known k) (q : Counts n count) where
+module _ {n : Count} {count : List ℕ} (b : ℕ) (k : Role) (u : Bool) (e : type_of b ≡ Some k) (q : Counts n count) where
   alone-on : (c : ℕ) (f : Field) → Writes f ((b ∷ (flag u ++ count)) ++ (c ∷ []))
       → GoesOn ((b ∷ (flag u ++ count)) ++ []) c
   alone-on c f w =
@@ -146,7 +146,7 @@ module _ {n : Count} {count : List ℕ} (b : ℕ) (k : Role) (u : Bool) (e : typ
 -- ---- a byte that breaks the form
 
 -- it begins no text
-pub no-form : (c : ℕ) → (c ≡ 32 → ⊥) → type_of c ≡ Unknown
+pub no-form : (c : ℕ) → (c ≡ 32 → ⊥) → type_of c ≡ None
     → {fs : List Field} {text : List ℕ} → Spells fs text → text ≡ c ∷ [] → ⊥
 no-form c h e nothing z = never (cc)
 no-form c h e (spaced p) z = h (cc)
@@ -154,7 +154,7 @@ no-form c h e (next (written {c = b} {k = k} g q) p) z =
     let same : b ≡ c = cc in
     not_known b k g (ap type_of same ∙ e)
 
-module _ (c : ℕ) (no-space : c ≡ 32 → ⊥) (unknown : type_of c ≡ Unknown) where
+module _ (c : ℕ) (no-space : c ≡ 32 → ⊥) (unknown : type_of c ≡ None) where
   breaks : {fs : List Field} {text : List ℕ} → Spells fs text → (GoesOn text c → ⊥) → Formed (text ++ (c ∷ [])) → ⊥
   breaks nothing h (gs, q) = no-form c no-space unknown q refl
   breaks (spaced {text = text} p) h (gs, q) =
@@ -166,12 +166,12 @@ module _ (c : ℕ) (no-space : c ≡ 32 → ⊥) (unknown : type_of c ≡ Unknow
 
 -- a byte that breaks the form is no space and no type character ..
 no-type : (text : List ℕ) (c : ℕ) → Formed text → (Formed (text ++ (c ∷ [])) → ⊥)
-    → (c ≡ 32 → ⊥) × (type_of c ≡ Unknown)
+    → (c ≡ 32 → ⊥) × (type_of c ≡ None)
 no-type text c (fs, p) h = (λ e. h (fs ++ [], join p (rw e (spaced nothing))), by-type (type_of c) refl)
   where
-    by-type : (t : Typed) → type_of c ≡ t → t ≡ Unknown
-    by-type (Known k) e = absurd (h (_, join p (alone (written {u = false} e absent))))
-    by-type Unknown e = refl
+    by-type : (t : Option Role) → type_of c ≡ t → t ≡ None
+    by-type (Some k) e = absurd (h (_, join p (alone (written {u = false} e absent))))
+    by-type None e = refl
 
 -- .. and does not go on with the field before it
 longer : (text : List ℕ) (c : ℕ) → GoesOn text c → Formed (text ++ (c ∷ []))

@@ -7,10 +7,10 @@ use mathlib.Core.List.{List, [], ◌∷◌, ◌++◌, append_assoc, append-nil}
 use borrow.Author.Tests.{eqb-false}
 use lib.ListN.{length, drop, replicate}
 use lib.Seq.{drop_at}
+use Rattle.std.specs.declared.option.Option.TheVariants.{Some}
 use Rattle.layout.specs.declared.Role.{Role}
 use Rattle.layout.specs.declared.Count.{Count}
 use Rattle.layout.specs.declared.Field.{Field}
-use Rattle.layout.specs.declared.Typed.TheVariants.{Known}
 use Rattle.layout.specs.Layout.{type_of, flagged, count_of, count_length, to_nat}
 use Rattle.layout.proofs.Steps.{is-decimal}
 use Rattle.layout_claims.specs.Spelling.{flag, Counts, Writes, written, Spells, nothing, spaced, next}
@@ -43,7 +43,7 @@ begins fs c text p =
 
 -- ---- spaces
 
-pub no-space {ℓ} : {X : Type ℓ} (c : ℕ) (k : Role) → type_of c ≡ Known k → c ≡ 32 → X
+pub no-space {ℓ} : {X : Type ℓ} (c : ℕ) (k : Role) → type_of c ≡ Some k → c ≡ 32 → X
 unfolding type_of
 no-space c k e h = not_known c k e (rw h)
 
@@ -115,7 +115,7 @@ pub record Split (k : Role) (cs : List ℕ) (fs : List Field) : Type 0 where
   pub rest : Spells others (drop (size_in cs) cs)
 
 pub split : {fs : List Field} {text : List ℕ} → Spells fs text → (c : ℕ) (cs : List ℕ) (k : Role)
-    → text ≡ c ∷ cs → type_of c ≡ Known k → Split k cs fs
+    → text ≡ c ∷ cs → type_of c ≡ Some k → Split k cs fs
 split nothing c cs k e h = never (cc)
 split (spaced p) c cs k e h = no-space c k h (let l : c ≡ 32 = cc in l)
 split (next {fs = fs} {rest = rest} (written {k = j} {u = u} {n = n} {count = count} g q) p) c cs k e h =

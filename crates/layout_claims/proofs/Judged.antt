@@ -12,12 +12,12 @@ use borrow.Author.Tests.{eqb-true, eqb-false, lt-leb}
 use lib.Dec.{eqb}
 use lib.ListN.{length, drop, length-append}
 use lib.Seq.{drop_at, drop-nil}
+use Rattle.std.specs.declared.option.Option.{Option}
+use Rattle.std.specs.declared.option.Option.TheVariants.{Some, None}
 use Rattle.layout.specs.declared.Role.{Role}
 use Rattle.layout.specs.declared.Count.{Count}
 use Rattle.layout.specs.declared.Count.TheVariants.{Absent, Star, Times}
 use Rattle.layout.specs.declared.Field.{Field}
-use Rattle.layout.specs.declared.Typed.{Typed}
-use Rattle.layout.specs.declared.Typed.TheVariants.{Known, Unknown}
 use Rattle.layout.specs.declared.Refusal.{Refusal}
 use Rattle.layout.specs.Refusals.{Result, ok, refused}
 use Rattle.layout.specs.Layout.{max_count, type_of, flagged, count_of, in_limit, has_meaning, to_nat, Step, space, field, bad, step_of, step_extra, step_then, fields_from, fields_of}
@@ -103,7 +103,7 @@ module _ (packing : Bool) where
   -- ---- a whole field in front
 
   record Lead (c : ℕ) (cs : List ℕ) (f : Field) (m : ℕ) : Type 0 where
-    type : type_of c ≡ Known f.role
+    type : type_of c ≡ Some f.role
     found : Found cs f.unsigned f.count
     size : length (flag f.unsigned ++ found.count) ≡ m
     small : Small f.count
@@ -160,12 +160,12 @@ module _ (packing : Bool) where
     abbrev IsTold : Type 0
     IsTold = StepTold at c cs (step_of packing at c cs)
 
-    told-unknown : (c ≡ 32 → ⊥) → type_of c ≡ Unknown → IsTold
+    told-unknown : (c ≡ 32 → ⊥) → type_of c ≡ None → IsTold
     told-unknown h e =
         rw (step-unknown packing at c cs h e)
         (0, sym (add-zero at), unknown c cs nothing-before (λ q. no-form c h e q.1 refl))
 
-    module _ (k : Role) (e : type_of c ≡ Known k) where
+    module _ (k : Role) (e : type_of c ≡ Some k) where
       abbrev u : Bool
       u = flagged cs
 
@@ -223,9 +223,9 @@ module _ (packing : Bool) where
     told-step : IsTold
     told-step = by-space (eqb c 32) refl
       where
-        by-type : (t : Typed) → type_of c ≡ t → (c ≡ 32 → ⊥) → IsTold
-        by-type (Known k) e h = told-known k e
-        by-type Unknown e h = told-unknown h e
+        by-type : (t : Option Role) → type_of c ≡ t → (c ≡ 32 → ⊥) → IsTold
+        by-type (Some k) e h = told-known k e
+        by-type None e h = told-unknown h e
 
         by-space : (t : Bool) → eqb c 32 ≡ t → IsTold
         by-space true e = rw (step-space packing at c cs (eqb-true c 32 e)) (eqb-true c 32 e)

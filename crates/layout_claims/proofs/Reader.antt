@@ -10,13 +10,13 @@ use mathlib.Core.List.{List, [], ◌∷◌, ◌++◌, append_assoc, append-nil}
 use borrow.Author.Tests.{le-leb, lt-leb, ne_eqb}
 use lib.ListN.{length, drop, length-append}
 use lib.Seq.{drop_at, drop-nil}
+use Rattle.std.specs.declared.option.Option.TheVariants.{Some, None}
 use Rattle.layout.specs.declared.Role.{Role}
 use Rattle.layout.specs.declared.Role.TheVariants.{Data, Move}
 use Rattle.layout.specs.declared.Motion.TheVariants.{Skip, Back, Goto}
 use Rattle.layout.specs.declared.Count.{Count}
 use Rattle.layout.specs.declared.Count.TheVariants.{Absent, Star, Times}
 use Rattle.layout.specs.declared.Field.{Field}
-use Rattle.layout.specs.declared.Typed.TheVariants.{Known, Unknown}
 use Rattle.layout.specs.declared.Refusal.{Refusal}
 use Rattle.layout.specs.declared.Refusal.TheVariants.{BadType, BadCount, BadMove}
 use Rattle.layout.specs.Refusals.{Result, ok, refused, ◌>>=◌}
@@ -60,11 +60,11 @@ module _ (packing : Bool) (at c : ℕ) (cs : List ℕ) where
   unfolding step_of
   step-space e = rw e
 
-  pub step-unknown : (c ≡ 32 → ⊥) → type_of c ≡ Unknown → step_of packing at c cs ≡ bad BadType at
+  pub step-unknown : (c ≡ 32 → ⊥) → type_of c ≡ None → step_of packing at c cs ≡ bad BadType at
   unfolding step_of field_at
   step-unknown h e = rw (ne_eqb c 32 h, e, field_at)
 
-  module _ (k : Role) (e : type_of c ≡ Known k) where
+  module _ (k : Role) (e : type_of c ≡ Some k) where
     step-known : step_of packing at c cs ≡ step_from (field_after packing at k cs)
     unfolding step_of field_at
     step-known = rw (ne_eqb c 32 (no-space c k e), e, field_at)
@@ -129,7 +129,7 @@ module _ (packing : Bool) where
   unfolding fields_from
   over-space at cs = refl
 
-  module _ {n : Count} {count : List ℕ} (c : ℕ) (k : Role) (u : Bool) (e : type_of c ≡ Known k) (q : Counts n count)
+  module _ {n : Count} {count : List ℕ} (c : ℕ) (k : Role) (u : Bool) (e : type_of c ≡ Some k) (q : Counts n count)
     where
       over-field : (at : ℕ) (rest : List ℕ) → Apart u n rest → Small n → (Misused packing k n → ⊥)
           → fields_from packing at 0 ((c ∷ (flag u ++ count)) ++ rest)

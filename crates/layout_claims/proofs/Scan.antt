@@ -1,5 +1,6 @@
 -- One field, and what the layout reader makes of the bytes after its type character: it takes the flag and the count as
 -- they are written wherever the next byte does not belong to them, and what it takes is a flag and a count.
+use Rattle.std.specs.declared.option.Option.TheVariants.{Some, None}
 use Rattle.std.specs.Prelude.{if◌then◌else◌}
 use Prim.Native.Nat.{ℕ, suc, ◌+◌, ◌-◌, ◌*◌, ◌^◌, ◌/◌, ◌≤◌, ◌<◌}
 use native.Mathlib.Nat.{pow-suc}
@@ -13,7 +14,6 @@ use lib.ListN.{length, take, drop, take-append-drop}
 use Rattle.layout.specs.declared.Role.{Role}
 use Rattle.layout.specs.declared.Count.{Count}
 use Rattle.layout.specs.declared.Count.TheVariants.{Absent, Star, Times}
-use Rattle.layout.specs.declared.Typed.TheVariants.{Known, Unknown}
 use Rattle.layout.specs.Layout.{is_decimal, type_of, flagged, digit_run, decimal, count_of, count_length, to_nat}
 use Rattle.layout.proofs.Letters.{no-letter}
 use Rattle.layout.proofs.Steps.{is-decimal}
@@ -38,10 +38,10 @@ pub record Loose (c : ℕ) : Type 0 where
   pub no-star : eqb c 42 ≡ false
   pub no_digit : is_decimal c ≡ false
 
-pub not_known {ℓ} : {X : Type ℓ} (c : ℕ) (k : Role) → type_of c ≡ Known k → type_of c ≡ Unknown → X
+pub not_known {ℓ} : {X : Type ℓ} (c : ℕ) (k : Role) → type_of c ≡ Some k → type_of c ≡ None → X
 not_known c k e h = never (cc)
 
-pub known-loose : (c : ℕ) (k : Role) → type_of c ≡ Known k → Loose c
+pub known-loose : (c : ℕ) (k : Role) → type_of c ≡ Some k → Loose c
 unfolding type_of
 known-loose c k e =
     record {

@@ -2,9 +2,9 @@
 -- just the texts that Spelling calls layouts, and refuses each other one with the number and place of its fault. So no
 -- reader need be believed. Proved in proofs/Form.antt (`blank`, `begins`, `one_list`, `joined`), proofs/Ends.antt
 -- (`strays`) and proofs/Judged.antt (`spellings`, `places`, `judged`).
+use Rattle.std.specs.declared.option.Option.TheVariants.{None}
 use Rattle.std.specs.Prelude.{ℕ, ◌≡◌, ◌↔◌, ◌⊎◌, Bool, List, [], ◌∷◌, ◌++◌, length, replicate}
 use Rattle.layout.specs.declared.Field.{Field}
-use Rattle.layout.specs.declared.Typed.TheVariants.{Unknown}
 use Rattle.layout.specs.declared.Refusal.{Refusal}
 use Rattle.layout.specs.Refusals.{ok, refused}
 use Rattle.layout.specs.Layout.{type_of, fields_of}
@@ -32,7 +32,7 @@ Joined = (a b : List ℕ) (fs gs : List Field) → Spells fs a → Spells gs b �
 -- a byte breaks the form (number 2) where it is no space, no type character, and does not go on with the field before
 unfoldable pub Strays : Type 0
 Strays = (text : List ℕ) (c : ℕ) → Formed text
-    → (Formed (text ++ (c ∷ [])) → ⊥) ↔ ((c ≡ 32 → ⊥) × (type_of c ≡ Unknown) × (GoesOn text c → ⊥))
+    → (Formed (text ++ (c ∷ [])) → ⊥) ↔ ((c ≡ 32 → ⊥) × (type_of c ≡ None) × (GoesOn text c → ⊥))
 
 -- ---- the reader
 

@@ -1,9 +1,9 @@
 -- The numbers 2, 3 and 4 of a text (01, Numbers that come back; 02, M-106), by the form of a layout alone: what stands
 -- at the first fault from the left, and the place that is told.
+use Rattle.std.specs.declared.option.Option.TheVariants.{Some}
 use Rattle.std.specs.Prelude.{ℕ, suc, ◌+◌, ◌<◌, ◌≡◌, Bool, List, [], ◌∷◌, ◌++◌, length}
 use Rattle.layout.specs.declared.Role.{Role}
 use Rattle.layout.specs.declared.Field.{Field}
-use Rattle.layout.specs.declared.Typed.TheVariants.{Known}
 use Rattle.layout.specs.declared.Refusal.{Refusal}
 use Rattle.layout.specs.declared.Refusal.TheVariants.{BadType, BadCount, BadMove}
 use Rattle.layout.specs.Layout.{max_count, type_of}
@@ -22,7 +22,7 @@ pub data Faulty (packing : Bool) : List ℕ → Refusal → ℕ → Type 0 where
   -- number 3, at the first digit: a type character c, perhaps the flag, and digits, perhaps with more after them, that
   -- make a number above 32,768
   large : {front : List ℕ} (c : ℕ) {k : Role} (u : Bool) (ds more : List ℕ) → Accepted packing front
-      → type_of c ≡ Known k → Digits ds → max_count < value ds
+      → type_of c ≡ Some k → Digits ds → max_count < value ds
       → Faulty packing (front ++ (c ∷ (flag u ++ (ds ++ more)))) BadCount (length front + suc (length (flag u)))
   -- number 4, at the type character: a field that is misused, and that does not go on
   misused : {front : List ℕ} {f : Field} {bytes : List ℕ} (more : List ℕ) → Accepted packing front

@@ -1,5 +1,6 @@
 -- What a layout text is (01, Layout text, with 02, M-101), said without any reader: the ways to write a list of fields.
 -- No line asks what stands after a field: a text goes on with no digit, no star and no flag (`Begins` in Claim).
+use Rattle.std.specs.declared.option.Option.TheVariants.{Some}
 use Rattle.std.specs.Prelude.{ℕ, ◌+◌, ◌-◌, ◌*◌, ◌^◌, ◌≤◌, ◌≡◌, Bool, true, false, List, [], ◌∷◌, ◌++◌, length}
 use Rattle.layout.specs.declared.Role.{Role}
 use Rattle.layout.specs.declared.Role.TheVariants.{Move}
@@ -7,7 +8,6 @@ use Rattle.layout.specs.declared.Motion.TheVariants.{Skip, Goto}
 use Rattle.layout.specs.declared.Count.{Count}
 use Rattle.layout.specs.declared.Count.TheVariants.{Absent, Star, Times}
 use Rattle.layout.specs.declared.Field.{Field}
-use Rattle.layout.specs.declared.Typed.TheVariants.{Known}
 use Rattle.layout.specs.Layout.{max_count, type_of}
 
 -- ---- a number in decimal digits
@@ -40,7 +40,7 @@ pub data Counts : Count → List ℕ → Type 0 where
 
 -- A FIELD: a type character c, then perhaps the flag, then perhaps a count
 pub data Writes : Field → List ℕ → Type 0 where
-  written : {c : ℕ} {k : Role} {u : Bool} {n : Count} {count : List ℕ} → type_of c ≡ Known k → Counts n count
+  written : {c : ℕ} {k : Role} {u : Bool} {n : Count} {count : List ℕ} → type_of c ≡ Some k → Counts n count
       → Writes (record { role = k; unsigned = u; count = n }) (c ∷ (flag u ++ count))
 
 -- ---- THE FORM OF A LAYOUT: the fields fs may be written as this text

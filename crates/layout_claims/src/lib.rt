@@ -1,4 +1,4 @@
 #![tactic(auto)]
 
-// What a layout text is, said by its form (document 01, Layout text): a grammar, the claims about the layout reader,
+// What a layout text is, said by its form: a grammar, the claims about the layout reader,
 // worked examples, and no code.

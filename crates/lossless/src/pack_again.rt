@@ -1,4 +1,4 @@
-// A record read by a layout and packed again by it: the calls of which M-107 speaks.
+// A record read by a layout and packed again by it: the calls of which the claim speaks.
 // The claim is in specs/Claim.antt, its proof in proofs/; `read_and_pack` keeps it.
 ghost use Rattle.lossless.specs.Calls.{ReadsAndPacksAs};
 
@@ -26,10 +26,8 @@ pub fn read_and_pack(
         (record { answer = result; slots = slots.new; area = area.new; output = out.new }) }
 {
     let r = reader::read(layout, bytes, slots, area, mark);
-    let a = r.answer;
-    let number = a.number;
-    if number != 0 {
-        return a;
+    if r.answer.number != 0 {
+        return r.answer;
     }
     packer::pack(layout, slots, area, out)
 }

@@ -1,6 +1,6 @@
 -- What holds of the mean for all tables (02, M-104); the proofs are in proofs/marks/Theorems.antt, and of
 -- `NearestUnique` in proofs/marks/NearestMean.antt.
-use Rattle.std.specs.Prelude.{ℕ, suc, ◌+◌, ◌-◌, ◌*◌, ◌^◌, ◌<◌, min, max, ◌≡◌, Bool, true, false, not, ◌&&◌, List, [], ◌∷◌, T, eqb, leb, length, ℤ, pos, negsuc, Float, if◌then◌else◌}
+use Rattle.std.specs.Prelude.{ℕ, suc, ◌+◌, ◌-◌, ◌*◌, ◌^◌, ◌<◌, min, max, ◌≡◌, Bool, true, false, not, ◌&&◌, List, [], ◌∷◌, T, eqb, leb, length, ℤ, pos, negsuc, Float, Option, None, Some, if◌then◌else◌}
 use Rattle.std.specs.Float.{binary64}
 use Rattle.std.specs.Float.Ieee.{to_bits, is_nan, le}
 use Rattle.layout.specs.Refusals.{ok}
@@ -9,8 +9,6 @@ use Rattle.real.specs.Narrowing.{Nearest}
 use Rattle.record.specs.declared.slots.Slot.{Slot}
 use Rattle.record.specs.Table.{unset as kind_unset, signed, slots_of}
 use Rattle.record.specs.Geometry.{table_fits}
-use Rattle.mean.specs.declared.marks.LegMean.{LegMean}
-use Rattle.mean.specs.declared.marks.LegMean.TheVariants.{Unmarked, Of}
 use Rattle.mean.specs.declared.marks.Marks.{Marks}
 use Rattle.mean.specs.Mean.{Leg, max_mark, marks_of, sum_of, double, legs, mean}
 
@@ -59,7 +57,7 @@ UnsetCounts =
 abbrev pub OneMark : Type 0
 OneMark =
     (slots area : List ℕ) (ls : List Leg) (m : ℕ) → legs slots area ≡ ok ls → marks_of ls ≡ m ∷ []
-    → (mean slots area).mean ≡ Of (double m)
+    → (mean slots area).mean ≡ Some (double m)
 
 unfoldable pub least : ℕ → List ℕ → ℕ
 least m [] = m
@@ -78,12 +76,12 @@ pub record Between (m : ℕ) (ms : List ℕ) (x : Float) : Type 0 where
 abbrev pub MeanBetween : Type 0
 MeanBetween =
     (slots area : List ℕ) (ls : List Leg) (m : ℕ) (ms : List ℕ) → legs slots area ≡ ok ls → marks_of ls ≡ m ∷ ms
-    → (x : Float) × ((mean slots area).mean ≡ Of x) × Between m ms x
+    → (x : Float) × ((mean slots area).mean ≡ Some x) × Between m ms x
 
 -- a mean is a number, so that it has a pattern
-abbrev pub Numeric : LegMean → Type 0
-Numeric Unmarked = Unit {0}
-Numeric (Of x) = T (not (is_nan x))
+abbrev pub Numeric : Option Float → Type 0
+Numeric None = Unit {0}
+Numeric (Some x) = T (not (is_nan x))
 
 abbrev pub MeanNumeric : Type 0
 MeanNumeric = (slots area : List ℕ) → Numeric (mean slots area).mean
@@ -105,7 +103,7 @@ NearestQuotient sum count p = Nearest (λ q. count * double_magnitude q) double_
 abbrev pub MeanNearest : Type 0
 MeanNearest =
     (slots area : List ℕ) (ls : List Leg) (m : ℕ) (ms : List ℕ) → legs slots area ≡ ok ls → marks_of ls ≡ m ∷ ms
-    → (x : Float) × ((mean slots area).mean ≡ Of x)
+    → (x : Float) × ((mean slots area).mean ≡ Some x)
     × NearestQuotient (sum_of (m ∷ ms)) (length (m ∷ ms)) (to_bits binary64 x)
 
 -- no other double is the nearest to sum / count

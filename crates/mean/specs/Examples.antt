@@ -1,11 +1,9 @@
 -- Examples of the mean (02, M-104), as one statement, proved in proofs/marks/Examples.antt.
-use Rattle.std.specs.Prelude.{ℕ, zero, suc, ◌*◌, Bool, true, false, ◌&&◌, List, [], ◌∷◌, ◌++◌, eqb, replicate}
+use Rattle.std.specs.Prelude.{ℕ, zero, suc, ◌*◌, Bool, true, false, ◌&&◌, List, [], ◌∷◌, ◌++◌, eqb, replicate, Float, Option, None, Some}
 use Rattle.std.specs.Float.{binary64}
 use Rattle.std.specs.Float.Ieee.{to_bits}
 use Rattle.record.specs.Bytes.{big_endian}
 use Rattle.record.specs.Table.{slot_width, max_slots, integer_bytes}
-use Rattle.mean.specs.declared.marks.LegMean.{LegMean}
-use Rattle.mean.specs.declared.marks.LegMean.TheVariants.{Unmarked, Of}
 use Rattle.mean.specs.declared.marks.Marks.{Marks}
 use Rattle.mean.specs.Mean.{mean}
 
@@ -23,13 +21,13 @@ legs_from (suc n) at = 3 ∷ at ∷ 1 ∷ 0 ∷ legs_from n (suc (suc (suc (suc 
 unfoldable agrees : Marks → ℕ → ℕ → Bool
 agrees r number first = eqb r.answer.number number && eqb r.answer.first first && eqb r.answer.second 0
 
-is_unmarked : LegMean → Bool
-is_unmarked Unmarked = true
-is_unmarked (Of x) = false
+is_unmarked : Option Float → Bool
+is_unmarked None = true
+is_unmarked (Some x) = false
 
-has_pattern : LegMean → ℕ → Bool
-has_pattern Unmarked b = false
-has_pattern (Of x) b = eqb (to_bits binary64 x) b
+has_pattern : Option Float → ℕ → Bool
+has_pattern None b = false
+has_pattern (Some x) b = eqb (to_bits binary64 x) b
 
 unfoldable pub holds : Example → Bool
 unfolding agrees mean is_unmarked has_pattern to_bits

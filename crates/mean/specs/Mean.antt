@@ -1,5 +1,5 @@
 -- The mean of the marked legs (02, M-104): each slot of a table is one leg. THE EFFECT OF A CALL is `mean`, at the end.
-use Rattle.std.specs.Prelude.{ℕ, suc, ◌+◌, List, [], ◌∷◌, eqb, leb, length, get_or, pos, Float, if◌then◌else◌}
+use Rattle.std.specs.Prelude.{ℕ, suc, ◌+◌, List, [], ◌∷◌, eqb, leb, length, get_or, pos, Float, Option, None, Some, if◌then◌else◌}
 use Rattle.std.specs.Float.{binary64}
 use Rattle.std.specs.Float.Ieee.{of_int, div}
 use Rattle.layout.specs.declared.Refusal.TheVariants.{BadSize, BadSlot, WrongKind, BadList, BadMark}
@@ -9,8 +9,6 @@ use Rattle.record.specs.Table.{unset as kind_unset, is_integers, slots_of, shown
 use Rattle.record.specs.Geometry.{table_fits}
 use Rattle.record.specs.Packing.{accepted, refusal}
 use Rattle.record.specs.Slots.{is_inside}
-use Rattle.mean.specs.declared.marks.LegMean.{LegMean}
-use Rattle.mean.specs.declared.marks.LegMean.TheVariants.{Unmarked, Of}
 use Rattle.mean.specs.declared.marks.Marks.{Marks}
 
 -- ---- the legs of a table
@@ -76,10 +74,10 @@ unfolding double div
 quotient sum count = div binary64 (double sum) (double count)
 
 -- the mean of these marks; where there is none, no leg is marked
-unfoldable pub mean_of : List ℕ → LegMean
+unfoldable pub mean_of : List ℕ → Option Float
 unfolding quotient sum_of
-mean_of [] = Unmarked
-mean_of (m ∷ ms) = Of (quotient (sum_of (m ∷ ms)) (length (m ∷ ms)))
+mean_of [] = None
+mean_of (m ∷ ms) = Some (quotient (sum_of (m ∷ ms)) (length (m ∷ ms)))
 
 -- ---- the call
 
@@ -94,7 +92,7 @@ legs slots area = do
 unfoldable pub marks_effect : Result (List Leg) → Marks
 unfolding unset_of marks_of mean_of
 marks_effect (ok ls) = record { answer = accepted (unset_of ls) 0; mean = mean_of (marks_of ls) }
-marks_effect (refused why place) = record { answer = refusal why place; mean = Unmarked }
+marks_effect (refused why place) = record { answer = refusal why place; mean = None }
 
 unfoldable pub mean : List ℕ → List ℕ → Marks
 unfolding legs marks_effect

@@ -2,17 +2,15 @@
 // specs/Mean.antt.
 #![tactic(auto)]
 
-ghost use Rattle.std.specs.Prelude.{◌≡◌, ◌+◌, ◌*◌, ◌≤◌, length};
-ghost use Rattle.record.specs.Table.{slot_width};
-ghost use Rattle.record.specs.Packing.{refusal};
-ghost use Rattle.record.specs.Slots.{slot_at};
-ghost use Rattle.mean.specs.Mean.{leg_of, mean};
-ghost use Rattle.mean.specs.inside.Walk.{turn_of, mean_of_tally, Near};
+ghost use Rattle.std.specs.Prelude.{◌≡◌};
+ghost use Rattle.mean.specs.Mean.{leg_of, legs, mean};
+ghost use Rattle.mean.specs.inside.Walk.{turn_of, outcome, none, mean_of_tally, Near};
 
 use byte_runs::big_endian;
 use layout::Refusal;
-use marks::{LegMean, Marks, Tally, Turn};
+use marks::{Marks, Tally};
 use record::Answer;
+use record::slots::Slot;
 use slot_table::sizes;
 
 // What a call answers, and what its walk counts.
@@ -20,88 +18,79 @@ pub mod marks;
 
 const MAX_MARK: u64 = 1000000;
 
-fn refused(why: Refusal, place: u32) -> Marks
-    ensures { result ≡ record { answer = refusal why place; mean = LegMean.Unmarked } }
-{
-    Marks {
-        answer: Answer::refused(why, place),
-        mean: LegMean::Unmarked,
+impl Tally {
+    // The tally with the leg in a slot, slot number `place`; or the refusal of that slot.
+    #[tactic(auto, unfolding(crate::specs::Mean::leg_of))]
+    fn with(self, slot: Slot, area: &[u8], place: u32) -> Result<Tally, Answer>
+        requires { Near place self }
+        ensures { result ≡ turn_of self (leg_of area.now place slot) }
+    {
+        if slot.kind == record::slots::UNSET {
+            return Ok(Tally {
+                unset: self.unset + 1,
+                ..self
+            });
+        }
+        if !slot_table::is_inside(slot, area.len()) {
+            return Err(Answer::refused(Refusal::BadSlot, place));
+        }
+        if !slot_table::is_integers(slot.kind) {
+            return Err(Answer::refused(Refusal::WrongKind, place));
+        }
+        if slot.len != 1 {
+            return Err(Answer::refused(Refusal::BadList, place));
+        }
+        let mark = big_endian::number_at(area, slot.start as usize, record::INTEGER_SIZE);
+        if MAX_MARK < mark {
+            return Err(Answer::refused(Refusal::BadMark, place));
+        }
+        Ok(Tally {
+            sum: self.sum + mark as u32,
+            marked: self.marked + 1,
+            ..self
+        })
+    }
+
+    // The mean of the marks counted: the one division.
+    #[tactic(auto, unfolding(crate::specs::Mean::quotient, crate::specs::Mean::double))]
+    fn mean(self) -> Option<f64>
+        ensures { result ≡ mean_of_tally self }
+    {
+        if self.marked == 0 {
+            return None;
+        }
+        Some(self.sum as f64 / self.marked as f64)
     }
 }
 
-// The tally with the leg in slot number k, or the refusal of that slot.
-fn step(slots: &[u32], area: &[u8], k: usize, t: Tally) -> Turn
-    requires { (slot_width * k + slot_width ≤ length slots.now) × Near k t }
-    ensures { result ≡ turn_of t (leg_of area.now k (slot_at slots.now k)) }
+// The tally of a table, or the first refusal.
+fn tally(slots: &[u32], area: &[u8]) -> Result<Tally, Answer>
+    ensures { result ≡ outcome none (legs slots.now area.now) }
 {
-    let s = slot_table::slot_at(slots, k);
-    if s.kind == record::slots::UNSET {
-        return Turn::Next(Tally {
-            sum: t.sum,
-            marked: t.marked,
-            unset: t.unset + 1,
-        });
+    if !sizes::table_fits(slots.len(), area.len()) {
+        return Err(Answer::refused(Refusal::BadSize, 0));
     }
-    if !slot_table::is_inside(s, area.len()) {
-        return Turn::Stop(Refusal::BadSlot);
+    let mut t = Tally {
+        sum: 0,
+        marked: 0,
+        unset: 0,
+    };
+    // Slot by slot, by its number, as `slot_at` takes it.
+    for k in 0..slots.len() / record::SLOT_WIDTH {
+        t = t.with(slot_table::slot_at(slots, k), area, k as u32)?;
     }
-    if !slot_table::is_integers(s.kind) {
-        return Turn::Stop(Refusal::WrongKind);
-    }
-    if s.len != 1 {
-        return Turn::Stop(Refusal::BadList);
-    }
-    let mark = big_endian::number_at(area, s.start, record::INTEGER_SIZE);
-    if MAX_MARK < mark {
-        return Turn::Stop(Refusal::BadMark);
-    }
-    Turn::Next(Tally {
-        sum: t.sum + mark as u32,
-        marked: t.marked + 1,
-        unset: t.unset,
-    })
-}
-
-// The mean of a tally: the one division.
-fn mean_of_tally(t: Tally) -> LegMean
-    ensures { result ≡ mean_of_tally t }
-{
-    let sum = t.sum;
-    let marked = t.marked;
-    if marked == 0 {
-        return LegMean::Unmarked;
-    }
-    LegMean::Of(sum as f64 / marked as f64)
+    Ok(t)
 }
 
 // The mean of the marks in a table, and how many of its slots are not set. A refusal says that no leg is marked.
 pub fn mean(slots: &[u32], area: &[u8]) -> Marks
     ensures { result ≡ mean slots.now area.now }
 {
-    if !sizes::table_fits(slots.len(), area.len()) {
-        return refused(Refusal::BadSize, 0);
-    }
-    let n = slots.len() / record::SLOT_WIDTH;
-    let mut t = Tally {
-        sum: 0,
-        marked: 0,
-        unset: 0,
-    };
-    let mut k: usize = 0;
-    while k < n {
-        let turn = step(slots, area, k, t);
-        match turn {
-            Turn::Stop(why) => {
-                return refused(why, k as u32);
-            }
-            Turn::Next(u) => {
-                t = u;
-                k += 1;
-            }
-        }
-    }
-    Marks {
-        answer: Answer::accepted(t.unset, 0),
-        mean: mean_of_tally(t),
+    match tally(slots, area) {
+        Ok(t) => Marks {
+            answer: Answer::accepted(t.unset, 0),
+            mean: t.mean(),
+        },
+        Err(answer) => Marks { answer, mean: None },
     }
 }

@@ -6,6 +6,7 @@ ghost use Rattle.layout.specs.inside.Parsing.{shape_numbered};
 ghost use Rattle.pack_store.specs.inside.stores.{StoredAs, Storable};
 
 use layout::Shape;
+use pack_check::arguments;
 use record::slots::Slot;
 use slot_table::sizes;
 
@@ -14,11 +15,11 @@ fn store_text(n: usize, a: Slot, area: &[u8], out: &mut [u8], at: usize, pad: u8
     requires { Storable area.now (Text pad) n a at (length out.old) }
     ensures { StoredAs area.now (Text pad) n a at out.old result out.new }
 {
-    text::store(out, at, area, a.start, a.len, n, pad);
+    text::store(out, at, area, a.start as usize, a.len as usize, n, pad);
     n
 }
 
-// Stores n digits; tells how many bytes they fill.
+// Stores n digits; tells how many bytes they fill, by a constant number in each.
 fn store_digits(
     n: usize,
     a: Slot,
@@ -31,11 +32,12 @@ fn store_digits(
     requires { Storable area.now (Digits hex high) n a at (length out.old) }
     ensures { StoredAs area.now (Digits hex high) n a at out.old result out.new }
 {
+    let given = arguments::bytes_of(a, area);
     if hex {
-        digits::store::store_hex(out, at, area, a.start, a.len, n, high);
+        digits::store::store_hex(out, at, given, n, high);
         return sizes::bytes_for(Shape::Digits(true, high), n);
     }
-    digits::store::store_binary(out, at, area, a.start, a.len, n, high);
+    digits::store::store_binary(out, at, given, n, high);
     sizes::bytes_for(Shape::Digits(false, high), n)
 }
 
@@ -52,7 +54,7 @@ fn store_integers(
     requires { Storable area.now (Integers w big) n a at (length out.old) }
     ensures { StoredAs area.now (Integers w big) n a at out.old result out.new }
 {
-    integers::store::store(out, at, area, a.start, n, w, big);
+    integers::store::store(out, at, area, a.start as usize, n, w, big);
     n * w
 }
 
@@ -69,21 +71,21 @@ fn store_reals(
     requires { Storable area.now (Reals single big) n a at (length out.old) }
     ensures { StoredAs area.now (Reals single big) n a at out.old result out.new }
 {
-    let bytes = n * sizes::real_size(single);
-    reals::store::store(out, at, area, a.start, n, single, big);
-    bytes
+    reals::store::store(out, at, area, a.start as usize, n, single, big);
+    n * sizes::real_size(single)
 }
 
 // Stores n items of a value of the type number d; tells how many bytes they fill. A call with constants for each type
 // of integers and reals, so that the compiler makes code of its own for each, and one for all digits: with more, this
 // function is too large to be built into the pass.
+#[tactic(auto, unfolding(layout::specs::inside::Parsing::shape_numbered, layout::specs::Codes::type_numbered))]
 pub fn store_value(d: u32, n: usize, a: Slot, area: &[u8], out: &mut [u8], at: usize) -> usize
     requires { (d ≤ last_data) × Storable area.now (shape_numbered d) n a at (length out.old) }
     ensures { StoredAs area.now (shape_numbered d) n a at out.old result out.new }
 {
     match d {
         layout::TEXT_ZERO => store_text(n, a, area, out, at, 0),
-        layout::TEXT_SPACE => store_text(n, a, area, out, at, 32),
+        layout::TEXT_SPACE => store_text(n, a, area, out, at, b' '),
         layout::BINARY_LOW..=layout::HEX_HIGH => store_digits(
             n,
             a,

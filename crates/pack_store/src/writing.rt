@@ -20,13 +20,13 @@ fn put_move(m: Motion, n: Count, c: Cursor, out: &mut [u8]) -> Cursor
     match m {
         Motion::Skip => {
             let bytes = record::amount(n, 0);
-            byte_runs::fill(out, c.at, bytes, 0);
+            out[c.at..c.at + bytes].fill(0);
             c.store(bytes)
         }
         Motion::Back => c.back(n),
         Motion::Goto => {
             let d = c.goto(n);
-            byte_runs::fill(out, c.end, d.end - c.end, 0);
+            out[c.end..d.end].fill(0);
             d
         }
     }
@@ -41,33 +41,27 @@ fn put(code: u32, slots: &[u32], area: &[u8], k: usize, c: Cursor, out: &mut [u8
     if d <= layout::LAST_DATA {
         let a = slot_table::slot_at(slots, k);
         let n = layout::count_from(code / layout::COUNT_UNIT);
-        let bytes = stores::store_value(d, record::amount(n, a.len), a, area, out, c.at);
+        let bytes = stores::store_value(d, record::amount(n, a.len as usize), a, area, out, c.at);
         return c.store(bytes);
     }
     let f = layout::field_of(code);
-    let role = f.role;
-    let count = f.count;
-    let Role::Move(m) = role else {
-        return c;
+    let Role::Move(m) = f.role else {
+        unreachable!()
     };
-    put_move(m, count, c, out)
+    put_move(m, f.count, c, out)
 }
 
-// The pass over the fields in the first n codes.
-pub fn write(codes: &[u32], n: usize, slots: &[u32], area: &[u8], out: &mut [u8])
-    requires { Writable area.now n codes.now slots.now (length out.old) }
+// The pass over the fields of the codes, as `measuring::measure` walks over them: there a step may refuse, and here it
+// writes.
+pub fn write(codes: &[u32], slots: &[u32], area: &[u8], out: &mut [u8])
+    requires { Writable area.now codes.now slots.now (length out.old) }
     ensures { out.new
-        ≡ written area.now (slots_of slots.now) (decoded n codes.now) origin out.old }
+        ≡ written area.now (slots_of slots.now) (decoded (length codes.now) codes.now) origin out.old }
 {
     let mut c = Cursor::new(0);
     let mut k: usize = 0;
-    let mut i: usize = 0;
-    while i < n {
-        let code = codes[i];
+    for &code in codes {
         c = put(code, slots, area, k, c, out);
-        if code % layout::FLAG_UNIT <= layout::LAST_DATA {
-            k += 1;
-        }
-        i += 1;
+        k += layout::slots_in(code % layout::FLAG_UNIT);
     }
 }

@@ -9,7 +9,9 @@ use lib.ListN.{length}
 use Rattle.layout.specs.declared.Field.{Field}
 use Rattle.layout.specs.declared.Refusal.{Refusal}
 use Rattle.layout.specs.declared.Refusal.TheVariants.{BadSize, BadSlots}
-use Rattle.layout.specs.declared.Parsed.{Parsed}
+use Rattle.layout.specs.declared.Fields.{Fields}
+use Rattle.layout.specs.declared.Refused.{Refused}
+use Rattle.std.specs.declared.result.Result as Std
 use Rattle.layout.specs.Refusals.{Result, ok, refused}
 use Rattle.layout.specs.Layout.{fields_of, slot_count}
 use Rattle.layout.specs.inside.Parsing.{Parses}
@@ -46,7 +48,7 @@ module _ (size : ℕ) (o : Result (List Field)) (slots area output : List ℕ) w
       pack-finish h = simp (fine, e, h)
 
 -- the limits that are checked before the fields are read
-pub read-sized : {p : Parsed} {ws slots area output : List ℕ} {size : ℕ} {o : Result (List Field)} → FieldsRead p ws slots area output size o → Sized size (length slots) (length output) (length area)
+pub read-sized : {p : Std.Result Fields Refused} {ws slots area output : List ℕ} {size : ℕ} {o : Result (List Field)} → FieldsRead p ws slots area output size o → Sized size (length slots) (length output) (length area)
 read-sized j = sized j.fine
 
 -- ---- by a layout
@@ -56,7 +58,7 @@ module _ (layout slots area output : List ℕ) where
       → record { answer = refusal BadSize 0; output = output } ≡ pack layout slots area output
   layout-sizes h = pack-sizes (length layout) (fields_of true layout) slots area output h ∙ sym (pack-fields layout slots area output)
 
-  module _ {p : Parsed} {ws : List ℕ} (fine : lengths_fit (length layout) (length slots) (length output) (length area) ≡ true) (parsed : Parses (fields_of true layout) p ws) where
+  module _ {p : Std.Result Fields Refused} {ws : List ℕ} (fine : lengths_fit (length layout) (length slots) (length output) (length area) ≡ true) (parsed : Parses (fields_of true layout) p ws) where
     pub layout-read : FieldsRead p ws slots area output (length layout) (fields_of true layout)
     layout-read = record { fine = fine; parsed = parsed; inside = refused-inside true layout }
 

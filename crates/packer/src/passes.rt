@@ -7,24 +7,22 @@ ghost use Rattle.packer.specs.inside.passes.{finishes};
 
 use layout::Refusal;
 use pack_check::measuring;
-use pack_check::measuring::Measured;
 use pack_store::writing;
 use record::Answer;
 
-// Packs the arguments into the output by the fields of the first n codes. A refusal changes nothing.
-pub fn pack(codes: &[u32], n: usize, slots: &[u32], area: &[u8], output: &mut [u8]) -> Answer
-    requires { Prepared n codes.now slots.now × (length output.old ≤ max_record) }
+// Packs the arguments into the output by the fields of the codes. A refusal changes nothing.
+pub fn pack(codes: &[u32], slots: &[u32], area: &[u8], output: &mut [u8]) -> Answer
+    requires { Prepared codes.now slots.now × (length output.old ≤ max_record) }
     ensures { record { answer = result; output = output.new }
-        ≡ finishes codes.now n slots.now area.now output.old }
+        ≡ finishes codes.now slots.now area.now output.old }
 {
-    let m = measuring::measure(codes, n, slots, area);
-    match m {
-        Measured::Refused(why, k) => Answer::refused(why, k as u32),
-        Measured::Length(len) => {
+    match measuring::measure(codes, slots, area) {
+        Err(e) => Answer::refused(e.why, e.place as u32),
+        Ok(len) => {
             if output.len() < len {
                 return Answer::refused(Refusal::NoRoom, 0);
             }
-            writing::write(codes, n, slots, area, output);
+            writing::write(codes, slots, area, output);
             Answer::accepted(len as u32, 0)
         }
     }

@@ -1,10 +1,11 @@
 -- Perl pack templates (document 02, M-105): from bytes to a tree of items, or to the stray byte, after which no
 -- template can go on. A text is the list of its bytes, and a place is an index into it.
 use Rattle.std.specs.Prelude.{ℕ, zero, suc, ◌+◌, ◌-◌, Bool, true, false, ◌&&◌, ◌||◌, List, [], ◌∷◌, take, drop, eqb, ltb, if◌then◌else◌}
+use Rattle.std.specs.declared.option.Option.{Option}
+use Rattle.std.specs.declared.option.Option.TheVariants.{Some, None}
 use Rattle.layout.specs.declared.Refusal.TheVariants.{BadTemplate}
 use Rattle.layout.specs.Refusals.{Result, ok, refused}
 use Rattle.perl.specs.declared.tokens.Letter.{Letter}
-use Rattle.perl.specs.declared.tokens.Letter.TheVariants.{Taken, Unknown}
 use Rattle.perl.specs.Tokens.{max_template_count, max_depth, max_repeat, letter_of, number_in, digits_in, repeat_of}
 
 -- ---- the tree (02, M-105: items and groups)
@@ -36,12 +37,12 @@ pub data ReadTo (A : Type 0) : Type 0 where
   stray : ℕ → ReadTo A
 
 -- a letter at the place `at`, with the count in front of cs
-unfoldable pub letter_at : ℕ → Letter → List ℕ → ReadTo Item
+unfoldable pub letter_at : ℕ → Option Letter → List ℕ → ReadTo Item
 unfolding digits_in
-letter_at at (Taken b u) cs =
+letter_at at (Some l) cs =
     let n = digits_in max_template_count 0 cs in
-    read (single (record { letter = b; unsigned = u; count = take n cs })) (suc at + n)
-letter_at at Unknown cs = stray at
+    read (single (record { letter = l.byte; unsigned = l.unsigned; count = take n cs })) (suc at + n)
+letter_at at None cs = stray at
 
 -- a group whose `(` stands at the place `at`, followed by cs; its items end at a `)`, which the repeat follows
 unfoldable pub group_at : ℕ → List ℕ → ReadTo Template → ReadTo Item

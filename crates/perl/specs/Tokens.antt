@@ -1,8 +1,9 @@
 -- The parts that a Perl template is made of (02, M-105): its letters, and its numbers with their limits.
 use Rattle.std.specs.Prelude.{ℕ, zero, suc, ◌+◌, ◌-◌, ◌*◌, Bool, true, false, ◌&&◌, List, [], ◌∷◌, eqb, leb, ltb, if◌then◌else◌}
 use Rattle.layout.specs.Layout.{is_decimal}
+use Rattle.std.specs.declared.option.Option.{Option}
+use Rattle.std.specs.declared.option.Option.TheVariants.{Some, None}
 use Rattle.perl.specs.declared.tokens.Letter.{Letter}
-use Rattle.perl.specs.declared.tokens.Letter.TheVariants.{Taken, Unknown}
 
 -- ---- the limits (02, M-105)
 
@@ -19,20 +20,23 @@ max_repeat = 64
 
 -- ---- the letters (02, M-105): ours for a Perl letter, and whether our flag `u` follows it
 
-unfoldable pub letter_of : ℕ → Letter
+abbrev pub becomes : ℕ → Bool → Option Letter
+becomes b u = Some (record { byte = b; unsigned = u })
+
+unfoldable pub letter_of : ℕ → Option Letter
 letter_of c =
-    if eqb c 97 then Taken 97 false  -- a
-    else if eqb c 98 then Taken 98 false  -- b
-    else if eqb c 66 then Taken 66 false  -- B
-    else if eqb c 104 then Taken 104 false  -- h
-    else if eqb c 72 then Taken 72 false  -- H
-    else if eqb c 120 then Taken 120 false  -- x
-    else if eqb c 67 then Taken 99 true  -- C: cu
-    else if eqb c 110 then Taken 83 true  -- n: Su
-    else if eqb c 78 then Taken 73 true  -- N: Iu
-    else if eqb c 118 then Taken 115 true  -- v: su
-    else if eqb c 86 then Taken 105 true  -- V: iu
-    else Unknown
+    if eqb c 97 then becomes 97 false  -- a
+    else if eqb c 98 then becomes 98 false  -- b
+    else if eqb c 66 then becomes 66 false  -- B
+    else if eqb c 104 then becomes 104 false  -- h
+    else if eqb c 72 then becomes 72 false  -- H
+    else if eqb c 120 then becomes 120 false  -- x
+    else if eqb c 67 then becomes 99 true  -- C: cu
+    else if eqb c 110 then becomes 83 true  -- n: Su
+    else if eqb c 78 then becomes 73 true  -- N: Iu
+    else if eqb c 118 then becomes 115 true  -- v: su
+    else if eqb c 86 then becomes 105 true  -- V: iu
+    else None
 
 -- ---- numbers (02, M-105: counts and repeats)
 

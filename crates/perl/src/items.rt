@@ -1,99 +1,72 @@
 // A template's items put into a block as layout text: a letter with its count, and what is there already, again and
-// again.
-ghost use Rattle.std.specs.Prelude.{◌≡◌, ◌∷◌, ◌++◌, suc, ◌+◌, ◌≤◌, ◌<◌, length, drop, get_or};
+// again. The text ends at a place in the block, or at none once it has run over; then nothing more is put.
+ghost use Rattle.std.specs.Prelude.{◌≡◌, ◌∷◌, ◌++◌, suc, ◌≤◌, ◌<◌, length, drop, get_or};
 ghost use Rattle.layout.specs.Layout.{max_layout};
-ghost use Rattle.record.specs.Bytes.{part, store_at};
 ghost use Rattle.perl.specs.Tokens.{max_repeat, letter_of};
 ghost use Rattle.perl.specs.Template.{letter_at};
 ghost use Rattle.perl.specs.Writing.{flag_text};
-ghost use Rattle.perl.specs.inside.Readers.{item_text, Stored, Again, Written};
+ghost use Rattle.perl.specs.inside.Readers.{held, Inside, item_text, Stored, Again, Written};
 
-use super::tokens::{Letter, MAX_TEMPLATE_COUNT};
+use super::tokens::{self, Letter};
 use layout::MAX_LAYOUT;
 
-// What a reader of a template finds: the place after what it read, and the place after the layout text that it put into
-// the block, held at one byte more than the block has; or the place of the stray byte.
+// What a reader of a template has read up to the place `next`, and the end of the layout text in the block.
 #[derive(Clone, Copy)]
-pub enum Span {
-    Read(usize, usize),
-    Stray(usize),
+pub struct Span {
+    pub next: usize,
+    pub end: Option<usize>,
 }
 
-// Puts a letter, and the flag after it.
-fn put_letter(out: &mut [u8], to: usize, letter: u8, flagged: bool)
-    requires { to + suc (length (flag_text flagged)) ≤ length out.old }
-    ensures { out.new ≡ store_at out.old to (letter ∷ flag_text flagged) }
+// Puts a letter, the flag after it, and the digits of its count.
+fn put(out: &mut [u8], to: Option<usize>, letter: Letter, digits: &[u8]) -> Option<usize>
+    requires { (length digits.now ≤ max_layout) × (length out.old ≡ max_layout) × Inside to }
+    ensures { Stored ((letter.byte ∷ flag_text letter.unsigned) ++ digits.now) to out.old result out.new }
 {
-    out[to] = letter;
-    if flagged {
-        out[to + 1] = b'u';
-        return;
-    }
-}
-
-fn letter_size(flagged: bool) -> usize
-    ensures { result ≡ suc (length (flag_text flagged)) }
-{
-    if flagged { 2 } else { 1 }
-}
-
-// Puts a letter, the flag after it, and the n digits of its count, which stand at `start`.
-fn put(
-    out: &mut [u8],
-    to: usize,
-    letter: u8,
-    flagged: bool,
-    text: &[u8],
-    start: usize,
-    n: usize,
-) -> usize
-    requires { (start + n ≤ length text.now) × (length text.now ≤ max_layout) × (length out.old ≡ max_layout)
-        × (to ≤ suc max_layout) }
-    ensures { Stored ((letter ∷ flag_text flagged) ++ part text.now start n) to out.old result out.new }
-{
-    let count = to + letter_size(flagged);
-    let end = count + n;
+    let to = to?;
+    let count = to + 1 + usize::from(letter.unsigned);
+    let end = count + digits.len();
     if MAX_LAYOUT < end {
-        return MAX_LAYOUT + 1;
+        return None;
     }
-    put_letter(out, to, letter, flagged);
-    byte_runs::copy(out, count, text, start, n);
-    end
+    out[to] = letter.byte;
+    out[to + 1..count].fill(b'u');
+    out[count..end].copy_from_slice(digits);
+    Some(end)
 }
 
 // Has what stands from `to` to `end` stand there `times` times.
-pub fn again(out: &mut [u8], to: usize, end: usize, times: usize) -> usize
-    requires { (to ≤ end) × (end ≤ suc max_layout) × (0 < times) × (times ≤ max_repeat)
+pub fn again(out: &mut [u8], to: Option<usize>, end: Option<usize>, times: usize) -> Option<usize>
+    requires { (held to ≤ held end) × Inside end × (0 < times) × (times ≤ max_repeat)
         × (length out.old ≡ max_layout) }
     ensures { Again to end out.old times result out.new }
 {
+    let to = to?;
+    let end = end?;
     let size = end - to;
-    let all = times * size;
-    if MAX_LAYOUT < to + all {
-        return MAX_LAYOUT + 1;
+    let all = to + times * size;
+    if MAX_LAYOUT < all {
+        return None;
     }
-    let mut j = size;
-    while j < all {
-        out[to + j] = out[to + (j - size)];
-        j += 1;
+    for j in 1..times {
+        out.copy_within(to..end, to + j * size);
     }
-    to + all
+    Some(all)
 }
 
 // Reads the letter at p with its count, and puts its layout text.
-pub fn single(text: &[u8], p: usize, out: &mut [u8], to: usize) -> Span
-    requires { (p < length text.now) × (length text.now ≤ max_layout) × (length out.old ≡ max_layout)
-        × (to ≤ suc max_layout) }
+pub fn single(text: &[u8], p: usize, out: &mut [u8], to: Option<usize>) -> Result<Span, usize>
+    requires { (p < length text.now) × (length text.now ≤ max_layout) × (length out.old ≡ max_layout) × Inside to }
     ensures { Written item_text (letter_at p (letter_of (get_or text.now p 0)) (drop (suc p) text.now)) to
         out.old result out.new }
 {
-    let c = text[p];
-    let l = super::tokens::letter_of(c);
-    let Letter::Taken(letter, flagged) = l else {
-        return Span::Stray(p);
+    let Some(letter) = tokens::letter_of(text[p]) else {
+        return Err(p);
     };
-    let n = super::tokens::number(text, p + 1, MAX_TEMPLATE_COUNT);
-    let digits = n.next - (p + 1);
-    let end = put(out, to, letter, flagged, text, p + 1, digits);
-    Span::Read(n.next, end)
+    let rest = &text[p + 1..];
+    let n = tokens::number(rest, tokens::MAX_TEMPLATE_COUNT);
+    let end = put(out, to, letter, &rest[..n.digits]);
+    Ok(Span {
+        next: p + 1 + n.digits,
+        end,
+    })
 }

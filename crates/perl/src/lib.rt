@@ -1,13 +1,12 @@
-// Perl pack templates become our layout text (document 02, M-105).
+// Perl pack templates become our layout text.
 // The text is put into a block of its own by `readers`, so that nothing is written before all is decided.
 #![tactic(auto)]
 
 ghost use Rattle.std.specs.Prelude.{◌≡◌};
 ghost use Rattle.perl.specs.Conversion.{from_perl};
 
-use items::Span;
 use layout::{MAX_LAYOUT, Refusal};
-use record::{Answer, least};
+use record::Answer;
 
 // Letters, counts and repeats.
 pub mod tokens;
@@ -24,15 +23,15 @@ pub fn from_perl(template: &[u8], layout: &mut [u8]) -> Answer
         return Answer::refused(Refusal::BadSize, 0);
     }
     let mut block: [u8; MAX_LAYOUT] = [0; MAX_LAYOUT];
-    let whole = readers::sequence(template, 0, 0, &mut block, 0);
-    match whole {
-        Span::Stray(p) => Answer::refused(Refusal::BadTemplate, p as u32),
-        Span::Read(_, size) => {
-            if least(MAX_LAYOUT, layout.len()) < size {
-                return Answer::refused(Refusal::NoRoom, 0);
-            }
-            byte_runs::copy(layout, 0, &block, 0, size);
+    let span = match readers::sequence(template, 0, 0, &mut block, Some(0)) {
+        Ok(span) => span,
+        Err(p) => return Answer::refused(Refusal::BadTemplate, p as u32),
+    };
+    match span.end {
+        Some(size) if size <= layout.len() => {
+            layout[..size].copy_from_slice(&block[..size]);
             Answer::accepted(size as u32, 0)
         }
+        _ => Answer::refused(Refusal::NoRoom, 0),
     }
 }

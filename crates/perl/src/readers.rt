@@ -1,76 +1,67 @@
-// The readers of a template, which put the layout text of what they read into a block.
-ghost use Rattle.std.specs.Prelude.{◌≡◌, false, suc, ◌≤◌, ◌<◌, length};
+// The readers of a template, which put the layout text of what they read into a block, or give the place of the first
+// stray byte.
+ghost use Rattle.std.specs.Prelude.{◌≡◌, false, ◌≤◌, ◌<◌, length};
 ghost use Rattle.layout.specs.Layout.{max_layout};
-ghost use Rattle.perl.specs.inside.Readers.{items_from, item_from, template_text, item_text, Written};
+ghost use Rattle.perl.specs.inside.Readers.{items_from, item_from, template_text, item_text, Inside, Written};
 
-use super::items::Span;
-use super::tokens::{MAX_DEPTH, MAX_REPEAT};
+use super::{items, tokens};
+use items::Span;
 
 // Reads the item at p, inside `depth` groups, and puts its layout text.
 #[cycle(item_sequence)]
-fn item(text: &[u8], p: usize, depth: usize, out: &mut [u8], to: usize) -> Span
-    requires { (p < length text.now) × (length text.now ≤ max_layout) × (length out.old ≡ max_layout)
-        × (to ≤ suc max_layout) }
+fn item(
+    text: &[u8],
+    p: usize,
+    depth: usize,
+    out: &mut [u8],
+    to: Option<usize>,
+) -> Result<Span, usize>
+    requires { (p < length text.now) × (length text.now ≤ max_layout) × (length out.old ≡ max_layout) × Inside to }
     ensures { Written item_text (item_from depth text.now p) to out.old result out.new }
 {
-    let c = text[p];
-    if c != b'(' {
-        return super::items::single(text, p, out, to);
+    if text[p] != b'(' {
+        return items::single(text, p, out, to);
     }
-    if MAX_DEPTH <= depth {
-        return Span::Stray(p);
+    if tokens::MAX_DEPTH <= depth {
+        return Err(p);
     }
-    let inside = sequence(text, p + 1, depth + 1, out, to);
-    match inside {
-        Span::Stray(q) => Span::Stray(q),
-        Span::Read(close, end) => {
-            let n = super::tokens::number(text, close + 1, MAX_REPEAT);
-            let times = super::tokens::repeat_of(n.value);
-            let all = super::items::again(out, to, end, times);
-            Span::Read(n.next, all)
-        }
-    }
+    let inside = sequence(text, p + 1, depth + 1, out, to)?;
+    let after = inside.next + 1;
+    let n = tokens::number(&text[after..], tokens::MAX_REPEAT);
+    let times = tokens::repeat_of(n.value);
+    let end = items::again(out, to, inside.end, times);
+    Ok(Span {
+        next: after + n.digits,
+        end,
+    })
 }
 
 // Reads the items from `at` on, inside `depth` groups, up to the `)` of the present group or the end of the template,
 // and puts their layout text.
 #[cycle(item_sequence)]
-pub fn sequence(text: &[u8], at: usize, depth: usize, out: &mut [u8], to: usize) -> Span
-    requires { (at ≤ length text.now) × (length text.now ≤ max_layout) × (length out.old ≡ max_layout)
-        × (to ≤ suc max_layout) }
+pub fn sequence(
+    text: &[u8],
+    at: usize,
+    depth: usize,
+    out: &mut [u8],
+    to: Option<usize>,
+) -> Result<Span, usize>
+    requires { (at ≤ length text.now) × (length text.now ≤ max_layout) × (length out.old ≡ max_layout) × Inside to }
     ensures { Written template_text (items_from depth false text.now at) to out.old result out.new }
 {
-    let mut i = at;
-    let mut end = to;
+    let mut span = Span { next: at, end: to };
     let mut filled = false;
-    while i < text.len() {
-        let c = text[i];
-        if c == b' ' {
-            i += 1;
-        } else if c == b')' {
-            if depth == 0 {
-                return Span::Stray(i);
-            }
-            if filled {
-                return Span::Read(i, end);
-            }
-            return Span::Stray(i);
-        } else {
-            let found = item(text, i, depth, out, end);
-            match found {
-                Span::Stray(p) => {
-                    return Span::Stray(p);
-                }
-                Span::Read(next, n) => {
-                    i = next;
-                    end = n;
-                    filled = true;
-                }
+    // By index: an item takes any number of bytes.
+    while span.next < text.len() {
+        match text[span.next] {
+            b' ' => span.next += 1,
+            b')' if 0 < depth && filled => return Ok(span),
+            b')' => return Err(span.next),
+            _ => {
+                span = item(text, span.next, depth, out, span.end)?;
+                filled = true;
             }
         }
     }
-    if depth == 0 {
-        return Span::Read(i, end);
-    }
-    Span::Stray(i)
+    if depth == 0 { Ok(span) } else { Err(span.next) }
 }

@@ -1,5 +1,6 @@
 -- The layout reader takes the text of sound items apart into their fields: after each letter stand its flag and its
 -- count, and then a byte that belongs to neither.
+use Rattle.std.specs.declared.option.Option.TheVariants.{Some}
 use Rattle.std.specs.Prelude.{if◌then◌else◌}
 use Prim.Native.Nat.{ℕ, suc, ◌+◌, ◌-◌, ◌*◌, ◌≤◌}
 use native.Mathlib.Nat.{add-zero}
@@ -17,11 +18,11 @@ use Rattle.layout.specs.declared.Shape.{Shape}
 use Rattle.layout.specs.declared.Shape.TheVariants.{Text, Digits, Integers}
 use Rattle.layout.specs.declared.Count.TheVariants.{Times}
 use Rattle.layout.specs.declared.Field.{Field}
-use Rattle.layout.specs.declared.Typed.TheVariants.{Known}
 use Rattle.layout.specs.Refusals.{Result, ok, ◌>>=◌}
 use Rattle.layout.specs.Layout.{max_count, is_decimal, type_of, takes_slot, to_nat, flagged, digit_run, decimal, count_of, count_length, in_limit, has_meaning, field, step_from, field_after, field_at, step_of, step_extra, step_then, fields_from, slot_count}
 use Rattle.perl.specs.declared.tokens.Letter.{Letter}
-use Rattle.perl.specs.declared.tokens.Letter.TheVariants.{Taken, Unknown}
+use Rattle.std.specs.declared.option.Option.{Option}
+use Rattle.std.specs.declared.option.Option.TheVariants.{Some, None}
 use Rattle.perl.specs.Tokens.{max_template_count, continues, with_digit, number_in, digits_in, letter_of}
 use Rattle.perl.specs.Template.{Single}
 use Rattle.perl.specs.Writing.{flag_text, text_of}
@@ -34,7 +35,7 @@ use Rattle.perl.proofs.tokens.Numbers.{number-limit}
 -- what the layout reader makes of the letter b, whether the flag follows or not
 pub record Ours (b : ℕ) : Type 0 where
   pub role : Role
-  pub type : type_of b ≡ Known role
+  pub type : type_of b ≡ Some role
   pub meaning : (packing : Bool) (ds : List ℕ) → has_meaning packing role (count_for ds) ≡ true
   pub no-space : eqb b 32 ≡ false
   pub no_digit : is_decimal b ≡ false
@@ -42,19 +43,19 @@ pub record Ours (b : ℕ) : Type 0 where
   pub no_flag : eqb b 117 ≡ false
   pub slot : takes_slot role ≡ not (eqb b 120)
 
-abbrev pub OurLetter : Letter → Type 0
-OurLetter (Taken b u) = Ours b
-OurLetter Unknown = Unit {0}
+abbrev pub OurLetter : Option Letter → Type 0
+OurLetter (Some l) = Ours l.byte
+OurLetter None = Unit {0}
 
 skip-meaning : (packing : Bool) (ds : List ℕ) → has_meaning packing (Move Skip) (count_for ds) ≡ true
 unfolding count_for
 skip-meaning packing [] = refl
 skip-meaning packing (d ∷ ds) = refl
 
-value : (b : ℕ) (s : Shape) → type_of b ≡ Known (Data s) → eqb b 32 ≡ false → is_decimal b ≡ false → eqb b 42 ≡ false → eqb b 117 ≡ false → eqb b 120 ≡ false → Ours b
+value : (b : ℕ) (s : Shape) → type_of b ≡ Some (Data s) → eqb b 32 ≡ false → is_decimal b ≡ false → eqb b 42 ≡ false → eqb b 117 ≡ false → eqb b 120 ≡ false → Ours b
 value b s t a d r g x = record { role = Data s; type = t; meaning = λ packing ds. refl; no-space = a; no_digit = d; no-star = r; no_flag = g; slot = rw x }
 
-chosen : (t : Bool) (a b : Letter) → OurLetter a → OurLetter b → OurLetter (if t then a else b)
+chosen : (t : Bool) (a b : Option Letter) → OurLetter a → OurLetter b → OurLetter (if t then a else b)
 chosen true a b h k = h
 chosen false a b h k = k
 

@@ -8,7 +8,8 @@ use mathlib.Core.List.{List, [], ◌∷◌, ◌++◌}
 use lib.Dec.{eqb, ltb}
 use lib.ListN.{length, take, drop}
 use Rattle.perl.specs.declared.tokens.Letter.{Letter}
-use Rattle.perl.specs.declared.tokens.Letter.TheVariants.{Taken, Unknown}
+use Rattle.std.specs.declared.option.Option.{Option}
+use Rattle.std.specs.declared.option.Option.TheVariants.{Some, None}
 use Rattle.perl.specs.Tokens.{max_template_count, max_depth, max_repeat, letter_of, continues, with_digit, number_in, digits_in}
 use Rattle.perl.specs.Template.{Template, Item, ReadTo, read, stray, letter_at, group_at, item_at, Piece, space, close, item, bad, piece_from, piece_at, piece_extra, is_item, and_then, piece_then, sequence}
 use Rattle.perl.proofs.readers.Readings.{Ends, StepEnds, ends, step_from, extra-within}
@@ -89,12 +90,12 @@ number-local (c ∷ cs) (d ∷ ds) limit v (suc k) h a =
 
 -- ---- items
 
-letter-local : (at : ℕ) (l : Letter) (cs ds : List ℕ) (j : ℕ) → suc at + j ≡ suc (read_end (letter_at at l cs)) → Agree j cs ds → letter_at at l ds ≡ letter_at at l cs
+letter-local : (at : ℕ) (l : Option Letter) (cs ds : List ℕ) (j : ℕ) → suc at + j ≡ suc (read_end (letter_at at l cs)) → Agree j cs ds → letter_at at l ds ≡ letter_at at l cs
 unfolding letter_at read_end
-letter-local at (Taken b u) cs ds j e a =
+letter-local at (Some l) cs ds j e a =
     let s : SameNumber max_template_count 0 cs ds = number-local cs ds max_template_count 0 j (omega arith) a in
     rw (s.0, s.2)
-letter-local at Unknown cs ds j e a = refl
+letter-local at None cs ds j e a = refl
 
 -- the inner readings agree where the texts do
 abbrev Inner : ℕ → List ℕ → List ℕ → ReadTo Template → ReadTo Template → Type 0

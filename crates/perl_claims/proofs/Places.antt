@@ -19,7 +19,8 @@ use Rattle.layout.specs.Refusals.{ok, refused}
 use Rattle.layout.specs.Layout.{max_layout}
 use Rattle.layout.proofs.Laws.{no-refusal}
 use Rattle.perl.specs.declared.tokens.Letter.{Letter}
-use Rattle.perl.specs.declared.tokens.Letter.TheVariants.{Taken, Unknown}
+use Rattle.std.specs.declared.option.Option.{Option}
+use Rattle.std.specs.declared.option.Option.TheVariants.{Some, None}
 use Rattle.perl.specs.Tokens.{max_template_count, max_depth, max_repeat, letter_of, continues, with_digit, number_in, digits_in, repeat_of}
 use Rattle.perl.specs.Template.{Template, Item, done, next, single, group, ReadTo, read, stray, letter_at, group_at, and_then, sequence, or_refused, template_of}
 use Rattle.perl.specs.inside.Readers.{items_from, item_from}
@@ -27,7 +28,7 @@ use Rattle.perl.specs.Conversion.{layout_from, convert_effect, from_perl}
 use Rattle.perl_claims.specs.Spelling.{Spells}
 use Rattle.perl_claims.specs.Claim.{Begins, FirstBad, Places, due_for, BySpellings}
 use Rattle.perl_claims.proofs.Spelling.{Tail, spelled-read, read-spelled}
-use Rattle.perl.proofs.readers.Readings.{Ends, ItemEnds, items-end, item-end, from-end-top, from-space, from-close, from-unopened, from_empty, from-item, from-stray, item-letter, item-deep, item-group, close-inside, group-is}
+use Rattle.perl.proofs.readers.Readings.{Ends, ItemEnds, items-end, item-end, from-end-top, from-space, from-close, from-bare, from-item, from-stray, item-letter, item-deep, item-group, close-inside, group-is}
 use Rattle.perl_claims.proofs.Local.{read_end, starts, Agree, agree-take, agree_less, SameNumber, same-cons, local}
 
 -- ---- readings that differ
@@ -128,16 +129,16 @@ number_cut [] ys limit v (suc k) h l = absurd (omega arith)
 number_cut (c ∷ cs) ys limit v (suc k) h l =
     same-cons c cs (take k cs ++ (32 ∷ ys)) limit v (suc k) (λ m. number_cut cs ys limit (with_digit v c) k (omega arith) (omega arith)) (omega arith)
 
-letter-cut : (at : ℕ) (l : Letter) (cs ds : List ℕ) (i : Item) (e : ℕ) → letter_at at l cs ≡ read i e
+letter-cut : (at : ℕ) (l : Option Letter) (cs ds : List ℕ) (i : Item) (e : ℕ) → letter_at at l cs ≡ read i e
     → (suc at + digits_in max_template_count 0 cs ≡ e → SameNumber max_template_count 0 cs ds) → letter_at at l ds ≡ read i e
 unfolding letter_at
-letter-cut at (Taken b u) cs ds i e q s = let place : suc at + digits_in max_template_count 0 cs ≡ e = cc in let k = s place in rw (k.0, k.2) q
-letter-cut at Unknown cs ds i e q s = not-both (stray at) i e at q refl
+letter-cut at (Some l) cs ds i e q s = let place : suc at + digits_in max_template_count 0 cs ≡ e = cc in let k = s place in rw (k.0, k.2) q
+letter-cut at None cs ds i e q s = not-both (stray at) i e at q refl
 
-letter-stray : (at : ℕ) (l : Letter) (cs : List ℕ) (p : ℕ) → letter_at at l cs ≡ stray p → at ≡ p
+letter-stray : (at : ℕ) (l : Option Letter) (cs : List ℕ) (p : ℕ) → letter_at at l cs ≡ stray p → at ≡ p
 unfolding letter_at
-letter-stray at (Taken b u) cs p q = not-both (letter_at at (Taken b u) cs) _ _ p refl q
-letter-stray at Unknown cs p q = cc
+letter-stray at (Some l) cs p q = not-both (letter_at at (Some l) cs) _ _ p refl q
+letter-stray at None cs p q = cc
 
 then-stray : (i : Item) (r : ReadTo Template) (p : ℕ) → and_then i r ≡ stray p → r ≡ stray p
 then-stray i (read t e) p q = not-both (read (next i t) e) (next i t) e p refl q
@@ -270,9 +271,9 @@ module _ (text : List ℕ) (p : ℕ) (small : p ≤ length text) where
       no-space z = omega arith
 
       go : (d : ℕ) → depth ≡ d → (f : Bool) → filled ≡ f → ⊥
-      go zero d f g = let s : p ≡ at = same_place (items_from depth filled text at) p at q (from-unopened depth text filled at within no-space b d) in omega arith
+      go zero d f g = let s : p ≡ at = same_place (items_from depth filled text at) p at q (from-bare depth text filled at within no-space b (λ z k. omega arith)) in omega arith
       go (suc n) d true g = not-both (items_from depth filled text at) done at p (from-close depth text filled at within no-space b (λ z. omega arith) g) q
-      go (suc n) d false g = let s : p ≡ at = same_place (items_from depth filled text at) p at q (from_empty depth text filled at within no-space b (λ z. omega arith) g) in omega arith
+      go (suc n) d false g = let s : p ≡ at = same_place (items_from depth filled text at) p at q (from-bare depth text filled at within no-space b (λ z k. cc)) in omega arith
 
   -- a stray byte further on, in an item that begins here, is one of a group's items
   in_group : (depth at : ℕ) → at < p → item_from depth text at ≡ stray p → (get_or text at 0 ≡ 40) × (depth < max_depth) × (items_from (suc depth) false text (suc at) ≡ stray p)

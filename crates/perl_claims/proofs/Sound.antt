@@ -15,7 +15,8 @@ use Rattle.layout.specs.Refusals.{Result, ok, refused}
 use Rattle.layout.specs.Layout.{max_layout, fields_of}
 use Rattle.layout.proofs.Laws.{bound, demanded, ok-inj, no-refusal, no-number-zero}
 use Rattle.perl.specs.declared.tokens.Letter.{Letter}
-use Rattle.perl.specs.declared.tokens.Letter.TheVariants.{Taken, Unknown}
+use Rattle.std.specs.declared.option.Option.{Option}
+use Rattle.std.specs.declared.option.Option.TheVariants.{Some, None}
 use Rattle.perl.specs.Tokens.{max_depth, letter_of}
 use Rattle.perl.specs.Template.{Single, Template, Item, done, next, single, group, ReadTo, read, stray, letter_at, group_at, item_at, Piece, space, close, item, bad, piece_from, piece_at, piece_extra, is_item, piece_then, sequence, or_refused, template_of}
 use Rattle.perl.specs.Writing.{repeated, written_out, written_out_item, text_of}
@@ -73,10 +74,10 @@ StepSound close = Unit {0}
 StepSound (item i e) = SoundItem i
 StepSound (bad p) = Unit {0}
 
-letter-sound : (at : ℕ) (l : Letter) (cs : List ℕ) → OurLetter l → ReadsItem (letter_at at l cs)
+letter-sound : (at : ℕ) (l : Option Letter) (cs : List ℕ) → OurLetter l → ReadsItem (letter_at at l cs)
 unfolding letter_at Sound
-letter-sound at (Taken b u) cs h = record { ours = h; count = counts cs }
-letter-sound at Unknown cs h = tt
+letter-sound at (Some l) cs h = record { ours = h; count = counts cs }
+letter-sound at None cs h = tt
 
 group-sound : (at : ℕ) (cs : List ℕ) (r : ReadTo Template) → Reads r → ReadsItem (group_at at cs r)
 unfolding group_at Sound

@@ -15,8 +15,9 @@ use Rattle.layout.specs.Refusals.{ok}
 use Rattle.layout.specs.Layout.{is_decimal, decimal}
 use Rattle.layout.proofs.Laws.{ok-inj, no-refusal}
 use Rattle.perl.specs.declared.tokens.Letter.{Letter}
-use Rattle.perl.specs.declared.tokens.Letter.TheVariants.{Taken, Unknown}
-use Rattle.perl.specs.Tokens.{max_template_count, max_depth, max_repeat, letter_of, continues, with_digit, number_in, digits_in, repeat_of}
+use Rattle.std.specs.declared.option.Option.{Option}
+use Rattle.std.specs.declared.option.Option.TheVariants.{Some, None}
+use Rattle.perl.specs.Tokens.{max_template_count, max_depth, max_repeat, becomes, letter_of, continues, with_digit, number_in, digits_in, repeat_of}
 use Rattle.perl.specs.Template.{Template, Item, done, next, single, group, ReadTo, read, stray, letter_at, group_at, item_at, Piece, space, close, item, bad, piece_from, piece_at, piece_extra, is_item, and_then, piece_then, sequence, or_refused, template_of}
 use Rattle.perl.proofs.tokens.Numbers.{digits-within, number-limit}
 use Rattle.perl.proofs.readers.Readings.{step_from, extra-within}
@@ -81,17 +82,17 @@ record Apart (c : ℕ) : Type 0 where
   opening : eqb c 40 ≡ false
   closing : eqb c 41 ≡ false
 
-abbrev ApartFrom : ℕ → Letter → Type 0
-ApartFrom c (Taken b u) = Apart c
-ApartFrom c Unknown = Unit {0}
+abbrev ApartFrom : ℕ → Option Letter → Type 0
+ApartFrom c (Some l) = Apart c
+ApartFrom c None = Unit {0}
 
 apart-known : (k : ℕ) → is_decimal k ≡ false → eqb k 32 ≡ false → eqb k 40 ≡ false → eqb k 41 ≡ false → Apart k
 apart-known k d s o e = record { digit = d; space = s; opening = o; closing = e }
 
-taken : (c k b : ℕ) (u : Bool) (other : Letter) → Apart k → ApartFrom c other → ApartFrom c (if eqb c k then Taken b u else other)
+taken : (c k b : ℕ) (u : Bool) (other : Option Letter) → Apart k → ApartFrom c other → ApartFrom c (if eqb c k then becomes b u else other)
 taken c k b u other h rest = go (eqb c k) (λ e. eqb-true c k e)
   where
-    go : (t : Bool) → (t ≡ true → c ≡ k) → ApartFrom c (if t then Taken b u else other)
+    go : (t : Bool) → (t ≡ true → c ≡ k) → ApartFrom c (if t then becomes b u else other)
     go true e = subst Apart (sym (e refl)) h
     go false e = rest
 
@@ -110,7 +111,7 @@ apart-letter c =
     (taken c 118 _ _ _ (apart-known 118 refl refl refl refl)
     (taken c 86 _ _ _ (apart-known 86 refl refl refl refl) tt))))))))))
 
-apart : (c b : ℕ) (u : Bool) → letter_of c ≡ Taken b u → Apart c
+apart : (c b : ℕ) (u : Bool) → letter_of c ≡ becomes b u → Apart c
 apart c b u e = subst (ApartFrom c) e (apart-letter c)
 
 -- ---- what closes a sequence: the end of the text at the top, a `)` in a group, which then has an item
@@ -177,7 +178,7 @@ at-end (suc d) false at (c ∷ cs) h k = absurd k
 
 module _ (depth : ℕ) (filled : Bool) (at : ℕ) where
   -- a letter, its count, and what does not go on with a digit
-  step-letter : (c b : ℕ) (u : Bool) (count rest : List ℕ) (inside : Unit {0} → ReadTo Template) → letter_of c ≡ Taken b u → Number max_template_count count → NoDigit rest
+  step-letter : (c b : ℕ) (u : Bool) (count rest : List ℕ) (inside : Unit {0} → ReadTo Template) → letter_of c ≡ becomes b u → Number max_template_count count → NoDigit rest
       → piece_at depth filled at c (count ++ rest) inside ≡ item (single (record { letter = b; unsigned = u; count = count })) (suc at + length count)
   unfolding piece_at item_at letter_at
   step-letter c b u count rest inside e n stop =
@@ -210,7 +211,7 @@ closable (suc d) t = tt
 abbrev Taken-to : ℕ → Template → List ℕ → Type 0
 Taken-to depth t s = (filled : Bool) (at : ℕ) (tail : List ℕ) → Tail depth tail → Closable depth filled t → sequence depth filled at 0 (s ++ tail) ≡ read t (at + length s)
 
-reads-letter : {depth : ℕ} (c b : ℕ) (u : Bool) (count : List ℕ) {t : Template} {rest : List ℕ} → letter_of c ≡ Taken b u → Number max_template_count count → Spells depth t rest → Taken-to depth t rest
+reads-letter : {depth : ℕ} (c b : ℕ) (u : Bool) (count : List ℕ) {t : Template} {rest : List ℕ} → letter_of c ≡ becomes b u → Number max_template_count count → Spells depth t rest → Taken-to depth t rest
     → Taken-to depth (next (single (record { letter = b; unsigned = u; count = count })) t) (c ∷ (count ++ rest))
 reads-letter {depth} c b u count {t} {rest} e n p ih filled at tail h k =
     let i : Item = single (record { letter = b; unsigned = u; count = count }) in
@@ -320,9 +321,9 @@ abbrev IsSpelt : ℕ → Bool → ℕ → List ℕ → ReadTo Template → Type 
 IsSpelt depth filled at cs (read t e) = Spelt depth filled at cs t e
 IsSpelt depth filled at cs (stray p) = Unit {0}
 
-letter-spelt : (depth at c : ℕ) (l : Letter) (cs : List ℕ) → letter_of c ≡ l → IsItem depth at c cs (letter_at at l cs)
+letter-spelt : (depth at c : ℕ) (l : Option Letter) (cs : List ℕ) → letter_of c ≡ l → IsItem depth at c cs (letter_at at l cs)
 unfolding letter_at
-letter-spelt depth at c (Taken b u) cs e =
+letter-spelt depth at c (Some l) cs e =
     let n : ℕ = digits_in max_template_count 0 cs in
     record {
       bytes = take n cs;
@@ -331,7 +332,7 @@ letter-spelt depth at c (Taken b u) cs e =
       place = ap (λ (k : ℕ). suc at + k) (sym (length-take-le n cs (digits-within max_template_count 0 cs)));
       spells = λ t s p. lettered e (number-spelt max_template_count cs).0 p;
     }
-letter-spelt depth at c Unknown cs e = tt
+letter-spelt depth at c None cs e = tt
 
 group-made : (depth at : ℕ) (i : Item) (u : Template) (front more cs : List ℕ) (e : ℕ) → cs ≡ front ++ (41 ∷ more) → e ≡ suc at + length front → depth < max_depth → Spells (suc depth) (next i u) front
     → ItemSpelt depth at 40 cs (group (next i u) (repeat_of (number_in max_repeat 0 (drop (e - at) cs)))) (suc e + digits_in max_repeat 0 (drop (e - at) cs))

@@ -2,8 +2,7 @@
 -- written.
 use Rattle.std.specs.Prelude.{ℕ, suc, ◌≤◌, ◌<◌, ◌≡◌, Bool, true, List, [], ◌∷◌, ◌++◌}
 use Rattle.layout.specs.Layout.{is_decimal, decimal}
-use Rattle.perl.specs.declared.tokens.Letter.TheVariants.{Taken}
-use Rattle.perl.specs.Tokens.{max_template_count, max_depth, max_repeat, letter_of, repeat_of}
+use Rattle.perl.specs.Tokens.{max_template_count, max_depth, max_repeat, becomes, letter_of, repeat_of}
 use Rattle.perl.specs.Template.{Template, Item, done, next, single, group}
 
 -- all of these bytes are decimal digits
@@ -25,7 +24,7 @@ pub data Spells : ℕ → Template → List ℕ → Type 0 where
   -- a space (byte 32) more, before an item or after the last
   spaced : {depth : ℕ} {t : Template} {text : List ℕ} → Spells depth t text → Spells depth t (32 ∷ text)
   -- a letter c of the table, which is our letter b with or without the flag; its count; and the other items
-  lettered : {depth c b : ℕ} {u : Bool} {count : List ℕ} {t : Template} {rest : List ℕ} → letter_of c ≡ Taken b u
+  lettered : {depth c b : ℕ} {u : Bool} {count : List ℕ} {t : Template} {rest : List ℕ} → letter_of c ≡ becomes b u
       → Number max_template_count count → Spells depth t rest
       → Spells depth (next (single (record { letter = b; unsigned = u; count = count })) t) (c ∷ (count ++ rest))
   -- a group, not the ninth around its items: `(` (byte 40), an item at least, `)` (byte 41); its repeat; and the other

@@ -1,9 +1,8 @@
 -- What each way out of a call leaves is what the definition gives.
 use Rattle.std.specs.Prelude.{if◌then◌else◌}
 use Prim.Native.Nat.{ℕ, suc, ◌+◌, ◌/◌, ◌%◌, ◌≤◌, ◌<◌}
-use native.Mathlib.Nat.{zero-add}
 use native.Mathlib.Omega.{arith}
-use mathlib.Core.Path.{◌≡◌, ◌∙◌}
+use mathlib.Core.Path.{◌≡◌}
 use mathlib.Core.Bool.{Bool, true, false}
 use mathlib.Core.List.{List, [], ◌∷◌, ◌++◌}
 use lib.ListN.{length, take, drop}
@@ -11,15 +10,16 @@ use borrow.Author.Tests.{le-leb, lt-leb}
 use Rattle.layout.specs.declared.Field.{Field}
 use Rattle.layout.specs.declared.Refusal.{Refusal}
 use Rattle.layout.specs.declared.Refusal.TheVariants.{BadSize, BadType, BadCount, BadMove, NoRoom}
-use Rattle.layout.specs.declared.Parsed.{Parsed}
-use Rattle.layout.specs.declared.Parsed.TheVariants.{Fields}
+use Rattle.std.specs.declared.result.Result as Std
+use Rattle.std.specs.declared.result.Result.TheVariants.{Ok}
+use Rattle.layout.specs.declared.Fields.{Fields}
+use Rattle.layout.specs.declared.Refused.{Refused}
 use Rattle.layout.specs.Refusals.{Result, ok, refused, ◌>>=◌, demand}
 use Rattle.layout.specs.Layout.{max_layout, takes_slot, fields_of, slot_count, in_limit, has_meaning}
 use Rattle.layout.specs.Codes.{count_unit, flag_unit, count_from, field_of}
 use Rattle.layout.specs.inside.Parsing.{decoded, Parses}
 use Rattle.layout.proofs.Decoded.{Learnt, parsed-fields, parsed-plan, decoded-length}
 use Rattle.record.specs.declared.Answer.{Answer}
-use Rattle.record.specs.Bytes.{store_at}
 use Rattle.record.specs.Geometry.{lengths_fit}
 use Rattle.record.specs.Packing.{accepted, refusal}
 use Rattle.record.specs.Reading.{reads_fields, ReadAll}
@@ -29,11 +29,6 @@ use Rattle.reader.proofs.passes.Whole as whole
 use Rattle.packer.specs.inside.Whole.{FieldsRead, PacksAsRead}
 use Rattle.packer.proofs.WholeLaws.{pack-sizes}
 use Rattle.plans.specs.Plans.{is_type, planned_field, planned_from, plan_fields, prepares, prepare, pack_plan, read_plan}
-
--- ---- a run stored at the front of another
-
-pub stored-front : (run s : List ℕ) (n : ℕ) {run' : List ℕ} → length s ≡ n → run' ≡ store_at run 0 s → run' ≡ s ++ drop n run
-stored-front run s n e q = q ∙ rw (zero-add, e)
 
 -- ---- no more slots than fields
 
@@ -61,9 +56,15 @@ module _ (layout run : List ℕ) where
     unfolding prepare prepares
     prepare-refused why place e = rw (le-leb (length layout) max_layout short, e)
 
-    module _ {p : Parsed} {n taken : ℕ} {ws : List ℕ} (parsed : Parses (fields_of false layout) p ws) (e : p ≡ Fields n taken) where
+    module _ {p : Std.Result Fields Refused} {f : Fields} {ws : List ℕ} (parsed : Parses (fields_of false layout) p ws) (e : p ≡ Ok f) where
+      abbrev n : ℕ
+      n = f.count
+
+      abbrev taken : ℕ
+      taken = f.slots
+
       learnt : Learnt (fields_of false layout) n taken ws
-      learnt = parsed-fields (fields_of false layout) p n taken ws parsed e
+      learnt = parsed-fields (fields_of false layout) p f ws parsed e
 
       long : length (decoded n ws) ≡ n
       long = decoded-length n ws learnt.few
@@ -83,7 +84,7 @@ module _ (layout run : List ℕ) where
             learnt.fields,
             le-leb (length (decoded n ws)) (length run) room,
             q,
-            parsed-plan (fields_of false layout) p n taken ws parsed e,
+            parsed-plan (fields_of false layout) p f ws parsed e,
             long,
             learnt.taken,
           )
@@ -131,7 +132,7 @@ module _ (plan slots area output : List ℕ) where
   unfolding pack_plan
   plan-sizes h = pack-sizes (length plan) (plan_fields true plan) slots area output h
 
-  module _ {p : Parsed} (fine : lengths_fit (length plan) (length slots) (length output) (length area) ≡ true) (parsed : Parses (plan_fields true plan) p plan) where
+  module _ {p : Std.Result Fields Refused} (fine : lengths_fit (length plan) (length slots) (length output) (length area) ≡ true) (parsed : Parses (plan_fields true plan) p plan) where
     pub plan-read : FieldsRead p plan slots area output (length plan) (plan_fields true plan)
     plan-read = record { fine = fine; parsed = parsed; inside = plan-inside true plan }
 
@@ -142,10 +143,10 @@ module _ (plan slots area output : List ℕ) where
 -- ---- reading by a plan
 
 module _ (plan bs slots area : List ℕ) (mark : ℕ) where
-  pub plan-refused : {r : Answer} {why : Refusal} {p : ℕ} → reads_fields (length plan) (plan_fields false plan) bs slots area mark ≡ refused why p → r ≡ refusal why p
-      → record { answer = record { answer = r; steps = 0 }; slots = slots; area = area } ≡ read_plan plan bs slots area mark
+  pub plan-refused : {why : Refusal} {p : ℕ} → reads_fields (length plan) (plan_fields false plan) bs slots area mark ≡ refused why p
+      → record { answer = record { answer = refusal why p; steps = 0 }; slots = slots; area = area } ≡ read_plan plan bs slots area mark
   unfolding read_plan
-  plan-refused e q = whole.fields-refused (length plan) (plan_fields false plan) bs slots area mark e q
+  plan-refused e = whole.fields-refused (length plan) (plan_fields false plan) bs slots area mark e
 
   -- a reading by the fields of the codes is the reading by the plan
   pub plan-codes : Fit (length plan) (length slots) (length bs) (length area) mark → {n taken : ℕ} {ws : List ℕ} → Learnt (plan_fields false plan) n taken ws

@@ -1,4 +1,7 @@
 -- Laws of the fields of a plan: each number by itself, and that a plan that is served is the plan of its fields.
+use Rattle.layout.specs.declared.Role.{Role}
+use Rattle.std.specs.declared.option.Option.{Option}
+use Rattle.std.specs.declared.option.Option.TheVariants.{Some, None}
 use Rattle.std.specs.Prelude.{if◌then◌else◌}
 use Prim.Native.Nat.{ℕ, zero, suc, ◌+◌, ◌*◌, ◌/◌, ◌%◌, ◌≤◌, ◌<◌}
 use native.Mathlib.Omega.{arith}
@@ -7,8 +10,6 @@ use mathlib.Core.Bool.{Bool, true, false, ◌&&◌, not}
 use lib.Dec.{eqb, leb}
 use borrow.Author.Tests.{le-leb, lt-leb, leb-true, ne_eqb}
 use Rattle.layout.specs.declared.Field.{Field}
-use Rattle.layout.specs.declared.Typed.{Typed}
-use Rattle.layout.specs.declared.Typed.TheVariants.{Known, Unknown}
 use Rattle.layout.specs.declared.Refusal.TheVariants.{BadType, BadCount, BadMove}
 use Rattle.layout.specs.Refusals.{ok, refused}
 use Rattle.layout.specs.Layout.{max_count, to_nat, in_limit, has_meaning}
@@ -19,21 +20,21 @@ use Rattle.layout.proofs.Steps.{code-back}
 use Rattle.layout.proofs.Laws.{demanded}
 use Rattle.plans.specs.Plans.{spare_number, is_type, planned_field}
 use Rattle.plans.specs.inside.Judging.{Judges}
-use Rattle.plans.specs.declared.Judgement.TheVariants.{Good, Bad}
+use Rattle.std.specs.declared.result.Result.TheVariants.{Ok, Err}
 
 -- ---- the types: a number that passes names a type
 
-abbrev named : Typed → Bool
-named (Known k) = true
-named Unknown = false
+abbrev named : Option Role → Bool
+named (Some k) = true
+named None = false
 
 all_named : all_below (λ d. if is_type d then named (type_numbered d) else true) (suc last_type) ≡ true
 unfolding type_numbered
 all_named = refl
 
-is-named : (t : Typed) → named t ≡ true → t ≡ Known (known t)
-is-named (Known k) h = refl
-is-named Unknown h = let z : ◌≡◌ {A = ℕ} 0 1 = cc in absurd (omega arith)
+is-named : (t : Option Role) → named t ≡ true → t ≡ Some (known t)
+is-named (Some k) h = refl
+is-named None h = let z : ◌≡◌ {A = ℕ} 0 1 = cc in absurd (omega arith)
 
 pub type-named : (d : ℕ) → is_type d ≡ true → HasType d
 type-named d h l =
@@ -131,21 +132,21 @@ abbrev pub end_count : ℕ
 end_count = suc (suc over_count) * count_unit
 
 module _ (packing : Bool) (w : ℕ) where
-  pub judged-type : is_type (w % flag_unit) ≡ false → Judges packing w (Bad BadType)
+  pub judged-type : is_type (w % flag_unit) ≡ false → Judges packing w (Err BadType)
   judged-type h i = planned-type packing i w h
 
   module _ (type : is_type (w % flag_unit) ≡ true) where
-    pub judged-over : end_count ≤ w → Judges packing w (Bad BadCount)
+    pub judged-over : end_count ≤ w → Judges packing w (Err BadCount)
     judged-over h i = planned-count packing i w type (count-over (w / count_unit) (omega arith))
 
     module _ (small : w < end_count) where
       count : in_limit (count_from (w / count_unit)) ≡ true
       count = count-within (w / count_unit) (omega arith)
 
-      pub judged-misused : has_meaning packing (known (type_numbered (w % flag_unit))) (count_from (w / count_unit)) ≡ false → Judges packing w (Bad BadMove)
+      pub judged-misused : has_meaning packing (known (type_numbered (w % flag_unit))) (count_from (w / count_unit)) ≡ false → Judges packing w (Err BadMove)
       judged-misused h i = planned-meaning packing i w type count h
 
-      pub judged-good : has_meaning packing (known (type_numbered (w % flag_unit))) (count_from (w / count_unit)) ≡ true → Judges packing w Good
+      pub judged-good : has_meaning packing (known (type_numbered (w % flag_unit))) (count_from (w / count_unit)) ≡ true → Judges packing w (Ok (tt {0}))
       judged-good h i = planned-good packing i w type count h
 
 -- a number that is a field has a type, so that the field's code is the number

@@ -9,7 +9,7 @@ use lib.ListN.{length, get_or, drop, take, drop_of_length-le}
 use lib.Seq.{drop-cons, take-suc}
 use Rattle.layout.specs.declared.Field.{Field}
 use Rattle.layout.specs.declared.Refusal.{Refusal}
-use Rattle.layout.specs.declared.Parsed.TheVariants.{Fields, Refused}
+use Rattle.std.specs.declared.result.Result.TheVariants.{Ok, Err}
 use Rattle.layout.specs.Refusals.{Result, ok, refused, ◌>>=◌}
 use Rattle.layout.specs.Layout.{max_layout, slot_count, slots_taken}
 use Rattle.layout.specs.Codes.{field_of, code_for}
@@ -35,7 +35,7 @@ module _ (packing : Bool) (plan : List ℕ) where
   judging-none = record { within = omega arith; less = omega arith; so-far = after_none (planned_from packing 0 plan); slots = refl; codes = refl }
 
   module _ (i taken : ℕ) (j : Judging packing plan i taken) where
-    pub judging-bad : (why : Refusal) → i < length plan → length plan ≤ max_layout → planned_field packing i (get_or plan i 0) ≡ refused why i → Parses (plan_fields packing plan) (Refused why i) plan
+    pub judging-bad : (why : Refusal) → i < length plan → length plan ≤ max_layout → planned_field packing i (get_or plan i 0) ≡ refused why i → Parses (plan_fields packing plan) (Err (record { why = why; place = i })) plan
     unfolding planned_from
     judging-bad why h room bad =
         let here : from_on packing plan i ≡ refused why i = rw (drop-cons plan i 0 h, bad) in
@@ -60,10 +60,11 @@ module _ (packing : Bool) (plan : List ℕ) where
           codes = ap (map code_for) d ∙ map-append code_for (decoded i plan) (field_of w ∷ []) ∙ (rw (long, j.codes, code));
         }
 
-    pub judging-done : length plan ≤ i → length plan ≤ max_layout → Parses (plan_fields packing plan) (Fields i taken) plan
+    pub judging-done : length plan ≤ i → length plan ≤ max_layout → Parses (plan_fields packing plan) (Ok (record { count = length plan; slots = taken })) plan
     unfolding planned_from
     judging-done h room =
         let here : from_on packing plan i ≡ ok [] = rw (drop_of_length-le plan h) in
         let o : plan_fields packing plan ≡ ok (decoded i plan) = j.so-far ∙ ap (after (decoded i plan)) here ∙ ap ok (append-nil (decoded i plan)) in
         let l : length (decoded i plan) ≡ i = decoded-length i plan (omega (arith, j.within)) in
-        rw o (record { answer = rw (l, ← j.slots) refl; codes = ap (λ (n : ℕ). decoded n plan) l; plan = rw l j.codes; room = room })
+        let all : i ≡ length plan = omega (arith, j.within) in
+        rw o (record { answer = rw (l, ← j.slots, all) refl; codes = ap (λ (n : ℕ). decoded n plan) l; plan = rw l j.codes; room = room })

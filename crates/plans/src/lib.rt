@@ -2,92 +2,65 @@
 // and read by the plan. A plan may hold any numbers: each call checks them.
 #![tactic(auto)]
 
-ghost use Rattle.std.specs.Prelude.{◌≡◌, ◌++◌, ◌≤◌, length, take, drop};
+ghost use Rattle.std.specs.Prelude.{◌≡◌, ◌≤◌, length};
 ghost use Rattle.layout.specs.Layout.{max_layout};
 ghost use Rattle.layout.specs.inside.Parsing.{Parses};
 ghost use Rattle.plans.specs.Plans.{plan_fields, prepare, pack_plan, read_plan};
 ghost use Rattle.plans.specs.inside.Judging.{Judges};
 
-use layout::{Parsed, Refusal, parser, scanner};
+use layout::{Fields, Refusal, Refused, parser, scanner};
 use reader::checking;
 use record::{Answer, ReadAnswer};
 use slot_table::sizes;
 
 // The number of a type that no type character has, and the first number of a plan whose count is over the limit.
-const SPARE: u32 = 7;
+const SPARE: u32 = layout::INT_8_BIG;
 
 const END_COUNT: u32 = (scanner::LAST_COUNT + 1) * layout::COUNT_UNIT;
 
-// Whether a number of a plan is a field, or what it is refused with.
-#[derive(Clone, Copy)]
-enum Judgement {
-    Good,
-    Bad(Refusal),
-}
-
 // Judges one number of a plan. The numbers of types that take a slot are looked at first, and by themselves: they are
 // what plans are made of.
-fn judge_one(packing: bool, w: u32) -> Judgement
+fn judge_one(packing: bool, w: u32) -> Result<(), Refusal>
     ensures { Judges packing w result }
 {
     let d = w % layout::FLAG_UNIT;
     if d <= layout::LAST_DATA {
         if d == SPARE {
-            return Judgement::Bad(Refusal::BadType);
+            return Err(Refusal::BadType);
         }
         if END_COUNT <= w {
-            return Judgement::Bad(Refusal::BadCount);
+            return Err(Refusal::BadCount);
         }
-        return Judgement::Good;
+        return Ok(());
     }
-    if d < layout::SKIP {
-        return Judgement::Bad(Refusal::BadType);
-    }
-    if layout::LAST_TYPE < d {
-        return Judgement::Bad(Refusal::BadType);
+    if d < layout::SKIP || layout::LAST_TYPE < d {
+        return Err(Refusal::BadType);
     }
     if END_COUNT <= w {
-        return Judgement::Bad(Refusal::BadCount);
+        return Err(Refusal::BadCount);
     }
     if !parser::has_meaning(packing, d, w / layout::COUNT_UNIT) {
-        return Judgement::Bad(Refusal::BadMove);
+        return Err(Refusal::BadMove);
     }
-    Judgement::Good
+    Ok(())
 }
 
 // The fields of a plan: how many there are and how many of them take a slot, or the first refusal.
-pub fn judge(plan: &[u32], packing: bool) -> Parsed
+pub fn judge(plan: &[u32], packing: bool) -> Result<Fields, Refused>
     requires { length plan.now ≤ max_layout }
     ensures { Parses (plan_fields packing plan.now) result plan.now }
 {
-    let mut taken: usize = 0;
-    let mut i: usize = 0;
-    while i < plan.len() {
-        let w = plan[i];
-        let v = judge_one(packing, w);
-        match v {
-            Judgement::Bad(why) => {
-                return Parsed::Refused(why, i);
-            }
-            Judgement::Good => {
-                taken += layout::slots_in(w % layout::FLAG_UNIT);
-                i += 1;
-            }
+    let mut slots: usize = 0;
+    for (i, &w) in plan.iter().enumerate() {
+        if let Err(why) = judge_one(packing, w) {
+            return Err(why.at(i));
         }
+        slots += layout::slots_in(w % layout::FLAG_UNIT);
     }
-    Parsed::Fields(i, taken)
-}
-
-// Copies the first n codes to the front of a run.
-fn copy(run: &mut [u32], codes: &[u32], n: usize)
-    requires { (n ≤ length run.old) × (n ≤ length codes.now) }
-    ensures { run.new ≡ take n codes.now ++ drop n run.old }
-{
-    let mut i: usize = 0;
-    while i < n {
-        run[i] = codes[i];
-        i += 1;
-    }
+    Ok(Fields {
+        count: plan.len(),
+        slots,
+    })
 }
 
 // Reads a layout into the front of the run, as a plan. A refusal changes nothing.
@@ -98,17 +71,16 @@ pub fn prepare(layout: &[u8], run: &mut [u32]) -> Answer
         return Answer::refused(Refusal::BadSize, 0);
     }
     let mut codes: [u32; layout::MAX_LAYOUT] = [0; layout::MAX_LAYOUT];
-    let p = parser::parse(layout, false, &mut codes);
-    match p {
-        Parsed::Refused(why, place) => Answer::refused(why, place as u32),
-        Parsed::Fields(n, taken) => {
-            if run.len() < n {
-                return Answer::refused(Refusal::NoRoom, 0);
-            }
-            copy(run, &codes, n);
-            Answer::accepted(n as u32, taken as u32)
-        }
+    let fields = match parser::parse(layout, false, &mut codes) {
+        Ok(fields) => fields,
+        Err(e) => return Answer::refused(e.why, e.place as u32),
+    };
+    let n = fields.count;
+    if run.len() < n {
+        return Answer::refused(Refusal::NoRoom, 0);
     }
+    run[..n].copy_from_slice(&codes[..n]);
+    Answer::accepted(n as u32, fields.slots as u32)
 }
 
 // Packs the arguments into the output by a plan, as `packer::pack` does by a layout. A refusal changes nothing.
@@ -135,17 +107,13 @@ pub fn read(
         ≡ read_plan plan.now bytes.now slots.old area.old mark }
 {
     if !checking::sizes_fit(plan.len(), slots.len(), bytes.len(), area.len(), mark) {
-        return ReadAnswer {
-            answer: Answer::refused(Refusal::BadSize, 0),
-            steps: 0,
-        };
+        return ReadAnswer::refused(Refusal::BadSize, 0);
     }
-    let p = judge(plan, false);
-    match p {
-        Parsed::Refused(why, place) => ReadAnswer {
-            answer: Answer::refused(why, place as u32),
-            steps: 0,
-        },
-        Parsed::Fields(n, taken) => reader::passes::read(plan, n, taken, bytes, slots, area, mark),
+    match judge(plan, false) {
+        Ok(fields) => {
+            let plan = &plan[..fields.count];
+            reader::passes::read(plan, fields.slots, bytes, slots, area, mark)
+        }
+        Err(e) => ReadAnswer::refused(e.why, e.place as u32),
     }
 }

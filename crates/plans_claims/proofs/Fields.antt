@@ -1,5 +1,7 @@
 -- What the fields of a layout have in common with those of its plan: each is good, so that its code stands for it, and
 -- a layout that is good for reading is refused by packing where its plan is, with 4.
+use Rattle.std.specs.declared.option.Option.{Option}
+use Rattle.std.specs.declared.option.Option.TheVariants.{Some, None}
 use Rattle.std.specs.Prelude.{if◌then◌else◌}
 use Prim.Native.Nat.{ℕ, zero, suc, ◌+◌, ◌/◌, ◌%◌, ◌≤◌, ◌<◌}
 use native.Mathlib.Omega.{arith}
@@ -12,8 +14,6 @@ use Rattle.layout.specs.declared.Role.{Role}
 use Rattle.layout.specs.declared.Count.{Count}
 use Rattle.layout.specs.declared.Count.TheVariants.{Absent, Star, Times}
 use Rattle.layout.specs.declared.Field.{Field}
-use Rattle.layout.specs.declared.Typed.{Typed}
-use Rattle.layout.specs.declared.Typed.TheVariants.{Known, Unknown}
 use Rattle.layout.specs.declared.Refusal.TheVariants.{BadType, BadCount, BadMove}
 use Rattle.layout.specs.Refusals.{Result, ok, refused, ◌>>=◌, demand}
 use Rattle.layout.specs.Layout.{type_of, flagged, count_of, count_length, to_nat, in_limit, has_meaning, Step, space, field, bad, step_from, field_after, field_at, step_of, step_extra, step_then, fields_from, fields_of}
@@ -27,14 +27,14 @@ use Rattle.plans.proofs.Fields.{planned-meaning, planned-good, good-code}
 
 pub record Lettered (k : Role) : Type 0 where
   pub type : is_type (type_number k) ≡ true
-  pub back : type_numbered (type_number k) ≡ Known k
+  pub back : type_numbered (type_number k) ≡ Some k
   pub small : type_number k < 256
 
-abbrev LetteredType : Typed → Type 0
-LetteredType (Known k) = Lettered k
-LetteredType Unknown = Unit {0}
+abbrev LetteredType : Option Role → Type 0
+LetteredType (Some k) = Lettered k
+LetteredType None = Unit {0}
 
-either : (t : Bool) (k : Role) (rest : Typed) → Lettered k → LetteredType rest → LetteredType (if t then Known k else rest)
+either : (t : Bool) (k : Role) (rest : Option Role) → Lettered k → LetteredType rest → LetteredType (if t then Some k else rest)
 either true k rest h g = h
 either false k rest h g = g
 
@@ -163,16 +163,16 @@ pair_end at count true true true f n k a b c =
 pair_end at count true false true f n k a b c =
     (record { letter = k; limit = a; means = c }, (λ e. absurd (true≢false (sym e ∙ b))), (λ e. refl))
 
-pair_typed : (at : ℕ) (cs : List ℕ) (t : Typed) → LetteredType t
-    → Pair at (step_from (elim t [ Known k ↦ field_after true at k cs | Unknown ↦ refused BadType at ]))
-    (step_from (elim t [ Known k ↦ field_after false at k cs | Unknown ↦ refused BadType at ]))
+pair_typed : (at : ℕ) (cs : List ℕ) (t : Option Role) → LetteredType t
+    → Pair at (step_from (elim t [ Some k ↦ field_after true at k cs | None ↦ refused BadType at ]))
+    (step_from (elim t [ Some k ↦ field_after false at k cs | None ↦ refused BadType at ]))
 unfolding field_after
-pair_typed at cs (Known k) h =
+pair_typed at cs (Some k) h =
     let u = flagged cs in
     let rest = drop (to_nat u) cs in
     let n = count_of rest in
     pair_end at (suc at + to_nat u) (in_limit n) (has_meaning true k n) (has_meaning false k n) (record { role = k; unsigned = u; count = n }) (to_nat u + count_length rest) h refl refl refl
-pair_typed at cs Unknown h = tt
+pair_typed at cs None h = tt
 
 pair-space : (at : ℕ) (t : Bool) (a b : Step) → Pair at a b → Pair at (if t then space else a) (if t then space else b)
 pair-space at true a b h = refl

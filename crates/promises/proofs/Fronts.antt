@@ -21,10 +21,9 @@ use Rattle.record.specs.Geometry.{amount}
 use Rattle.record.proofs.Bounds.{bytes_small}
 use Rattle.record.proofs.Moves.{amount-small}
 use Rattle.runs.specs.Ends.{fills}
-use Rattle.promises.specs.declared.Promise.{Promise}
 use Rattle.promises.specs.declared.Reach.{Reach}
 use Rattle.promises.specs.Placed.{Placed, fields_in, place_of}
-use Rattle.promises.specs.Promises.{reach_start, reach_with, kept_by, nowhere, break_from, first_break, same_field, first_difference}
+use Rattle.promises.specs.Promises.{Promise, reach_start, reach_with, nowhere, break_from, first_break, same_field, first_difference}
 use Rattle.promises.specs.inside.Walk.{kept_front, code_reach, same_front}
 
 -- ---- the loop over one layout's codes, in front of field i, with the fields before it come so far
@@ -50,7 +49,7 @@ module _ (q : Promise) (n : ℕ) (ws : List ℕ) (few : n ≤ length ws) where
   module _ (i : ℕ) (r : Reach) (k : Kept q n ws i r) where
     -- its field f, how far the layout has come with it, and whether it keeps the promise
     module _ (h : i < n) (f : Field) (fit : FieldOf (get_or ws i 0) f) (s : Reach) (far : s ≡ reach_with r f) (t : Bool)
-        (told : t ≡ kept_by q s f) where
+        (told : t ≡ q s f) where
       here : kept_front q r (drop i (decoded n ws))
           ≡ (if t then suc (kept_front q s (drop (i + 1) (decoded n ws))) else 0)
       unfolding kept_front
@@ -135,7 +134,7 @@ module _ (q : Promise) (end : ℕ) where
   unfolding kept_front break_from
   none_from r [] h = refl
   none_from r (p ∷ ps) h =
-      step (reach_with r p.what) (kept_by q (reach_with r p.what) p.what) h (λ k. none_from (reach_with r p.what) ps k)
+      step (reach_with r p.what) (q (reach_with r p.what) p.what) h (λ k. none_from (reach_with r p.what) ps k)
     where
       step : (s : Reach) (t : Bool) → suc (length ps) ≤ (if t then suc (kept_front q s (fields_in ps)) else 0)
           → BreakNone s ps → (if t then break_from q s ps else p.place) ≡ nowhere
@@ -150,7 +149,7 @@ module _ (q : Promise) (end : ℕ) where
   unfolding kept_front break_from place_of
   at_from r [] h = absurd (omega arith)
   at_from r (p ∷ ps) h =
-      step (reach_with r p.what) (kept_by q (reach_with r p.what) p.what) h (λ k. at_from (reach_with r p.what) ps k)
+      step (reach_with r p.what) (q (reach_with r p.what) p.what) h (λ k. at_from (reach_with r p.what) ps k)
     where
       step : (s : Reach) (t : Bool) → (if t then suc (kept_front q s (fields_in ps)) else 0) < suc (length ps)
           → BreakAt s ps

@@ -1,5 +1,8 @@
 -- The fields with their places: without the places they are the layout reader's, and a walk over the text that passes
 -- spaces and whole fields comes to the place of each.
+use Rattle.layout.specs.declared.Role.{Role}
+use Rattle.std.specs.declared.option.Option.{Option}
+use Rattle.std.specs.declared.option.Option.TheVariants.{Some, None}
 use Rattle.std.specs.Prelude.{if◌then◌else◌}
 use Prim.Native.Nat.{ℕ, zero, suc, ◌+◌, ◌-◌, ◌≤◌, ◌<◌}
 use native.Mathlib.Nat.{add-zero}
@@ -14,8 +17,6 @@ use lib.ListN.{length, get_or, drop, drop_of_length-le, length-drop}
 use lib.Seq.{drop-nil, drop-cons, drop-drop}
 use Rattle.layout.specs.declared.Field.{Field}
 use Rattle.layout.specs.declared.Refusal.{Refusal}
-use Rattle.layout.specs.declared.Typed.{Typed}
-use Rattle.layout.specs.declared.Typed.TheVariants.{Known, Unknown}
 use Rattle.layout.specs.declared.Refusal.TheVariants.{BadType, BadCount, BadMove}
 use Rattle.layout.specs.Refusals.{Result, ok, refused, ◌>>=◌, demand}
 use Rattle.layout.specs.Layout.{type_of, flagged, count_of, count_length, in_limit, has_meaning, to_nat, Step, space, field, bad, step_from, field_after, field_at, step_of, step_extra, step_then, fields_from, fields_of}
@@ -104,23 +105,23 @@ tail_length cs = to_nat (flagged cs) + count_length (drop (to_nat (flagged cs)) 
 
 abbrev pub Reads : ℕ → List ℕ → Step → Type 0
 Reads c cs space = c ≡ 32
-Reads c cs (field f m) = (type_of c ≡ Known f.role) × (m ≡ tail_length cs)
+Reads c cs (field f m) = (type_of c ≡ Some f.role) × (m ≡ tail_length cs)
 Reads c cs (bad why place) = Unit {0}
 
-reads_end : (p q c : ℕ) (cs : List ℕ) (f : Field) (l m : Bool) → type_of c ≡ Known f.role
+reads_end : (p q c : ℕ) (cs : List ℕ) (f : Field) (l m : Bool) → type_of c ≡ Some f.role
     → Reads c cs (step_from (demand l BadCount p >>= (λ _. demand m BadMove q >>= (λ _. ok (f, tail_length cs)))))
 reads_end p q c cs f false m e = tt
 reads_end p q c cs f true false e = tt
 reads_end p q c cs f true true e = (e, refl)
 
-reads-typed : (at c : ℕ) (cs : List ℕ) (t : Typed) → type_of c ≡ t
-    → Reads c cs (step_from (elim t [ Known k ↦ field_after true at k cs | Unknown ↦ refused BadType at ]))
+reads-typed : (at c : ℕ) (cs : List ℕ) (t : Option Role) → type_of c ≡ t
+    → Reads c cs (step_from (elim t [ Some k ↦ field_after true at k cs | None ↦ refused BadType at ]))
 unfolding field_after
-reads-typed at c cs (Known k) e =
+reads-typed at c cs (Some k) e =
     let u = flagged cs in
     let n = count_of (drop (to_nat u) cs) in
     reads_end (suc at + to_nat u) at c cs (record { role = k; unsigned = u; count = n }) (in_limit n) (has_meaning true k n) e
-reads-typed at c cs Unknown e = tt
+reads-typed at c cs None e = tt
 
 pub reads-step : (at c : ℕ) (cs : List ℕ) → Reads c cs (step_of true at c cs)
 unfolding step_of field_at

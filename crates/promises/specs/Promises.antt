@@ -16,8 +16,6 @@ use Rattle.record.specs.Table.{max_slots, max_record}
 use Rattle.record.specs.Packing.{accepted, refusal}
 use Rattle.runs.specs.Ends.{plain_role, plain_count, fills}
 use Rattle.lossless.specs.Claim.{lossless_role}
-use Rattle.promises.specs.declared.Promise.{Promise}
-use Rattle.promises.specs.declared.Promise.TheVariants.{Grows, Keeps, Joins, Plain, Slots, Room}
 use Rattle.promises.specs.declared.Reach.{Reach}
 use Rattle.promises.specs.declared.Told.{Told}
 use Rattle.promises.specs.Placed.{Placed, fields_in, placed_fields}
@@ -33,7 +31,7 @@ reach_start = record { slots = 0; end = 0 }
 abbrev pub reach_with : Reach → Field → Reach
 reach_with r f = record { slots = r.slots + slots_taken f; end = r.end + fills f.role f.count }
 
--- ---- the promises, field by field; the type Promise is the source's
+-- ---- the promises, field by field
 
 -- a field is plain: no star, no `X`, no `@`, no count of 0 (01, demand 3)
 abbrev pub plain_field : Field → Bool
@@ -54,18 +52,31 @@ end_in_record r = leb r.end max_record
 abbrev pub in_limits : Reach → Bool
 in_limits r = slots_in_table r && end_in_record r
 
--- whether the field f keeps a promise, where the layout has come as far as r with it
-abbrev pub kept_by : Promise → Reach → Field → Bool
+-- a promise: whether the field f keeps it, where the layout has come as far as r with it
+abbrev pub Promise : Type 0
+Promise = Reach → Field → Bool
+
 -- the layout may grow at its end (01, demand 3)
-kept_by Grows r f = plain_field f && in_limits r
+abbrev pub grows : Promise
+grows r f = plain_field f && in_limits r
+
 -- reading by the layout loses nothing (02, M-107)
-kept_by Keeps r f = lossless_field f && in_limits r
+abbrev pub keeps : Promise
+keeps r f = lossless_field f && in_limits r
+
 -- the layout may be joined with others (02, M-113): no `X`, no `@`
-kept_by Joins r f = plain_role f.role
+abbrev pub joins : Promise
+joins r f = plain_role f.role
+
 -- the promise to grow in its three parts, which `extends` asks for one after the other
-kept_by Plain r f = plain_field f
-kept_by Slots r f = slots_in_table r
-kept_by Room r f = end_in_record r
+abbrev pub is_plain : Promise
+is_plain r f = plain_field f
+
+abbrev pub in_table : Promise
+in_table r f = slots_in_table r
+
+abbrev pub in_record : Promise
+in_record r f = end_in_record r
 
 -- what stands for a place where there is none; every place in a layout is below `max_layout`
 abbrev pub nowhere : ℕ
@@ -78,7 +89,7 @@ break_from q r [] = nowhere
 break_from q r (p ∷ ps) =
     let here = reach_with r p.what in
     let later = break_from q here ps in
-    if kept_by q here p.what then later else p.place
+    if q here p.what then later else p.place
 
 unfoldable pub first_break : Promise → List Placed → ℕ
 unfolding break_from
@@ -150,7 +161,7 @@ unfoldable pub promised : List ℕ → Told
 unfolding layout_fields first_break
 promised layout = in_layout 0 do
   ps ← layout_fields layout
-  ok (told (first_break Grows ps) (first_break Keeps ps) (first_break Joins ps))
+  ok (told (first_break grows ps) (first_break keeps ps) (first_break joins ps))
 
 -- one check: refuses at a place, and passes where there is none
 abbrev pub refuse_at : Refusal → ℕ → Result (Unit {0})
@@ -162,9 +173,9 @@ unfoldable pub grown : ℕ → List Field → List Placed → Result Told
 unfolding first_difference first_break
 grown end fs ps = do
   _ ← refuse_at OtherFields (first_difference end fs ps)
-  _ ← refuse_at NotPlain (first_break Plain ps)
-  _ ← refuse_at BadSlots (first_break Slots ps)
-  _ ← refuse_at NoRoom (first_break Room ps)
+  _ ← refuse_at NotPlain (first_break is_plain ps)
+  _ ← refuse_at BadSlots (first_break in_table ps)
+  _ ← refuse_at NoRoom (first_break in_record ps)
   ok (told (length fs) (length ps - length fs) 0)
 
 -- what is answered of the old layout's fields and the new text, once that is read

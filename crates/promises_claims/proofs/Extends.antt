@@ -21,11 +21,9 @@ use Rattle.layout.proofs.Joining.{joined-fields}
 use Rattle.runs.proofs.Calls.{T→true}
 use Rattle.evolution.specs.Claim.{plain}
 use Rattle.evolution.proofs.ReadsBack.{reads-back}
-use Rattle.promises.specs.declared.Promise.{Promise}
-use Rattle.promises.specs.declared.Promise.TheVariants.{Plain, Slots, Room}
 use Rattle.promises.specs.declared.Told.{Told}
 use Rattle.promises.specs.Placed.{Placed, fields_in}
-use Rattle.promises.specs.Promises.{reach_start, plain_field, nowhere, first_break, same_field, first_difference, told, layout_fields, refuse_at, grown, extended_by, extended}
+use Rattle.promises.specs.Promises.{Promise, is_plain, in_table, in_record, reach_start, plain_field, nowhere, first_break, same_field, first_difference, told, layout_fields, refuse_at, grown, extended_by, extended}
 use Rattle.promises.proofs.Same.{same-equal, same-itself}
 use Rattle.promises_claims.specs.Claim.{Stand, SameFields, Accepted, Limited, Extension, layouts_of, Extends, GrowsItself, GrowsBy}
 use Rattle.promises_claims.proofs.Kept.{true→T, all_keep, unbroken, slots_kept, room-kept, plain-kept}
@@ -70,9 +68,9 @@ record Passed (fs : List Field) (new : List ℕ) : Type 0 where
   placed : List Placed
   whole : layout_fields new ≡ ok placed
   alike : first_difference (length new) fs placed ≡ nowhere
-  plain : first_break Plain placed ≡ nowhere
-  slots : first_break Slots placed ≡ nowhere
-  room : first_break Room placed ≡ nowhere
+  plain : first_break is_plain placed ≡ nowhere
+  slots : first_break in_table placed ≡ nowhere
+  room : first_break in_record placed ≡ nowhere
 
 -- a place that is not refused is none
 no_place : (why : Refusal) (place : ℕ) (next : Unit {0} → Result Told) (t : Told) → (refuse_at why place >>= next) ≡ ok t
@@ -86,9 +84,9 @@ passed : (fs : List Field) (new : List ℕ) (ps : List Placed) (t : Told) → la
 unfolding grown
 passed fs new ps t e z =
     let (alike, z₁) = no_place OtherFields (first_difference (length new) fs ps) _ t z in
-    let (plain, z₂) = no_place NotPlain (first_break Plain ps) _ t z₁ in
-    let (slots, z₃) = no_place BadSlots (first_break Slots ps) _ t z₂ in
-    let (room, z₄) = no_place NoRoom (first_break Room ps) _ t z₃ in
+    let (plain, z₂) = no_place NotPlain (first_break is_plain ps) _ t z₁ in
+    let (slots, z₃) = no_place BadSlots (first_break in_table ps) _ t z₂ in
+    let (room, z₄) = no_place NoRoom (first_break in_record ps) _ t z₃ in
     record { placed = ps; whole = e; alike = alike; plain = plain; slots = slots; room = room }
 
 passed-by : (fs : List Field) (new : List ℕ) → (extended_by fs new).answer.number ≡ 0 → Passed fs new
@@ -110,9 +108,9 @@ module _ (old new : List ℕ) where
       differ-behind new 0 (fields_in os) p.placed b.short b.stand p.alike in
       let kept : (q : Promise) → first_break q p.placed ≡ nowhere → all_keep q reach_start gs ≡ true =
       λ q k. (unbroken q new p.placed gs b.short b.stand refl).0 k in
-      let plainly : T (plain gs) = true→T (plain gs) (plain-kept gs ∙ kept Plain p.plain) in
+      let plainly : T (plain gs) = true→T (plain gs) (plain-kept gs ∙ kept is_plain p.plain) in
       let limits : Limited gs =
-      record { slots = (slots_kept gs).0 (kept Slots p.slots); end = (room-kept gs).0 (kept Room p.room) } in
+      record { slots = (slots_kept gs).0 (kept in_table p.slots); end = (room-kept gs).0 (kept in_record p.room) } in
       record {
         fields = fields_in os;
         added = w.others;
@@ -144,10 +142,10 @@ module _ (old new : List ℕ) where
       let all : List Field = e.fields ++ e.added in
       let none : (q : Promise) → all_keep q reach_start all ≡ true → first_break q g.placed ≡ nowhere =
       λ q k. (unbroken q new g.placed all e.new-short g.stand g.same).1 k in
-      let plainly : first_break Plain g.placed ≡ nowhere =
-      none Plain (sym (plain-kept all) ∙ T→true (plain all) e.is_plain) in
-      let slots : first_break Slots g.placed ≡ nowhere = none Slots ((slots_kept all).1 e.limited.slots) in
-      let room : first_break Room g.placed ≡ nowhere = none Room ((room-kept all).1 e.limited.end) in
+      let plainly : first_break is_plain g.placed ≡ nowhere =
+      none is_plain (sym (plain-kept all) ∙ T→true (plain all) e.is_plain) in
+      let slots : first_break in_table g.placed ≡ nowhere = none in_table ((slots_kept all).1 e.limited.slots) in
+      let room : first_break in_record g.placed ≡ nowhere = none in_record ((room-kept all).1 e.limited.end) in
       let long : length g.placed ≡ length e.fields + length e.added = sym (length-map g.placed (λ p. p.what)) ∙ ap length g.same ∙ length-append e.fields e.added in
       let more : length g.placed - length e.fields ≡ length e.added = omega arith in
       rw (f.whole, g.whole, f.same, alike, plainly, slots, room, more)

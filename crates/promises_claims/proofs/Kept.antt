@@ -19,11 +19,9 @@ use Rattle.runs.proofs.Calls.{T→true}
 use Rattle.evolution.specs.Claim.{plain}
 use Rattle.lossless.specs.Claim.{lossless}
 use Rattle.joining.specs.Claim.{forward}
-use Rattle.promises.specs.declared.Promise.{Promise}
-use Rattle.promises.specs.declared.Promise.TheVariants.{Grows, Keeps, Joins, Plain, Slots, Room}
 use Rattle.promises.specs.declared.Reach.{Reach}
 use Rattle.promises.specs.Placed.{Placed, fields_in}
-use Rattle.promises.specs.Promises.{reach_start, reach_with, plain_field, lossless_field, slots_in_table, end_in_record, kept_by, nowhere, break_from, first_break}
+use Rattle.promises.specs.Promises.{Promise, grows, keeps, joins, is_plain, in_table, in_record, reach_start, reach_with, plain_field, lossless_field, slots_in_table, end_in_record, nowhere, break_from, first_break}
 use Rattle.promises_claims.specs.Claim.{◌⇔◌, Stand, Limited}
 
 pub true→T : (b : Bool) → b ≡ true → T b
@@ -36,7 +34,7 @@ and_both a b p q = rw (p, q)
 
 abbrev pub all_keep : Promise → Reach → List Field → Bool
 all_keep q r [] = true
-all_keep q r (f ∷ fs) = kept_by q (reach_with r f) f && all_keep q (reach_with r f) fs
+all_keep q r (f ∷ fs) = q (reach_with r f) f && all_keep q (reach_with r f) fs
 
 module _ (q : Promise) where
   break-kept : (text : List ℕ) (from : ℕ) (r : Reach) (ps : List Placed) → length text ≤ max_layout → Stand text from ps
@@ -44,7 +42,7 @@ module _ (q : Promise) where
   unfolding break_from
   break-kept text from r [] h s e = refl
   break-kept text from r (p ∷ ps) h (n, here, later) e =
-      step (reach_with r p.what) (kept_by q (reach_with r p.what) p.what) e
+      step (reach_with r p.what) (q (reach_with r p.what) p.what) e
       (λ k. break-kept text (p.place + 1 + n) (reach_with r p.what) ps h later k)
     where
       step : (s : Reach) (t : Bool) → (if t then break_from q s ps else p.place) ≡ nowhere
@@ -56,7 +54,7 @@ module _ (q : Promise) where
   unfolding break_from
   kept-break r [] e = refl
   kept-break r (p ∷ ps) e =
-      step (reach_with r p.what) (kept_by q (reach_with r p.what) p.what) e (λ k. kept-break (reach_with r p.what) ps k)
+      step (reach_with r p.what) (q (reach_with r p.what) p.what) e (λ k. kept-break (reach_with r p.what) ps k)
     where
       step : (s : Reach) (t : Bool) → (t && all_keep q s (fields_in ps)) ≡ true
           → (all_keep q s (fields_in ps) ≡ true → break_from q s ps ≡ nowhere)
@@ -115,22 +113,22 @@ unfolding end_of
 end-sum [] = refl
 end-sum (f ∷ fs) = rw (end-sum fs)
 
-all_slots : (r : Reach) (fs : List Field) → all_keep Slots r fs ≡ all_within slots_taken max_slots r.slots fs
+all_slots : (r : Reach) (fs : List Field) → all_keep in_table r fs ≡ all_within slots_taken max_slots r.slots fs
 all_slots r [] = refl
 all_slots r (f ∷ fs) = rw (all_slots (reach_with r f) fs)
 
-all_room : (r : Reach) (fs : List Field) → all_keep Room r fs ≡ all_within fills_of max_record r.end fs
+all_room : (r : Reach) (fs : List Field) → all_keep in_record r fs ≡ all_within fills_of max_record r.end fs
 all_room r [] = refl
 all_room r (f ∷ fs) = rw (all_room (reach_with r f) fs)
 
-pub slots_kept : (fs : List Field) → (all_keep Slots reach_start fs ≡ true) ⇔ (slot_count fs ≤ max_slots)
+pub slots_kept : (fs : List Field) → (all_keep in_table reach_start fs ≡ true) ⇔ (slot_count fs ≤ max_slots)
 slots_kept fs =
     let (there, back) = within-sum slots_taken max_slots 0 fs (omega arith) in (
       λ k. omega (arith, slots-sum fs, there (sym (all_slots reach_start fs) ∙ k)),
       λ k. all_slots reach_start fs ∙ back (omega (arith, slots-sum fs)),
     )
 
-pub room-kept : (fs : List Field) → (all_keep Room reach_start fs ≡ true) ⇔ (end_of fs ≤ max_record)
+pub room-kept : (fs : List Field) → (all_keep in_record reach_start fs ≡ true) ⇔ (end_of fs ≤ max_record)
 room-kept fs =
     let (there, back) = within-sum fills_of max_record 0 fs (omega arith) in (
       λ k. omega (arith, end-sum fs, there (sym (all_room reach_start fs) ∙ k)),
@@ -144,7 +142,7 @@ all_own own [] = true
 all_own own (f ∷ fs) = own f && all_own own fs
 
 module _ (q : Promise) (own : Field → Bool) where
-  own-kept : ((r : Reach) (f : Field) → kept_by q r f ≡ own f) → (r : Reach) (fs : List Field)
+  own-kept : ((r : Reach) (f : Field) → q r f ≡ own f) → (r : Reach) (fs : List Field)
       → all_keep q r fs ≡ all_own own fs
   own-kept e r [] = refl
   own-kept e r (f ∷ fs) = rw (e (reach_with r f) f, own-kept e (reach_with r f) fs)
@@ -159,26 +157,26 @@ module _ (q : Promise) (own : Field → Bool) where
   sorted true false c false y z = refl
   sorted false b c x y z = refl
 
-  all-kept : ((r : Reach) (f : Field) → kept_by q r f ≡ (own f && (slots_in_table r && end_in_record r)))
+  all-kept : ((r : Reach) (f : Field) → q r f ≡ (own f && (slots_in_table r && end_in_record r)))
       → (r : Reach) (fs : List Field)
-      → all_keep q r fs ≡ (all_own own fs && (all_keep Slots r fs && all_keep Room r fs))
+      → all_keep q r fs ≡ (all_own own fs && (all_keep in_table r fs && all_keep in_record r fs))
   all-kept e r [] = refl
   all-kept e r (f ∷ fs) =
       rw (e (reach_with r f) f, all-kept e (reach_with r f) fs) (sorted (own f) (slots_in_table (reach_with r f)) (end_in_record (reach_with r f))
-      (all_own own fs) (all_keep Slots (reach_with r f) fs) (all_keep Room (reach_with r f) fs))
+      (all_own own fs) (all_keep in_table (reach_with r f) fs) (all_keep in_record (reach_with r f) fs))
 
-  pub limited-kept : ((r : Reach) (f : Field) → kept_by q r f ≡ (own f && (slots_in_table r && end_in_record r)))
+  pub limited-kept : ((r : Reach) (f : Field) → q r f ≡ (own f && (slots_in_table r && end_in_record r)))
       → (all : List Field → Bool) → ((fs : List Field) → all fs ≡ all_own own fs)
       → (fs : List Field) → (all_keep q reach_start fs ≡ true) ⇔ (T (all fs) × Limited fs)
   limited-kept e all same fs = (
     λ k.
         let (x, y) = and-true (all_own own fs) _ (sym (all-kept e reach_start fs) ∙ k) in
-        let (s, t) = and-true (all_keep Slots reach_start fs) (all_keep Room reach_start fs) y in
+        let (s, t) = and-true (all_keep in_table reach_start fs) (all_keep in_record reach_start fs) y in
         (true→T (all fs) (same fs ∙ x), record { slots = (slots_kept fs).0 s; end = (room-kept fs).0 t }),
     λ (t, l).
         all-kept e reach_start fs
         ∙ and_both (all_own own fs) _ (sym (same fs) ∙ T→true (all fs) t)
-        (and_both (all_keep Slots reach_start fs) _ ((slots_kept fs).1 l.slots) ((room-kept fs).1 l.end)),
+        (and_both (all_keep in_table reach_start fs) _ ((slots_kept fs).1 l.slots) ((room-kept fs).1 l.end)),
   )
 
 -- ---- the layouts of the theorems
@@ -198,14 +196,14 @@ unfolding forward
 forward-own [] = refl
 forward-own (f ∷ fs) = rw (forward-own fs)
 
-pub grows-kept : (fs : List Field) → (all_keep Grows reach_start fs ≡ true) ⇔ (T (plain fs) × Limited fs)
-grows-kept = limited-kept Grows plain_field (λ r f. refl) plain plain-own
+pub grows-kept : (fs : List Field) → (all_keep grows reach_start fs ≡ true) ⇔ (T (plain fs) × Limited fs)
+grows-kept = limited-kept grows plain_field (λ r f. refl) plain plain-own
 
-pub keeps-kept : (fs : List Field) → (all_keep Keeps reach_start fs ≡ true) ⇔ (T (lossless fs) × Limited fs)
-keeps-kept = limited-kept Keeps lossless_field (λ r f. refl) lossless lossless-own
+pub keeps-kept : (fs : List Field) → (all_keep keeps reach_start fs ≡ true) ⇔ (T (lossless fs) × Limited fs)
+keeps-kept = limited-kept keeps lossless_field (λ r f. refl) lossless lossless-own
 
-pub plain-kept : (fs : List Field) → plain fs ≡ all_keep Plain reach_start fs
-plain-kept fs = plain-own fs ∙ sym (own-kept Plain plain_field (λ r f. refl) reach_start fs)
+pub plain-kept : (fs : List Field) → plain fs ≡ all_keep is_plain reach_start fs
+plain-kept fs = plain-own fs ∙ sym (own-kept is_plain plain_field (λ r f. refl) reach_start fs)
 
-pub forward-kept : (fs : List Field) → forward fs ≡ all_keep Joins reach_start fs
-forward-kept fs = forward-own fs ∙ sym (own-kept Joins (λ f. plain_role f.role) (λ r f. refl) reach_start fs)
+pub forward-kept : (fs : List Field) → forward fs ≡ all_keep joins reach_start fs
+forward-kept fs = forward-own fs ∙ sym (own-kept joins (λ f. plain_role f.role) (λ r f. refl) reach_start fs)

@@ -29,7 +29,7 @@ use Rattle.record.specs.Bytes.{join, pieces, number, big_endian_in, ordered}
 use Rattle.record.specs.Table.{max_slots, max_record, max_area, slot_width, string, signed, real, slots_of, Value, area_bytes, shown, value_bytes}
 use Rattle.record.specs.Slots.{is_inside}
 use Rattle.record.specs.Geometry.{amount, bytes_for, items_of, sizes_fit}
-use Rattle.record.specs.Packing.{kind_fits, amount_fits, enough, digits_fit, all_digits, reals_fit, no_na_n, argument_fits, arguments_fit}
+use Rattle.record.specs.Packing.{kind_fits, amount_fits, enough, digits_fit, all_digits, reals_fit, no_nan, argument_fits, arguments_fit}
 use Rattle.record.specs.Reading.{value_at, values_from}
 use Rattle.record.proofs.Bounds.{product_small}
 use Rattle.record.proofs.Bytes.{All, all_take, all_drop, all_replicate, all-ordered, both}
@@ -80,10 +80,10 @@ items-zero w (suc n) bs h = (
   items-zero w n (drop w bs) (all_drop Zero w bs h),
 )
 
-no_nan : (xs : List ℕ) → All Zero xs → no_na_n xs ≡ true
-unfolding no_na_n
-no_nan [] h = refl
-no_nan (x ∷ xs) h = rw (h.0, no_nan xs h.1)
+no-nan : (xs : List ℕ) → All Zero xs → no_nan xs ≡ true
+unfolding no_nan
+no-nan [] h = refl
+no-nan (x ∷ xs) h = rw (h.0, no-nan xs h.1)
 
 -- ---- arguments
 
@@ -172,7 +172,7 @@ module _ (area : List ℕ) (are-zero : All Zero area) where
       let m : ℕ = amount n 0 in
       let xs : List ℕ = big_endian_in 8 m area in
       passes (Reals true big) n i (slot_for (Reals true big) n) refl (inside (Reals true big) n h) refl (enough-amount n)
-      refl (no_nan (take (amount n m) xs) (all_take Zero (amount n m) xs (items-zero 8 m area are-zero)))
+      refl (no-nan (take (amount n m) xs) (all_take Zero (amount n m) xs (items-zero 8 m area are-zero)))
   serves (Reals false big) n i h =
       passes (Reals false big) n i (slot_for (Reals false big) n) refl (inside (Reals false big) n h) refl
       (enough-amount n) refl refl

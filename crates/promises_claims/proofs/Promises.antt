@@ -20,11 +20,9 @@ use Rattle.lossless.specs.Claim.{lossless, Layout, Archived}
 use Rattle.lossless.proofs.LosesNothing.{loses-nothing}
 use Rattle.joining.specs.Claim.{forward, Part}
 use Rattle.joining.proofs.Joining.{joins}
-use Rattle.promises.specs.declared.Promise.{Promise}
-use Rattle.promises.specs.declared.Promise.TheVariants.{Grows, Keeps, Joins}
 use Rattle.promises.specs.declared.Told.{Told}
 use Rattle.promises.specs.Placed.{Placed, fields_in, placed_fields}
-use Rattle.promises.specs.Promises.{reach_start, nowhere, first_break, told, in_layout, layout_fields, promised}
+use Rattle.promises.specs.Promises.{Promise, grows, keeps, joins as may_join, reach_start, nowhere, first_break, told, in_layout, layout_fields, promised}
 use Rattle.promises.proofs.Places.{Placing, placing, placed-fields}
 use Rattle.promises_claims.specs.Claim.{◌⇔◌, Stand, Accepted, Packing, Limited, KeepsAll, Archivable, Promises}
 use Rattle.promises_claims.proofs.Places.{stands}
@@ -69,7 +67,7 @@ module _ (layout : List ℕ) where
     f : Found layout a.fields
     f = found layout a.fields a.short a.has-fields
 
-    answers : promised layout ≡ told (first_break Grows f.placed) (first_break Keeps f.placed) (first_break Joins f.placed)
+    answers : promised layout ≡ told (first_break grows f.placed) (first_break keeps f.placed) (first_break may_join f.placed)
     unfolding promised
     answers = rw f.whole
 
@@ -81,14 +79,14 @@ module _ (layout : List ℕ) where
         (λ k. there (kept (sym e ∙ k)), λ p. e ∙ unbroken (back p))
 
     grows-exactly : ((promised layout).answer.first ≡ nowhere) ⇔ (T (plain a.fields) × Limited a.fields)
-    grows-exactly = exactly Grows _ _ (ap (λ t. t.answer.first) answers) (grows-kept a.fields)
+    grows-exactly = exactly grows _ _ (ap (λ t. t.answer.first) answers) (grows-kept a.fields)
 
     keeps-exactly : ((promised layout).answer.second ≡ nowhere) ⇔ (T (lossless a.fields) × Limited a.fields)
-    keeps-exactly = exactly Keeps _ _ (ap (λ t. t.answer.second) answers) (keeps-kept a.fields)
+    keeps-exactly = exactly keeps _ _ (ap (λ t. t.answer.second) answers) (keeps-kept a.fields)
 
     joins-exactly : ((promised layout).fourth ≡ nowhere) ⇔ T (forward a.fields)
     joins-exactly =
-        exactly Joins _ _ (ap (λ t. t.fourth) answers) (
+        exactly may_join _ _ (ap (λ t. t.fourth) answers) (
           λ k. true→T (forward a.fields) (forward-kept a.fields ∙ k),
           λ t. sym (forward-kept a.fields) ∙ T→true (forward a.fields) t,
         )
@@ -97,7 +95,7 @@ module _ (layout : List ℕ) where
   unfolding promised
   accepted-by z =
       let tell : List Placed → Result Told =
-      λ ps. ok (told (first_break Grows ps) (first_break Keeps ps) (first_break Joins ps)) in
+      λ ps. ok (told (first_break grows ps) (first_break keeps ps) (first_break may_join ps)) in
       let (t, e, zero) = not-refused 0 (layout_fields layout >>= tell) z in
       let (ps, whole, rest) = bound (layout_fields layout) tell t e in
       let o : Opened layout ps = opened layout ps whole in

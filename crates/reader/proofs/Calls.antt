@@ -8,7 +8,6 @@ use Rattle.layout.specs.declared.Refusal.{Refusal}
 use Rattle.layout.specs.Refusals.{refused}
 use Rattle.layout.specs.Layout.{fields_of}
 use Rattle.layout.proofs.Decoded.{Learnt}
-use Rattle.record.specs.declared.Answer.{Answer}
 use Rattle.record.specs.Packing.{refusal}
 use Rattle.record.specs.Reading.{reads, ReadAll, read_all}
 use Rattle.record.proofs.ByFields.{read-fields}
@@ -17,10 +16,10 @@ use Rattle.reader.specs.inside.passes.{ReadReady, read_codes}
 use Rattle.reader.proofs.passes.Whole as whole
 
 module _ (layout bs slots area : List ℕ) (mark : ℕ) where
-  pub read-refused : {r : Answer} {why : Refusal} {p : ℕ} → reads layout bs slots area mark ≡ refused why p → r ≡ refusal why p
-      → record { answer = record { answer = r; steps = 0 }; slots = slots; area = area } ≡ read_all layout bs slots area mark
+  pub read-refused : {why : Refusal} {p : ℕ} → reads layout bs slots area mark ≡ refused why p
+      → record { answer = record { answer = refusal why p; steps = 0 }; slots = slots; area = area } ≡ read_all layout bs slots area mark
   unfolding reads
-  read-refused e q = whole.fields-refused (length layout) (fields_of false layout) bs slots area mark e q ∙ sym (read-fields layout bs slots area mark)
+  read-refused e = whole.fields-refused (length layout) (fields_of false layout) bs slots area mark e ∙ sym (read-fields layout bs slots area mark)
 
   module _ (sizes : Fit (length layout) (length slots) (length bs) (length area) mark) {n taken : ℕ} {ws : List ℕ} (l : Learnt (fields_of false layout) n taken ws) where
     -- a reading by the fields of the codes is the reading by the layout

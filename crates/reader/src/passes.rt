@@ -10,63 +10,58 @@ use super::checking;
 use record::ReadAnswer;
 
 // There are room and slots enough whatever the record holds.
-pub fn surely_read(
-    codes: &[u32],
-    n: usize,
-    taken: usize,
-    bytes: usize,
-    slots: usize,
-    room: usize,
-) -> bool
-    requires { (n ≤ length codes.now) × (length codes.now ≤ max_layout) × (bytes ≤ max_record) }
-    ensures { result ≡ surely_read n taken codes.now bytes slots room }
+#[tactic(auto, unfolding(crate::specs::inside::passes::surely_read))]
+pub fn surely_read(codes: &[u32], taken: usize, bytes: usize, slots: usize, room: usize) -> bool
+    requires { (length codes.now ≤ max_layout) × (bytes ≤ max_record) }
+    ensures { result ≡ surely_read (length codes.now) taken codes.now bytes slots room }
 {
-    if checking::surely_fits(n, taken, bytes, slots, room) {
-        return true;
-    }
-    if slots / record::SLOT_WIDTH < taken {
-        return false;
-    }
-    reading::measure::value_bound(codes, n, bytes) <= room
+    checking::surely_fits(codes.len(), taken, bytes, slots, room)
+        || taken <= slots / record::SLOT_WIDTH
+            && reading::measure::value_bound(codes, bytes) <= room
 }
 
-// Reads by the fields of the codes. Their values are measured only where it is not sure without it that they fit.
+// Reads by the fields of the codes, whose values are measured first.
 // (Handed on as `&codes[..]` a slice goes to the next call by value, and by its name alone by its address.)
-pub fn read(
+pub fn read_measured(
     codes: &[u32],
-    n: usize,
     taken: usize,
     bytes: &[u8],
     slots: &mut [u32],
     area: &mut [u8],
     mark: usize,
 ) -> ReadAnswer
-    requires { ReadReady n taken codes.now bytes.now slots.old area.old mark }
-    ensures { ReadsCodes n taken codes.now bytes.now slots.old slots.new area.old area.new mark result }
+    requires { ReadReady (length codes.now) taken codes.now bytes.now slots.old area.old mark }
+    ensures { ReadsCodes (length codes.now) taken codes.now bytes.now slots.old slots.new area.old area.new mark
+        result }
+{
+    let room = area.len() - mark;
+    match checking::fits(&codes[..], taken, &bytes[..], slots.len(), room) {
+        Ok(()) => reading::fill(&codes[..], &bytes[..], slots, area, mark),
+        Err(e) => ReadAnswer::refused(e.why, e.place as u32),
+    }
+}
+
+// Reads by the fields of the codes. Their values are measured only where it is not sure without it that they fit.
+pub fn read(
+    codes: &[u32],
+    taken: usize,
+    bytes: &[u8],
+    slots: &mut [u32],
+    area: &mut [u8],
+    mark: usize,
+) -> ReadAnswer
+    requires { ReadReady (length codes.now) taken codes.now bytes.now slots.old area.old mark }
+    ensures { ReadsCodes (length codes.now) taken codes.now bytes.now slots.old slots.new area.old area.new mark
+        result }
 {
     if surely_read(
         &codes[..],
-        n,
         taken,
         bytes.len(),
         slots.len(),
         area.len() - mark,
     ) {
-        return reading::fill(&codes[..], n, &bytes[..], slots, area, mark);
+        return reading::fill(&codes[..], &bytes[..], slots, area, mark);
     }
-    let a = checking::fits(
-        &codes[..],
-        n,
-        taken,
-        &bytes[..],
-        slots.len(),
-        area.len() - mark,
-    );
-    if a.number != 0 {
-        return ReadAnswer {
-            answer: a,
-            steps: 0,
-        };
-    }
-    reading::fill(&codes[..], n, &bytes[..], slots, area, mark)
+    read_measured(&codes[..], taken, &bytes[..], slots, area, mark)
 }

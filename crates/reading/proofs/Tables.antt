@@ -9,7 +9,7 @@ use lib.Seq.{drop-drop}
 use Rattle.layout.specs.declared.Field.{Field}
 use Rattle.record.specs.declared.Cursor.{Cursor}
 use Rattle.record.specs.Bytes.{store_at, join}
-use Rattle.record.specs.Table.{slot_width, max_slots, max_area, no_position, Value, area_bytes, slot_numbers, value_bytes}
+use Rattle.record.specs.Table.{slot_width, no_position, Value, area_bytes, slot_numbers, value_bytes}
 use Rattle.record.specs.Packing.{accepted}
 use Rattle.record.specs.Reading.{values_from, positions_from, steps_from, put_into, with_steps}
 use Rattle.record.proofs.Stores.{length-store_at, store-none, store-next}
@@ -77,11 +77,6 @@ front-few vs ws all e =
 
 module _ {bs : List ℕ} {fs : List Field} {slots₀ area₀ : List ℕ} {mark : ℕ} (all : TableRoom (values_from bs 0 fs) slots₀ area₀ mark)
     {i : ℕ} {c : Cursor} {n place : ℕ} {slots area : List ℕ} (w : Written bs fs slots₀ area₀ mark i c n place slots area) where
-  pub written-bounds : (n ≤ max_slots) × (place ≤ max_area)
-  written-bounds =
-      let f = front-few w.vs (values_from bs c.at (drop i fs)) (values_from bs 0 fs) w.ran.same in
-      (omega (arith, f.0, all.rows, all.table, w.count), omega (arith, f.1, all.room, all.limit, w.next))
-
   pub written-done : {r : ReadAnswer} {k : ℕ} → Ended bs fs w.vs k → r ≡ record { answer = accepted n place; steps = k }
       → record { answer = r; slots = slots; area = area } ≡ with_steps (put_into slots₀ area₀ mark (positions_from (length bs) 0 fs) (values_from bs 0 fs)) (steps_from (length bs) 0 fs)
   unfolding put_into
@@ -125,8 +120,9 @@ module _ {bs : List ℕ} {fs : List Field} {slots₀ area₀ : List ℕ} {mark :
             limit = omega (arith, all.limit, w.room);
           }
 
-      pub written-more : {r : ℕ} {slots' area' : List ℕ} → PutAs v c.at slots n area place r slots' area' → Written bs fs slots₀ area₀ mark (i + 1) d (n + 1) r slots' area'
-      written-more {r} {slots'} {area'} p =
+      pub written-more : {r at : ℕ} {slots' area' : List ℕ} → at ≡ c.at → PutAs v at slots n area place r slots' area' → Written bs fs slots₀ area₀ mark (i + 1) d (n + 1) r slots' area'
+      written-more {r} {at} {slots'} {area'} here put =
+          let p : PutAs v c.at slots n area place r slots' area' = rw here at put in
           let ps : List ℕ = positions_from (length bs) 0 fs in
           let numbers : slot_numbers mark ps (w.vs ++ (v ∷ [])) ≡ slot_numbers mark ps w.vs ++ slot_numbers place (c.at ∷ []) (v ∷ []) =
           slot-numbers-append mark ps w.vs (v ∷ []) ∙ rw (← w.next, slot-numbers-one place (drop (length w.vs) ps) v found.begins) in

@@ -10,10 +10,9 @@ ghost use Rattle.reading.specs.inside.Run.{values_of};
 ghost use Rattle.reading.specs.inside.Tables.{put_all, TableRoom};
 
 use record::{Answer, Cursor, ReadAnswer};
-use slot_table::sizes;
 
-// How many items a field has, and where the cursor is after it.
-mod positions;
+// One field of the run: what is found there, and where the cursor is after it.
+pub mod positions;
 // The value of a field.
 pub mod value;
 // The first pass: how much of the area the values take.
@@ -33,40 +32,28 @@ fn answer(set: usize, place: usize, steps: usize) -> ReadAnswer
 
 pub fn fill(
     codes: &[u32],
-    n: usize,
     bytes: &[u8],
     slots: &mut [u32],
     area: &mut [u8],
     mark: usize,
 ) -> ReadAnswer
-    requires sizes { (n ≤ length codes.now) × (length codes.now ≤ max_layout) × (length bytes.now ≤ max_record) }
-    requires table_room { TableRoom (values_of n codes.now bytes.now) slots.old area.old mark }
+    requires sizes { (length codes.now ≤ max_layout) × (length bytes.now ≤ max_record) }
+    requires table_room { TableRoom (values_of (length codes.now) codes.now bytes.now) slots.old area.old mark }
     ensures { record { answer = result; slots = slots.new; area = area.new }
-        ≡ put_all n codes.now bytes.now slots.old area.old mark }
+        ≡ put_all (length codes.now) codes.now bytes.now slots.old area.old mark }
 {
     let mut c = Cursor::new(bytes.len());
     let mut set: usize = 0;
     let mut place = mark;
-    let mut i: usize = 0;
-    while i < n {
-        let code = codes[i];
-        let d = code % layout::FLAG_UNIT;
-        i += 1;
-        if layout::LAST_DATA < d {
-            c = positions::moved_by(code, c);
-        } else {
-            let at = c.at;
-            let left = c.end - at;
-            let items = positions::items(d, code / layout::COUNT_UNIT, left);
-            let need = sizes::bytes_numbered(d, items);
-            if left < need {
-                return answer(set, place, i);
-            }
-            let u = code / layout::FLAG_UNIT % 2 == 1;
-            c = c.load(need);
-            place = put::put(slots, set, area, place, bytes, at, d, u, items);
+    for (i, &code) in codes.iter().enumerate() {
+        let Some(turn) = positions::step::<true>(code, c) else {
+            return answer(set, place, i + 1);
+        };
+        if let Some(found) = turn.found {
+            place = put::put(slots, set, area, place, bytes, found);
             set += 1;
         }
+        c = turn.next;
     }
-    answer(set, place, i)
+    answer(set, place, codes.len())
 }

@@ -10,32 +10,21 @@ ghost use Rattle.reading.specs.inside.Bounds.{field_bound, value_bound};
 
 use super::{positions, value};
 use record::Cursor;
-use slot_table::sizes;
 
-pub fn measure(codes: &[u32], n: usize, bytes: &[u8]) -> usize
-    requires { (n ≤ length codes.now) × (length codes.now ≤ max_layout) × (length bytes.now ≤ max_record) }
-    ensures { result ≡ length (value_bytes (values_of n codes.now bytes.now)) }
+pub fn measure(codes: &[u32], bytes: &[u8]) -> usize
+    requires { (length codes.now ≤ max_layout) × (length bytes.now ≤ max_record) }
+    ensures { result ≡ length (value_bytes (values_of (length codes.now) codes.now bytes.now)) }
 {
     let mut c = Cursor::new(bytes.len());
     let mut size: usize = 0;
-    let mut i: usize = 0;
-    while i < n {
-        let code = codes[i];
-        let d = code % layout::FLAG_UNIT;
-        i += 1;
-        if layout::LAST_DATA < d {
-            c = positions::moved_by(code, c);
-        } else {
-            let at = c.at;
-            let left = c.end - at;
-            let items = positions::items(d, code / layout::COUNT_UNIT, left);
-            let need = sizes::bytes_numbered(d, items);
-            if left < need {
-                return size;
-            }
-            c = c.load(need);
-            size += value::size_of(bytes, at, d, items);
+    for &code in codes {
+        let Some(turn) = positions::step::<false>(code, c) else {
+            return size;
+        };
+        if let Some(found) = turn.found {
+            size += value::size_of(bytes, found);
         }
+        c = turn.next;
     }
     size
 }
@@ -57,17 +46,11 @@ fn field_bound(code: u32, bytes: usize) -> usize
     }
 }
 
-// The bytes of the area that the values of the fields in the first n codes take at most, whatever a record of `bytes`
-// bytes holds.
-pub fn value_bound(codes: &[u32], n: usize, bytes: usize) -> usize
-    requires { (n ≤ length codes.now) × (length codes.now ≤ max_layout) × (bytes ≤ max_record) }
-    ensures { result ≡ value_bound bytes (decoded n codes.now) }
+// The bytes of the area that the values of the fields in the codes take at most, whatever a record of `bytes` bytes
+// holds.
+pub fn value_bound(codes: &[u32], bytes: usize) -> usize
+    requires { (length codes.now ≤ max_layout) × (bytes ≤ max_record) }
+    ensures { result ≡ value_bound bytes (decoded (length codes.now) codes.now) }
 {
-    let mut sum: usize = 0;
-    let mut i: usize = 0;
-    while i < n {
-        sum += field_bound(codes[i], bytes);
-        i += 1;
-    }
-    sum
+    codes.iter().map(|&code| field_bound(code, bytes)).sum()
 }

@@ -1,7 +1,7 @@
 -- What holds of every single and double that the definitions compute (02, M-108): the single is the nearest one and no
 -- other is, and the double is the single's own value. Proved in proofs/NarrowLaws.antt and proofs/WidenLaws.antt.
 use Rattle.std.specs.Prelude.{ℕ, ◌+◌, ◌-◌, ◌*◌, ◌^◌, ◌≤◌, ◌<◌, ◌≡◌}
-use Rattle.real.specs.Patterns.{double_sign, double_body, single_sign, single_body, double_magnitude, single_magnitude, single_infinity, is_na_n, is_single_na_n}
+use Rattle.real.specs.Patterns.{double_sign, double_body, single_sign, single_body, double_magnitude, single_magnitude, single_infinity, is_nan, is_single_nan}
 use Rattle.real.specs.Narrowing.{Narrowed, single_of}
 use Rattle.real.specs.Widening.{Widened, double_of}
 
@@ -52,7 +52,7 @@ abbrev pub DoubleFits : Type 0
 DoubleFits = (s : ℕ) → s < 2 ^ 32 → double_of s < 2 ^ 64
 
 abbrev pub DoubleNaN : Type 0
-DoubleNaN = (s : ℕ) → is_na_n (double_of s) ≡ is_single_na_n s
+DoubleNaN = (s : ℕ) → is_nan (double_of s) ≡ is_single_nan s
 
 -- ---- there and back
 

@@ -8,15 +8,12 @@ ghost use Rattle.reals.specs.inside.load.{double_bytes, reals_at};
 use super::{DOUBLE, SINGLE};
 use byte_runs::big_endian;
 
-// A single of a field, as a number. In either order the four bytes are loaded at once, the first in the lowest place.
+// A single of a field, as a number.
 fn single_at(input: &[u8], at: usize, big: bool) -> u32
     requires { at + 4 ≤ length input.now }
     ensures { result ≡ number 256 (ordered big (part input.now at 4)) }
 {
-    if big {
-        return super::in_order(false, byte_runs::four_at(input, at, false) as u32);
-    }
-    byte_runs::four_at(input, at, false) as u32
+    byte_runs::four_at(input, at, big) as u32
 }
 
 // Reads the double of one single.
@@ -33,10 +30,8 @@ fn load_singles(area: &mut [u8], to: usize, input: &[u8], at: usize, n: usize, b
     requires { (to + n * 8 ≤ length area.old) × (at + n * 4 ≤ length input.now) }
     ensures { (u : Bool) → area.new ≡ store_at area.old to (reals_at true big u n input.now at) }
 {
-    let mut i = 0;
-    while i < n {
+    for i in 0..n {
         load_single(area, to + i * DOUBLE, input, at + i * SINGLE, big);
-        i += 1;
     }
 }
 

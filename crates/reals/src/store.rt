@@ -9,16 +9,19 @@ ghost use Rattle.record.specs.Packing.{stored};
 ghost use Rattle.reals.specs.inside.store.{single_bytes};
 
 use super::{DOUBLE, SINGLE};
-use byte_runs::big_endian;
 
 // Stores the single nearest to a double of the area.
 fn store_single(out: &mut [u8], at: usize, area: &[u8], from: usize, big: bool)
     requires { (at + 4 ≤ length out.old) × (from + 8 ≤ length area.now) }
     ensures { out.new ≡ store_at out.old at (single_bytes big (number_at 8 area.now from)) }
 {
-    let d = super::double_at(area, from);
-    let s = super::in_order(big, real::narrow(d));
-    big_endian::put_number(out, at, SINGLE, s as u64);
+    let s = real::narrow(super::double_at(area, from));
+    let bytes = if big {
+        s.to_be_bytes()
+    } else {
+        s.to_le_bytes()
+    };
+    out[at..at + SINGLE].copy_from_slice(&bytes);
 }
 
 // Stores n doubles of the area as singles.
@@ -27,10 +30,8 @@ fn store_singles(out: &mut [u8], at: usize, area: &[u8], start: usize, n: usize,
     ensures { out.new
         ≡ store_at out.old at (stored (Reals true big) n (integers_in n (drop start area.now))) }
 {
-    let mut i = 0;
-    while i < n {
+    for i in 0..n {
         store_single(out, at + i * SINGLE, area, start + i * DOUBLE, big);
-        i += 1;
     }
 }
 

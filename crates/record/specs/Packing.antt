@@ -12,7 +12,7 @@ use Rattle.layout.specs.declared.Refusal.{Refusal}
 use Rattle.layout.specs.declared.Refusal.TheVariants.{BadSize, BadSlots, NotSet, BadSlot, WrongKind, BadList, BadDigit, NoRoom, BadReal}
 use Rattle.layout.specs.Refusals.{number_of, Result, ok, refused, ◌>>=◌, demand}
 use Rattle.layout.specs.Layout.{is_decimal, fields_of, slot_count, real_size}
-use Rattle.real.specs.Patterns.{is_na_n}
+use Rattle.real.specs.Patterns.{is_nan}
 use Rattle.real.specs.Narrowing.{single_of}
 use Rattle.record.specs.declared.slots.Slot.{Slot}
 use Rattle.record.specs.declared.Answer.{Answer}
@@ -138,16 +138,16 @@ digits_fit (Integers w big) n cs = true
 digits_fit (Reals single big) n cs = true
 
 -- none of the reals that become singles is a NaN, or number 16 applies (02, M-108); `q Q` store any
-unfoldable pub no_na_n : List ℕ → Bool
-no_na_n [] = true
-no_na_n (x ∷ xs) = not (is_na_n x) && no_na_n xs
+unfoldable pub no_nan : List ℕ → Bool
+no_nan [] = true
+no_nan (x ∷ xs) = not (is_nan x) && no_nan xs
 
 unfoldable pub reals_fit : Shape → ℕ → List ℕ → Bool
-unfolding no_na_n
+unfolding no_nan
 reals_fit (Text pad) n xs = true
 reals_fit (Digits hex high) n xs = true
 reals_fit (Integers w big) n xs = true
-reals_fit (Reals true big) n xs = no_na_n (take n xs)
+reals_fit (Reals true big) n xs = no_nan (take n xs)
 reals_fit (Reals false big) n xs = true
 
 -- slot number i serves a field: the tests in the order of their refusals

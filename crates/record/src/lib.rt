@@ -15,7 +15,7 @@ use layout::{Count, Refusal};
 
 pub mod slots;
 
-// The limits of document 01, and how many numbers make a slot.
+// The limits, and how many numbers make a slot.
 pub const MAX_SLOTS: usize = 64;
 
 pub const MAX_RECORD: usize = 32768;
@@ -30,7 +30,8 @@ pub const INTEGER_SIZE: usize = 8;
 // The numbers of the slots that a call may be lent.
 pub const MAX_NUMBERS: usize = SLOT_WIDTH * MAX_SLOTS;
 
-// What a call answers: 0 and two more numbers, or the number of a refusal, its place, and 0.
+// What a call answers: 0 and two more numbers, or the number of a refusal, its place, and 0. These are the words of a
+// reply, and the definitions of all calls, with the theorems over them, speak of `number`.
 #[derive(Clone, Copy)]
 pub struct Answer {
     pub number: u32,
@@ -46,47 +47,14 @@ pub struct ReadAnswer {
     pub steps: u32,
 }
 
-// The line of the table of numbers that a refusal stands on, from 0 on.
-fn line_of(why: Refusal) -> u8
-    ensures { result ≡ line_of why }
-{
-    match why {
-        Refusal::BadSize => 0,
-        Refusal::BadType => 1,
-        Refusal::BadCount => 2,
-        Refusal::BadMove => 3,
-        Refusal::BadSlots => 4,
-        Refusal::NotSet => 5,
-        Refusal::BadSlot => 6,
-        Refusal::WrongKind => 7,
-        Refusal::BadList => 8,
-        Refusal::BadDigit => 9,
-        Refusal::NoRoom => 10,
-        Refusal::BadSheet => 11,
-        Refusal::BadVersion => 12,
-        Refusal::BadMark => 13,
-        Refusal::BadTemplate => 14,
-        Refusal::BadReal => 15,
-        Refusal::OtherFields => 16,
-        Refusal::NotPlain => 17,
-    }
-}
-
-// The number of a refusal.
-fn number_of(why: Refusal) -> u32
-    ensures { result ≡ number_of why }
-{
-    line_of(why) as u32 + 1
-}
-
 impl Answer {
     pub fn accepted(first: u32, second: u32) -> Answer
         ensures { result ≡ accepted first second }
     {
         Answer {
             number: 0,
-            first: first,
-            second: second,
+            first,
+            second,
         }
     }
 
@@ -94,9 +62,20 @@ impl Answer {
         ensures { result ≡ refusal why place }
     {
         Answer {
-            number: number_of(why),
+            number: why.number(),
             first: place,
             second: 0,
+        }
+    }
+}
+
+impl ReadAnswer {
+    pub fn refused(why: Refusal, place: u32) -> ReadAnswer
+        ensures { result ≡ record { answer = refusal why place; steps = 0 } }
+    {
+        ReadAnswer {
+            answer: Answer::refused(why, place),
+            steps: 0,
         }
     }
 }
@@ -108,18 +87,6 @@ pub struct Cursor {
     pub at: usize,
     // in packing the highest position reached, in reading the end of the record
     pub end: usize,
-}
-
-pub fn least(a: usize, b: usize) -> usize
-    ensures { result ≡ min a b }
-{
-    if a < b { a } else { b }
-}
-
-fn most(a: usize, b: usize) -> usize
-    ensures { result ≡ max a b }
-{
-    if a < b { b } else { a }
 }
 
 // How many a count asks for where there are `all` in all.
@@ -148,8 +115,8 @@ impl Cursor {
     {
         let at = self.at + bytes;
         Cursor {
-            at: at,
-            end: most(self.end, at),
+            at,
+            end: self.end.max(at),
         }
     }
 
@@ -168,9 +135,8 @@ impl Cursor {
     pub fn back(self, n: Count) -> Cursor
         ensures { result ≡ moved self Back n }
     {
-        let at = self.at;
         Cursor {
-            at: at - least(at, amount(n, at)),
+            at: self.at.saturating_sub(amount(n, self.at)),
             end: self.end,
         }
     }
@@ -182,8 +148,8 @@ impl Cursor {
     {
         let end = self.end;
         Cursor {
-            at: least(self.at + amount(n, end), end),
-            end: end,
+            at: end.min(self.at + amount(n, end)),
+            end,
         }
     }
 
@@ -193,8 +159,8 @@ impl Cursor {
     {
         let end = self.end;
         Cursor {
-            at: least(amount(n, end), end),
-            end: end,
+            at: end.min(amount(n, end)),
+            end,
         }
     }
 
@@ -202,11 +168,10 @@ impl Cursor {
     pub fn goto(self, n: Count) -> Cursor
         ensures { result ≡ moved self Goto n }
     {
-        let end = self.end;
-        let at = amount(n, end);
+        let at = amount(n, self.end);
         Cursor {
-            at: at,
-            end: most(end, at),
+            at,
+            end: self.end.max(at),
         }
     }
 }

@@ -2,15 +2,16 @@
 #[derive(Clone, Copy)]
 pub struct Slot {
     pub kind: u32,
-    pub start: usize,
-    pub len: usize,
-    pub position: usize,
+    pub start: u32,
+    pub len: u32,
+    pub position: u32,
 }
 
-// The position in a slot that no record was read into.
-pub const NO_POSITION: usize = 4294967295;
+// The position in a slot that no record was read into, a number as the host sees it.
+pub const NO_POSITION: u32 = u32::MAX;
 
-// The kinds, and the highest: nothing is set, a string, signed integers, unsigned integers, reals.
+// The kinds by number, as slots are lent: a table may hold any number, and one above the highest is refused only where
+// the slot is used. The kinds, and the highest: nothing is set, a string, signed integers, unsigned integers, reals.
 pub const UNSET: u32 = 0;
 
 pub const STRING: u32 = 1;

@@ -2,6 +2,5 @@
 pub mod Claims
 pub mod Unset
 mod Cuts
-mod Tests
 mod Instance
 mod Examples

@@ -1,46 +1,71 @@
 // The versions of the format, and a length out of a sheet.
-ghost use Rattle.std.specs.Prelude.{◌≡◌, ◌+◌, ◌≤◌, length, drop};
+ghost use Rattle.std.specs.Prelude.{◌≡◌, false, ◌≤◌, length, MatchOption};
 ghost use Rattle.record.specs.Bytes.{number_at};
 ghost use Rattle.record.specs.Table.{integer_size};
-ghost use Rattle.sheet.specs.Sheet.{width_of};
+ghost use Rattle.sheet.specs.Sheet.{header_size, version_of, version_known};
+ghost use Rattle.sheet.specs.inside.Steps.{byte_of, width};
 
 use byte_runs::big_endian;
 
-pub const VERSION_1: u8 = 1;
-
-pub const VERSION_2: u8 = 2;
-
-// The bytes of a length in each version.
-const WIDTH_1: usize = 2;
-
-const WIDTH_2: usize = 4;
-
-// The bytes of a version 1 header, a length and the version; and of an entry before its value, a length and the kind.
-pub const HEADER_1: usize = WIDTH_1 + 1;
+// The version of a sheet, by which its lengths have their bytes.
+#[derive(Clone, Copy, PartialEq, Eq)]
+pub enum Version {
+    One,
+    Two,
+}
 
 // The lengths of version 1 are below this.
 pub const LIMIT_1: usize = 65536;
 
-pub fn width_of(version: u8) -> usize
-    ensures { (result ≡ width_of version) × (result ≤ integer_size) }
-{
-    if version == VERSION_2 {
-        WIDTH_2
-    } else {
-        WIDTH_1
+impl Version {
+    // The version that a sheet's first byte names, if it is known; else number 13. A sheet of no bytes counts as
+    // version 1.
+    pub fn of(sheet: &[u8]) -> Option<Version>
+        ensures { MatchOption result (version_known (version_of sheet.now) ≡ false)
+            (λ v. byte_of v ≡ version_of sheet.now) }
+    {
+        match sheet.first() {
+            None | Some(1) => Some(Version::One),
+            Some(2) => Some(Version::Two),
+            Some(_) => None,
+        }
     }
-}
 
-// The length of w bytes at a place. A sheet of version 1 is the usual one: there the width is a constant, and the loop
-// of number_at is written out.
-pub fn length_at(bytes: &[u8], at: usize, w: usize) -> usize
-    requires { (w ≤ integer_size) × (at + w ≤ length bytes.now) }
-    ensures { result ≡ number_at w (drop at bytes.now) 0 }
-{
-    if w == WIDTH_1 {
-        let n = big_endian::number_at(bytes, at, WIDTH_1);
-        return n as usize;
+    pub fn byte(self) -> u8
+        ensures { result ≡ byte_of self }
+    {
+        match self {
+            Version::One => 1,
+            Version::Two => 2,
+        }
     }
-    let n = big_endian::number_at(bytes, at, w);
-    n as usize
+
+    // The bytes of a length.
+    pub fn width(self) -> usize
+        ensures { (result ≡ width self) × (result ≤ integer_size) }
+    {
+        match self {
+            Version::One => 2,
+            Version::Two => 4,
+        }
+    }
+
+    // The bytes of the header, a length and the version; and of an entry before its value, a length and the kind.
+    pub fn header(self) -> usize
+        ensures { (result ≡ header_size (width self)) × (result ≤ header_size integer_size) }
+    {
+        self.width() + 1
+    }
+
+    // The length that bytes begin with. In each version the width is a constant.
+    pub fn length(self, bytes: &[u8]) -> usize
+        requires { width self ≤ length bytes.now }
+        ensures { result ≡ number_at (width self) bytes.now 0 }
+    {
+        let n = match self {
+            Version::One => big_endian::number_at(bytes, 0, 2),
+            Version::Two => big_endian::number_at(bytes, 0, 4),
+        };
+        n as usize
+    }
 }

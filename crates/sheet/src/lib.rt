@@ -1,4 +1,4 @@
-// Sheets (document 02, M-100 and M-111): a table of slots as a run of bytes. Here are the sizes and the lengths;
+// Sheets: a table of slots as a run of bytes. Here are the sizes and the lengths;
 // sheet_write and sheet_read have the calls.
 #![tactic(auto)]
 
@@ -17,18 +17,12 @@ const MAX_SHEET: usize = 1048576;
 pub fn lengths_fit(slots: usize, area: usize, sheet: usize) -> bool
     ensures { result ≡ sheet_sizes_fit slots area sheet }
 {
-    if !sizes::table_fits(slots, area) {
-        return false;
-    }
-    sheet <= MAX_SHEET
+    sizes::table_fits(slots, area) && sheet <= MAX_SHEET
 }
 
 // Slots, area and sheet keep to their sizes, and the mark lies in the area.
 pub fn lent_fits(slots: usize, area: usize, sheet: usize, mark: usize) -> bool
     ensures { result ≡ sheet_lent_fits slots area sheet mark }
 {
-    if !lengths_fit(slots, area, sheet) {
-        return false;
-    }
-    mark <= area
+    lengths_fit(slots, area, sheet) && mark <= area
 }

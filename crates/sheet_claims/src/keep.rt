@@ -1,4 +1,4 @@
-// A table written as a sheet and read back (document 02, M-100): both calls one after the other, and what they keep.
+// A table written as a sheet and read back: both calls one after the other, and what they keep.
 ghost use Rattle.std.specs.Prelude.{◌≡◌};
 ghost use Rattle.sheet.specs.Claims.{Stored, KeepsValues, read_part, kept};
 ghost use Rattle.sheet_claims.specs.inside.keep.{left};
@@ -21,10 +21,8 @@ pub fn keep(
         → KeepsValues slots.now area.now table.old values.old mark (read_part (left sheet.old sheet.new table.old table.new values.old values.new result)) }
 {
     let a = sheet_write::write(slots, area, sheet);
-    let number = a.number;
-    if number != 0 {
+    if a.number != 0 {
         return a;
     }
-    let n = a.first as usize;
-    sheet_read::read(&sheet[..n], table, values, mark)
+    sheet_read::read(&sheet[..a.first as usize], table, values, mark)
 }

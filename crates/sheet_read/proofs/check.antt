@@ -1,3 +1,2 @@
--- The laws that the check goes by.
-pub mod Leaves
+-- The laws that the passes over the entries go by.
 pub mod Walks

@@ -1,88 +1,54 @@
-// Whether a sheet is whole, and what it needs (document 02, M-100 and M-111): the tests of version and header, and the
-// pass over the entries that measures them, of which at most `most` are taken. Nothing is written. w is the width of a
-// length.
-ghost use Rattle.std.specs.Prelude.{◌≡◌, ◌+◌, ◌≤◌, length, drop};
-ghost use Rattle.record.specs.Table.{integer_size};
+// Whether a sheet is whole, and what it needs: the test of the header, and the pass over the entries that measures
+// them. Nothing is written.
+ghost use Rattle.std.specs.Prelude.{◌≡◌, true, false, ◌+◌, ◌≤◌, length, MatchOption};
+ghost use Rattle.record.specs.Bytes.{number_at};
 ghost use Rattle.sheet.specs.Entries.{whole_items, begins_entry};
-ghost use Rattle.sheet.specs.Sheet.{header_size, max_sheet, version_of, version_known, header_fits};
-ghost use Rattle.sheet_read.specs.inside.check.{needed_by, front_of, entry_due, ExtentOf};
+ghost use Rattle.sheet.specs.Sheet.{header_size, max_sheet, header_fits};
+ghost use Rattle.sheet.specs.inside.Steps.{byte_of, width};
+ghost use Rattle.sheet_read.specs.inside.check.{needed_by, front_of, ExtentOf};
 
-use sheet::lengths;
-
-// The version of a sheet.
-pub fn version_of(sheet: &[u8]) -> u8
-    ensures { result ≡ version_of sheet.now }
-{
-    if sheet.len() == 0 {
-        return lengths::VERSION_1;
-    }
-    sheet[0]
-}
-
-// The version is known; else number 13.
-pub fn version_known(v: u8) -> bool
-    ensures { result ≡ version_known v }
-{
-    if v == lengths::VERSION_1 {
-        return true;
-    }
-    v == lengths::VERSION_2
-}
-
-// The fitting rule, by the number of entries and of the bytes of their values.
-pub fn version_needed(v: u8, entries: usize, values: usize) -> bool
-    requires { entries + values ≤ max_sheet }
-    ensures { result ≡ needed_by v entries values }
-{
-    if v == lengths::VERSION_1 {
-        return true;
-    }
-    lengths::LIMIT_1 <= entries * lengths::HEADER_1 + values
-}
+use sheet::lengths::{LIMIT_1, Version};
 
 // The header is whole and has the length of what follows.
-pub fn header_fits(sheet: &[u8], w: usize) -> bool
-    requires { w ≤ integer_size }
-    ensures { result ≡ header_fits w sheet.now }
+#[tactic(auto, unfolding(sheet::specs::Sheet::header_fits, record::specs::Bytes::number_at))]
+pub fn header_fits(sheet: &[u8], v: Version) -> bool
+    ensures { result ≡ header_fits (width v) sheet.now }
 {
-    let size = sheet.len();
-    if size < w + 1 {
-        return false;
-    }
-    lengths::length_at(sheet, 1, w) == size - (w + 1)
+    v.header() <= sheet.len() && v.length(&sheet[1..]) == sheet.len() - v.header()
 }
 
 // n bytes are a value of the kind.
 fn whole_items(kind: u8, n: usize) -> bool
     ensures { result ≡ whole_items kind n }
 {
-    if kind as u32 == record::slots::UNSET {
-        return n == 0;
+    let kind = u32::from(kind);
+    if kind == record::slots::UNSET {
+        n == 0
+    } else {
+        n % slot_table::item_size(kind) == 0
     }
-    n % slot_table::item_size(kind as u32) == 0
 }
 
-// A whole entry stands at a place.
-fn is_entry(sheet: &[u8], at: usize, w: usize) -> bool
-    requires { (w ≤ integer_size) × (at ≤ length sheet.now) }
-    ensures { result ≡ begins_entry w (drop at sheet.now) }
+// The bytes of the value of the entry that bytes begin with; None where no whole entry stands there.
+#[tactic(auto, unfolding(sheet::specs::Entries::begins_entry))]
+fn value_size(rest: &[u8], v: Version) -> Option<usize>
+    ensures { MatchOption result (begins_entry (width v) rest.now ≡ false)
+        (λ n. (begins_entry (width v) rest.now ≡ true) × (number_at (width v) rest.now 0 ≡ n + 1)
+        × (header_size (width v) + n ≤ length rest.now)) }
 {
-    let left = sheet.len() - at;
-    if left < w {
-        return false;
+    let w = v.width();
+    if rest.len() < w {
+        return None;
     }
-    let n = lengths::length_at(sheet, at, w);
-    if n == 0 {
-        return false;
+    let size = v.length(rest).checked_sub(1)?;
+    if rest.len() - w <= size {
+        return None;
     }
-    if left - w < n {
-        return false;
+    let kind = rest[w];
+    if record::slots::MAX_KIND < u32::from(kind) || !whole_items(kind, size) {
+        return None;
     }
-    let kind = sheet[at + w];
-    if record::slots::MAX_KIND < kind as u32 {
-        return false;
-    }
-    whole_items(kind, n - 1)
+    Some(size)
 }
 
 // The whole entries of a sheet: how many, the bytes of their values, and where they end.
@@ -93,34 +59,37 @@ pub struct SheetExtent {
     pub end: usize,
 }
 
-// One more entry is due after `done`, and stands whole at a place.
-fn entry_due(sheet: &[u8], at: usize, w: usize, done: usize, most: usize) -> bool
-    requires { (w ≤ integer_size) × (at ≤ length sheet.now) }
-    ensures { result ≡ entry_due w sheet.now at done most }
-{
-    if most <= done {
-        return false;
+impl SheetExtent {
+    // The fitting rule, by the number of entries and of the bytes of their values.
+    pub fn needs(self, v: Version) -> bool
+        requires { self.entries + self.values ≤ max_sheet }
+        ensures { result ≡ needed_by (byte_of v) self.entries self.values }
+    {
+        v == Version::One || LIMIT_1 <= self.entries * Version::One.header() + self.values
     }
-    is_entry(sheet, at, w)
 }
 
 // The first pass over the entries, at most `most`. Nothing is written.
-pub fn measure(sheet: &[u8], w: usize, most: usize) -> SheetExtent
-    requires { (w ≤ integer_size) × (header_size w ≤ length sheet.now) × (length sheet.now ≤ max_sheet) }
-    ensures { ExtentOf w (front_of w most sheet.now) sheet.now result }
+pub fn measure(sheet: &[u8], v: Version, most: usize) -> SheetExtent
+    requires { (header_size (width v) ≤ length sheet.now) × (length sheet.now ≤ max_sheet) }
+    ensures { ExtentOf (width v) (front_of (width v) most sheet.now) sheet.now result }
 {
-    let mut at = w + 1;
-    let mut entries: usize = 0;
-    let mut values: usize = 0;
-    while entry_due(sheet, at, w, entries, most) {
-        let n = lengths::length_at(sheet, at, w);
-        entries += 1;
-        values += n - 1;
-        at += w + n;
+    let mut values = 0;
+    let mut end = v.header();
+    for entries in 0..most {
+        let Some(size) = value_size(&sheet[end..], v) else {
+            return SheetExtent {
+                entries,
+                values,
+                end,
+            };
+        };
+        values += size;
+        end += v.header() + size;
     }
     SheetExtent {
-        entries: entries,
-        values: values,
-        end: at,
+        entries: most,
+        values,
+        end,
     }
 }

@@ -1,92 +1,71 @@
-// The first entries of a sheet put into a table and its area (document 02, M-100 and M-111). w is the width of a
-// length.
-ghost use Rattle.std.specs.Prelude.{◌≡◌, true, ◌+◌, ◌/◌, ◌≤◌, length, drop, eqb, if◌then◌else◌};
-ghost use Rattle.record.specs.Table.{max_slots, max_area, integer_size, item_size};
-ghost use Rattle.record.specs.Packing.{accepted};
+// The first entries of a sheet put into a table and its area.
+ghost use Rattle.std.specs.Prelude.{◌≡◌, true, ◌/◌, ◌≤◌, length, eqb, if◌then◌else◌};
+ghost use Rattle.record.specs.Table.{max_area, item_size, no_position};
 ghost use Rattle.sheet.specs.Entries.{begins_entry, entry_in};
 ghost use Rattle.sheet.specs.Sheet.{header_size, entries_at};
+ghost use Rattle.sheet.specs.inside.Steps.{width};
 ghost use Rattle.sheet_read.specs.inside.check.{front_of};
 ghost use Rattle.sheet_read.specs.inside.fill.{put_front, Room, PutRoom, PutAs};
 
 use record::Answer;
-use sheet::lengths;
+use record::slots::{NO_POSITION, Slot, UNSET};
+use sheet::lengths::Version;
 
-// The start of a slot whose value is put at a place.
-fn start_of(kind: u8, place: usize) -> usize
-    ensures { result ≡ (if eqb kind 0 then 0 else place) }
+// The slot of a value of `size` bytes that is put at a place.
+fn slot_for(kind: u8, size: usize, place: usize) -> Slot
+    requires { (size ≤ max_area) × (place ≤ max_area) }
+    ensures { result ≡ record {
+      kind = kind;
+      start = if eqb kind 0 then 0 else place;
+      len = size / item_size kind;
+      position = no_position;
+    } }
 {
-    if kind as u32 == record::slots::UNSET {
-        0
-    } else {
-        place
+    let kind = u32::from(kind);
+    Slot {
+        kind,
+        start: if kind == UNSET { 0 } else { place as u32 },
+        len: (size / slot_table::item_size(kind)) as u32,
+        position: NO_POSITION,
     }
 }
 
-// The items in `size` bytes of a value.
-fn items_of(kind: u8, size: usize) -> usize
-    ensures { result ≡ size / item_size kind }
+// The entry that bytes begin with goes into slot k and into the area from the place `to` on; hands back the bytes of
+// its value.
+#[tactic(auto, using(sheet::proofs::Entries::begins))]
+fn put(slots: &mut [u32], k: usize, area: &mut [u8], to: usize, rest: &[u8], v: Version) -> usize
+    requires entry { begins_entry (width v) rest.now ≡ true }
+    requires put_room { PutRoom (entry_in (width v) rest.now) slots.old k area.old to }
+    ensures { PutAs (entry_in (width v) rest.now) slots.old k area.old to result slots.new area.new }
 {
-    size / slot_table::item_size(kind as u32)
-}
-
-// The entry at a place goes into slot k and into the area from the place `to` on; hands back the bytes of its value.
-fn put(
-    slots: &mut [u32],
-    k: usize,
-    area: &mut [u8],
-    to: usize,
-    sheet: &[u8],
-    at: usize,
-    w: usize,
-) -> usize
-    requires entry { (w ≤ integer_size) × (begins_entry w (drop at sheet.now) ≡ true) × (at ≤ length sheet.now) }
-    requires put_room { PutRoom (entry_in w (drop at sheet.now)) slots.old k area.old to }
-    ensures { PutAs (entry_in w (drop at sheet.now)) slots.old k area.old to result slots.new
-        area.new }
-{
-    let size = lengths::length_at(sheet, at, w) - 1;
-    let kind = sheet[at + w];
-    slot_table::set_slot(
-        slots,
-        k,
-        kind as u32,
-        start_of(kind, to),
-        items_of(kind, size),
-        record::slots::NO_POSITION,
-    );
-    byte_runs::copy(area, to, sheet, at + (w + 1), size);
+    let size = v.length(rest) - 1;
+    slot_table::set_slot(slots, k, slot_for(rest[v.width()], size, to));
+    byte_runs::copy(area, to, rest, v.header(), size);
     size
 }
 
-fn answer(set: usize, place: usize) -> Answer
-    requires { (set ≤ max_slots) × (place ≤ max_area) }
-    ensures { result ≡ accepted set place }
-{
-    Answer::accepted(set as u32, place as u32)
-}
-
-// The second pass, over as many entries as the first has found: they are not checked again.
+// The second pass, over as many entries as the first has found: they are not checked again. Table, area and mark come
+// one by one, as they are lent to `read`: a struct would hold them for this one call.
 pub fn fill(
     sheet: &[u8],
-    w: usize,
+    v: Version,
     count: usize,
     slots: &mut [u32],
     area: &mut [u8],
     mark: usize,
 ) -> Answer
-    requires entries { (w ≤ integer_size) × (header_size w ≤ length sheet.now) × (count ≤ length (entries_at w sheet.now)) }
-    requires room { Room (front_of w count sheet.now) slots.old area.old mark }
+    requires entries { (header_size (width v) ≤ length sheet.now)
+        × (count ≤ length (entries_at (width v) sheet.now)) }
+    requires room { Room (front_of (width v) count sheet.now) slots.old area.old mark }
     ensures { record { answer = result; slots = slots.new; area = area.new }
-        ≡ put_front w count sheet.now slots.old area.old mark }
+        ≡ put_front (width v) count sheet.now slots.old area.old mark }
 {
-    let mut at = w + 1;
-    let mut set: usize = 0;
+    let mut at = v.header();
     let mut place = mark;
-    while set < count {
-        let size = put(slots, set, area, place, sheet, at, w);
-        set += 1;
+    for set in 0..count {
+        let size = put(slots, set, area, place, &sheet[at..], v);
         place += size;
-        at += w + 1 + size;
+        at += v.header() + size;
     }
-    answer(set, place)
+    Answer::accepted(count as u32, place as u32)
 }

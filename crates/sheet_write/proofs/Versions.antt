@@ -35,7 +35,7 @@ module _ {slots area buffer : List ℕ} {n : ℕ} (k : Checked slots area buffer
   few-slots = omega (arith, (lengths (length slots) (length area) (length buffer) k.sizes).table)
 
   module _ {size : ℕ} (g : size ≡ length_in v n (length slots / slot_width)) where
-    is-size : size ≡ header_size (width_of v) + length (body_for (width_of v) slots area)
+    pub is-size : size ≡ header_size (width_of v) + length (body_for (width_of v) slots area)
     is-size = g ∙ go (eqb v version2)
       where
         go : (t : Bool) → (if t then n + 2 * (length slots / slot_width + 1) else n) ≡ header_size (if t then 4 else 2) + length (body_for (if t then 4 else 2) slots area)
@@ -51,12 +51,8 @@ module _ {slots area buffer : List ℕ} {n : ℕ} (k : Checked slots area buffer
     unfolding entries_end
     is-long = is-size ∙ sym (length-sheet v (width_of v) (entries_of area (slots_of slots))) ∙ ap length is-sheet
 
-    module _ {w : ℕ} (f : w ≡ width_of v) where
-      pub body-size : size ≡ header_size w + length (body_for w slots area)
-      body-size = rw f is-size
+    pub has_room : size ≤ length buffer → BodyRoom (width_of v) slots area (length buffer)
+    has_room h = record { fits = k.measured.0; room = rw (← is-size) h; small = (lengths (length slots) (length area) (length buffer) k.sizes).size }
 
-      pub has_room : size ≤ length buffer → BodyRoom w slots area (length buffer)
-      has_room h = record { fits = k.measured.0; room = rw (← body-size) h; small = (lengths (length slots) (length area) (length buffer) k.sizes).size }
-
-      pub is-stored : {out : List ℕ} → out ≡ store_at buffer 0 (sheet_for v w slots area) → out ≡ store_at buffer 0 (table_sheet slots area)
-      is-stored q = q ∙ ap (λ (x : ℕ). store_at buffer 0 (sheet_for v x slots area)) f ∙ ap (store_at buffer 0) is-sheet
+    pub is-stored : {out : List ℕ} → out ≡ store_at buffer 0 (sheet_for v (width_of v) slots area) → out ≡ store_at buffer 0 (table_sheet slots area)
+    is-stored q = q ∙ ap (store_at buffer 0) is-sheet

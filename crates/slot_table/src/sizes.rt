@@ -14,33 +14,21 @@ use record::{MAX_AREA, MAX_NUMBERS, MAX_RECORD, SLOT_WIDTH};
 fn record_fits(layout: usize, bytes: usize) -> bool
     ensures { result ≡ record_fits layout bytes }
 {
-    if layout::MAX_LAYOUT < layout {
-        return false;
-    }
-    bytes <= MAX_RECORD
+    layout <= layout::MAX_LAYOUT && bytes <= MAX_RECORD
 }
 
 // `slots` numbers are whole slots and not too many, and an area of `area` bytes keeps to its size.
 pub fn table_fits(slots: usize, area: usize) -> bool
     ensures { result ≡ table_fits slots area }
 {
-    if MAX_NUMBERS < slots {
-        return false;
-    }
-    if slots % SLOT_WIDTH != 0 {
-        return false;
-    }
-    area <= MAX_AREA
+    slots <= MAX_NUMBERS && slots % SLOT_WIDTH == 0 && area <= MAX_AREA
 }
 
 // Layout, slots, record or buffer, and area keep to their sizes; else a call is refused with 1.
 pub fn lengths_fit(layout: usize, slots: usize, bytes: usize, area: usize) -> bool
     ensures { result ≡ lengths_fit layout slots bytes area }
 {
-    if !record_fits(layout, bytes) {
-        return false;
-    }
-    table_fits(slots, area)
+    record_fits(layout, bytes) && table_fits(slots, area)
 }
 
 // How many digits fill a byte.
@@ -64,13 +52,14 @@ pub fn bytes_for(s: Shape, n: usize) -> usize
 {
     match s {
         Shape::Text(_) => n,
-        Shape::Digits(hex, _) => (n + (per_byte(hex) - 1)) / per_byte(hex),
+        Shape::Digits(hex, _) => n.div_ceil(per_byte(hex)),
         Shape::Integers(w, _) => n * w,
         Shape::Reals(single, _) => n * real_size(single),
     }
 }
 
-// How many bytes n items of a field fill, by the number of its type, one that takes a slot.
+// How many bytes n items of a field fill, by the number of its type, one that takes a slot: for the passes, which have
+// no `Shape` at hand.
 pub fn bytes_numbered(d: u32, n: usize) -> usize
     requires { (n < items_limit) × (d ≤ last_data) }
     ensures { result ≡ bytes_for (shape_numbered d) n }
@@ -82,8 +71,8 @@ pub fn bytes_numbered(d: u32, n: usize) -> usize
         return n;
     }
     if d <= layout::LAST_BINARY {
-        (n + 7) / 8
+        n.div_ceil(8)
     } else {
-        (n + 1) / 2
+        n.div_ceil(2)
     }
 }

@@ -2,9 +2,7 @@
 -- scratch, and of more none, since their call is refused.
 use mathlib.Core.Path.{◌≡◌, sym, ap, ◌∙◌}
 use Prim.Native.Nat.{ℕ, ◌*◌, ◌<◌, ◌≤◌}
-use native.Mathlib.Nat.{lt_of_not-le}
 use native.Mathlib.Omega.{arith}
-use native.Mathlib.Decide.{dec_le}
 use mathlib.Core.Bool.{false}
 use mathlib.Core.List.{List, ◌++◌}
 use lib.ListN.{length, take, drop}
@@ -24,12 +22,6 @@ taken-few n l = rw (le-leb n max_slots l)
 pub taken-many : (n : ℕ) → max_slots < n → taken n ≡ 0
 unfolding taken
 taken-many n l = rw (lt-leb n max_slots l)
-
-pub taken-within : (n : ℕ) → (taken n ≤ n) × (taken n ≤ max_slots)
-taken-within n = elim (dec_le n max_slots) [
-  | yes l ↦ (rw (taken-few n l) (omega arith), rw (taken-few n l) l)
-  | no l ↦ (rw (taken-many n (lt_of_not-le l)) (omega arith), rw (taken-many n (lt_of_not-le l)) (omega arith))
-]
 
 -- the first numbers of the scratch
 pub first-numbers : (ss : List SlotRecord) (ns : List ℕ) → length ss ≤ max_slots → take (length ss * slot_width) (filled (taken (length ss)) ss ns) ≡ slots_numbers ss

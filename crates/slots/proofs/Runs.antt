@@ -1,13 +1,14 @@
 -- The two loops as lists: the numbers that a run of slots fills, and the slots that a run of numbers makes.
-use mathlib.Core.Path.{◌≡◌, refl, sym, ap, subst, ◌∙◌}
+use mathlib.Core.Path.{◌≡◌, refl, sym, ap, ◌∙◌}
 use Prim.Native.Nat.{ℕ, zero, suc, ◌+◌, ◌*◌, ◌<◌, ◌≤◌}
 use native.Mathlib.Omega.{arith}
 use mathlib.Core.List.{List, [], ◌∷◌, ◌++◌}
-use lib.ListN.{length, get_or, set, take, drop, length-set}
-use lib.Seq.{sets, sets-eq, take_at, take-suc, take-add, drop-cons, drop-append-add, drop-drop, length-take-le, set_at, append_snoc}
+use lib.ListN.{length, get_or, set, take, drop}
+use lib.Seq.{take_at, take-suc, take-add, drop-cons, drop-append-add, drop-drop, length-take-le, set_at, append_snoc}
+use Rattle.record.specs.Bytes.{store_at}
 use Rattle.record.specs.Table.{slot_width}
 use Rattle.slots.specs.declared.SlotRecord.{SlotRecord}
-use Rattle.slots.specs.Slots.{slots_numbers, slots_from, slot_from, put_at}
+use Rattle.slots.specs.Slots.{slots_numbers, slots_from, slot_from, numbers_of}
 
 abbrev pub no_slot : SlotRecord
 no_slot = record { kind = 0; start = 0; length = 0; position = 0 }
@@ -20,28 +21,14 @@ slot_of ss i = get_or ss i no_slot
 -- the numbers, after those of the first i slots are stored
 abbrev pub loaded : List SlotRecord → List ℕ → ℕ → List ℕ
 loaded ss ns zero = ns
-loaded ss ns (suc i) = put_at (loaded ss ns i) (i * slot_width) (slot_of ss i)
+loaded ss ns (suc i) = store_at (loaded ss ns i) (i * slot_width) (numbers_of (slot_of ss i))
 
 -- the slots, after the first i are made of the numbers
 abbrev pub saved : List SlotRecord → List ℕ → ℕ → List SlotRecord
 saved ss ns zero = ss
 saved ss ns (suc i) = set (saved ss ns i) i (slot_from ns (i * slot_width))
 
-pub length-put : (ns : List ℕ) (k : ℕ) (s : SlotRecord) → length (put_at ns k s) ≡ length ns
-length-put ns k s = simp length-set
-
-pub length-loaded : (ss : List SlotRecord) (ns : List ℕ) (i : ℕ) → length (loaded ss ns i) ≡ length ns
-length-loaded ss ns zero = refl
-length-loaded ss ns (suc i) = length-put (loaded ss ns i) (i * slot_width) (slot_of ss i) ∙ length-loaded ss ns i
-
-pub length-saved : (ss : List SlotRecord) (ns : List ℕ) (i : ℕ) → length (saved ss ns i) ≡ length ss
-length-saved ss ns zero = refl
-length-saved ss ns (suc i) = length-set (saved ss ns i) i (slot_from ns (i * slot_width)) ∙ length-saved ss ns i
-
 -- ---- the numbers of slots
-
-abbrev four : SlotRecord → List ℕ
-four s = s.kind ∷ s.start ∷ s.length ∷ s.position ∷ []
 
 pub length-numbers : (ss : List SlotRecord) → length (slots_numbers ss) ≡ length ss * slot_width
 unfolding slots_numbers
@@ -53,29 +40,13 @@ unfolding slots_numbers
 numbers-append [] ts = refl
 numbers-append (s ∷ ss) ts = rw (numbers-append ss ts)
 
-put_is : (ns : List ℕ) (k : ℕ) (s : SlotRecord) → k + slot_width ≤ length ns → put_at ns k s ≡ take k ns ++ four s ++ drop (k + slot_width) ns
-put_is ns k s l = as-sets ∙ sets-eq (four s) ns k l
-  where
-    as-sets : put_at ns k s ≡ sets ns k (four s)
-    as-sets = λ i. set (set (set (set ns k s.kind) (one i) s.start) (two i) s.length) (three i) s.position
-      where
-        one : k + 1 ≡ suc k
-        one = omega arith
-
-        two : k + 2 ≡ suc (suc k)
-        two = omega arith
-
-        three : k + 3 ≡ suc (suc (suc k))
-        three = omega arith
-
 -- after i slots: their numbers, and then what was there
 pub loaded-is : (ss : List SlotRecord) (ns : List ℕ) (i : ℕ) → i ≤ length ss → i * slot_width ≤ length ns → loaded ss ns i ≡ slots_numbers (take i ss) ++ drop (i * slot_width) ns
 unfolding slots_numbers
 loaded-is ss ns zero l g = refl
 loaded-is ss ns (suc i) l g =
-    put_is (loaded ss ns i) (i * slot_width) (slot_of ss i) (subst (λ (m : ℕ). i * slot_width + slot_width ≤ m) (sym (length-loaded ss ns i)) (omega arith))
-    ∙ ap (λ (z : List ℕ). take (i * slot_width) z ++ four (slot_of ss i) ++ drop (i * slot_width + slot_width) z) (loaded-is ss ns i (omega arith) (omega arith))
-    ∙ (λ j. take_at front (drop (i * slot_width) ns) (i * slot_width) front_long j ++ four (slot_of ss i) ++ rest j)
+    ap (λ (z : List ℕ). take (i * slot_width) z ++ numbers_of (slot_of ss i) ++ drop (i * slot_width + slot_width) z) (loaded-is ss ns i (omega arith) (omega arith))
+    ∙ (λ j. take_at front (drop (i * slot_width) ns) (i * slot_width) front_long j ++ numbers_of (slot_of ss i) ++ rest j)
     ∙ ap (λ (z : List ℕ). z ++ drop (suc i * slot_width) ns) (sym (ap slots_numbers (take-suc ss i no_slot l) ∙ numbers-append (take i ss) (slot_of ss i ∷ [])))
   where
     front : List ℕ

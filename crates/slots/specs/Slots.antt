@@ -1,5 +1,5 @@
 -- Slot records (01, Slot tables): a slot's numbers, and the slots that a run of numbers makes.
-use Rattle.std.specs.Prelude.{ℕ, suc, ◌+◌, ◌*◌, List, [], ◌∷◌, get_or, set, leb, if◌then◌else◌}
+use Rattle.std.specs.Prelude.{ℕ, suc, ◌+◌, ◌*◌, List, [], ◌∷◌, get_or, leb, if◌then◌else◌}
 use Rattle.record.specs.Table.{max_slots, slot_width}
 use Rattle.slots.specs.declared.SlotRecord.{SlotRecord}
 
@@ -32,9 +32,9 @@ slot_from ns at =
     record
     { kind = get_or ns at 0; start = get_or ns (at + 1) 0; length = get_or ns (at + 2) 0; position = get_or ns (at + 3) 0 }
 
--- a slot's numbers, stored at a place
-abbrev pub put_at : List ℕ → ℕ → SlotRecord → List ℕ
-put_at ns at s = set (set (set (set ns at s.kind) (at + 1) s.start) (at + 2) s.length) (at + 3) s.position
+-- a slot's numbers
+abbrev pub numbers_of : SlotRecord → List ℕ
+numbers_of s = s.kind ∷ s.start ∷ s.length ∷ s.position ∷ []
 
 -- how many of n slots are taken apart: more than a table may have are refused with number 1
 unfoldable pub taken : ℕ → ℕ

@@ -3,62 +3,98 @@
 // numbers: the two lines of a pair are the same.
 #![tactic(auto)]
 
-use record::{Answer, ReadAnswer};
-use slots::SlotRecord;
-use std::io;
+use record::slots::{SIGNED, STRING, UNSET};
+use record::{Answer, MAX_NUMBERS, MAX_SLOTS, ReadAnswer, SLOT_WIDTH};
+use slots::{ROWS, SlotRecord};
+use std::fmt::Formatter;
+use std::{fmt, io};
 
 // Packing from a table by value.
 mod rows_pack;
 // Reading into a table by value.
 mod rows_read;
 
-fn digit(n: u32) -> u8 {
-    let d = n % 10;
-    48 + d as u8
+// The three numbers of an answer, in three digits each.
+#[derive(Clone, Copy)]
+struct Answered(Answer);
+
+impl fmt::Display for Answered {
+    fn fmt<W: fmt::Write>(&self, f: &mut Formatter<W>) -> fmt::Result {
+        let Answer {
+            number,
+            first,
+            second,
+        } = self.0;
+        write!(f, " {number:03} {first:03} {second:03}")
+    }
 }
 
-// Writes the last three digits of a number, after a space.
-fn write_number(rt: &impl Print, n: u32) -> io::Result<()> {
-    let text = [b' ', digit(n / 100), digit(n / 10), digit(n)];
-    rt.write_all(&text)
+// The three numbers of a reading's answer, and its steps.
+#[derive(Clone, Copy)]
+struct AnsweredRead(ReadAnswer);
+
+impl fmt::Display for AnsweredRead {
+    fn fmt<W: fmt::Write>(&self, f: &mut Formatter<W>) -> fmt::Result {
+        let ReadAnswer { answer, steps } = self.0;
+        write!(f, "{} {steps:03}", Answered(answer))
+    }
 }
 
-fn write_answer(rt: &impl Print, name: &[u8], a: Answer) -> io::Result<()> {
-    rt.write_all(name)?;
-    write_number(rt, a.number)?;
-    write_number(rt, a.first)?;
-    write_number(rt, a.second)
+// Numbers after a semicolon, in three digits each.
+#[derive(Clone, Copy)]
+struct Numbers<'a>(&'a [u32]);
+
+impl fmt::Display for Numbers<'_> {
+    fn fmt<W: fmt::Write>(&self, f: &mut Formatter<W>) -> fmt::Result {
+        f.write_str(" ;")?;
+        for n in self.0 {
+            write!(f, " {n:03}")?;
+        }
+        Ok(())
+    }
 }
 
-fn write_read(rt: &impl Print, name: &[u8], r: ReadAnswer) -> io::Result<()> {
-    write_answer(rt, name, r.answer)?;
-    write_number(rt, r.steps)
+// The same of bytes.
+#[derive(Clone, Copy)]
+struct Bytes<'a>(&'a [u8]);
+
+impl fmt::Display for Bytes<'_> {
+    fn fmt<W: fmt::Write>(&self, f: &mut Formatter<W>) -> fmt::Result {
+        f.write_str(" ;")?;
+        for b in self.0 {
+            write!(f, " {b:03}")?;
+        }
+        Ok(())
+    }
 }
 
-fn write_slot(rt: &impl Print, s: SlotRecord) -> io::Result<()> {
-    rt.write_all(b" ;")?;
-    write_number(rt, s.kind)?;
-    write_number(rt, s.start)?;
-    write_number(rt, s.length)?;
-    write_number(rt, s.position)
+// The numbers of a slot.
+#[derive(Clone, Copy)]
+struct Slot(SlotRecord);
+
+impl fmt::Display for Slot {
+    fn fmt<W: fmt::Write>(&self, f: &mut Formatter<W>) -> fmt::Result {
+        let SlotRecord {
+            kind,
+            start,
+            length,
+            position,
+        } = self.0;
+        write!(f, "{}", Numbers(&[kind, start, length, position]))
+    }
 }
 
-fn write_byte(rt: &impl Print, b: u8) -> io::Result<()> {
-    write_number(rt, b as u32)
+fn slot_of(kind: u32, start: u32, length: u32, position: u32) -> SlotRecord {
+    SlotRecord {
+        kind,
+        start,
+        length,
+        position,
+    }
 }
 
-fn write_record(rt: &impl Print, bytes: &[u8; 5]) -> io::Result<()> {
-    rt.write_all(b" ;")?;
-    write_byte(rt, bytes[0])?;
-    write_byte(rt, bytes[1])?;
-    write_byte(rt, bytes[2])?;
-    write_byte(rt, bytes[3])?;
-    write_byte(rt, bytes[4])?;
-    rt.write_all(b"\n")
-}
-
-fn pair(first: SlotRecord, second: SlotRecord) -> [SlotRecord; slots::ROWS] {
-    let mut table = [first; slots::ROWS];
+fn pair(first: SlotRecord, second: SlotRecord) -> [SlotRecord; ROWS] {
+    let mut table = [first; ROWS];
     table[1] = second;
     table
 }
@@ -66,242 +102,149 @@ fn pair(first: SlotRecord, second: SlotRecord) -> [SlotRecord; slots::ROWS] {
 // Packs two slots over "abc", and the integers 5 and -3.
 fn show_pack(
     rt: &impl Print,
-    name: &[u8],
+    name: &str,
     first: SlotRecord,
     second: SlotRecord,
-    bytes: &mut [u8; 5],
+    output: &mut [u8; 5],
 ) -> io::Result<()> {
-    let a = rows_pack::pack_some(
-        b"a3c2",
-        pair(first, second),
-        2,
-        b"abc\x00\x00\x00\x00\x00\x00\x00\x05\xff\xff\xff\xff\xff\xff\xff\xfd",
-        bytes,
-    );
-    write_answer(rt, name, a)?;
-    write_record(rt, bytes)
+    let area = b"abc\x00\x00\x00\x00\x00\x00\x00\x05\xff\xff\xff\xff\xff\xff\xff\xfd";
+    let a = rows_pack::pack_some(b"a3c2", pair(first, second), 2, area, output);
+    println!(rt; "{name}{}{}", Answered(a), Bytes(output))
 }
 
 // Reads into two slots, from the mark 4 on.
 fn show_read(
     rt: &impl Print,
-    name: &[u8],
+    name: &str,
     layout: &[u8],
     bytes: &[u8; 5],
     first: SlotRecord,
     second: SlotRecord,
 ) -> io::Result<()> {
-    let mut area: [u8; 32] = [0; 32];
-    let read = rows_read::read_some(layout, bytes, pair(first, second), 2, &mut area, 4);
-    write_read(rt, name, read.answer)?;
-    let s = read.slots;
-    write_slot(rt, s[0])?;
-    write_slot(rt, s[1])?;
-    rt.write_all(b"\n")
+    let read = rows_read::read_some(layout, bytes, pair(first, second), 2, &mut [0; 32], 4);
+    let [first, second, ..] = read.slots;
+    println!(rt;
+        "{name}{}{}{}",
+        AnsweredRead(read.answer),
+        Slot(first),
+        Slot(second)
+    )
 }
 
 // The numbers of the rows of a table.
-const NUMBERS: usize = record::SLOT_WIDTH * slots::ROWS;
-
-fn string_at(start: u32) -> SlotRecord {
-    SlotRecord {
-        kind: record::slots::STRING,
-        start: start,
-        length: 1,
-        position: 1,
-    }
-}
+const NUMBERS: usize = SLOT_WIDTH * ROWS;
 
 // Strings of one byte of "xyz": x first, z in the last row that a call may have, and y in every other.
-fn table() -> [SlotRecord; slots::ROWS] {
-    let mut rows = [string_at(1); slots::ROWS];
-    rows[0] = string_at(0);
-    rows[record::MAX_SLOTS - 1] = string_at(2);
+fn table() -> [SlotRecord; ROWS] {
+    let mut rows = [slot_of(STRING, 1, 1, 1); ROWS];
+    rows[0] = slot_of(STRING, 0, 1, 1);
+    rows[MAX_SLOTS - 1] = slot_of(STRING, 2, 1, 1);
     rows
 }
 
 // The slots of `table` as numbers.
-fn numbers() -> [u32; NUMBERS] {
-    let mut ns: [u32; NUMBERS] = [1; NUMBERS];
-    ns[1] = 0;
-    ns[record::MAX_NUMBERS - 3] = 2;
-    ns
+fn table_numbers() -> [u32; NUMBERS] {
+    let mut numbers = [1; NUMBERS];
+    numbers[1] = 0;
+    numbers[MAX_NUMBERS - 3] = 2;
+    numbers
 }
 
-fn write_bytes(rt: &impl Print, first: u8, last: u8) -> io::Result<()> {
-    rt.write_all(b" ;")?;
-    write_byte(rt, first)?;
-    write_byte(rt, last)?;
-    rt.write_all(b"\n")
-}
-
-// Both calls over the first `end` numbers, or over all where there are fewer.
-fn pack_numbers(layout: &[u8], ns: &[u32], end: usize, output: &mut [u8]) -> Answer {
-    if ns.len() < end {
-        return packer::pack(layout, ns, b"xyz", output);
-    }
-    packer::pack(layout, &ns[..end], b"xyz", output)
-}
-
-fn read_numbers(layout: &[u8], ns: &mut [u32], end: usize, area: &mut [u8]) -> ReadAnswer {
-    if ns.len() < end {
-        return reader::read(
-            layout,
-            b"oppppppppppppppppppppppppppppppppppppppppppppppppppppppppppppppqr",
-            ns,
-            area,
-            4,
-        );
-    }
-    reader::read(
-        layout,
-        b"oppppppppppppppppppppppppppppppppppppppppppppppppppppppppppppppqr",
-        &mut ns[..end],
-        area,
-        4,
-    )
-}
-
-// How many numbers the first `count` rows have; 0 where there are fewer rows.
-fn numbers_of(count: usize) -> usize {
-    if slots::ROWS < count {
-        return 0;
-    }
-    count * record::SLOT_WIDTH
-}
+// What is read: o first, q and r last, and p between.
+const RECORD: &[u8] = b"oppppppppppppppppppppppppppppppppppppppppppppppppppppppppppppppqr";
 
 fn pack_slots(rt: &impl Print, layout: &[u8], count: usize) -> io::Result<()> {
-    let mut output: [u8; slots::ROWS] = [0; slots::ROWS];
+    let mut output = [0; ROWS];
     let a = rows_pack::pack_some(layout, table(), count, b"xyz", &mut output);
-    write_answer(rt, b"pack", a)?;
-    write_bytes(rt, output[0], output[record::MAX_SLOTS - 1])
-}
-
-fn pack_same(rt: &impl Print, layout: &[u8], count: usize) -> io::Result<()> {
-    let mut output: [u8; slots::ROWS] = [0; slots::ROWS];
-    let ns = numbers();
-    let a = pack_numbers(layout, &ns, numbers_of(count), &mut output);
-    write_answer(rt, b"pack", a)?;
-    write_bytes(rt, output[0], output[record::MAX_SLOTS - 1])
+    println!(rt;
+        "pack{}{}",
+        Answered(a),
+        Bytes(&[output[0], output[MAX_SLOTS - 1]])
+    )
 }
 
 fn read_slots(rt: &impl Print, layout: &[u8], count: usize) -> io::Result<()> {
-    let mut area: [u8; 4 + slots::ROWS] = [0; 4 + slots::ROWS];
-    let read = rows_read::read_some(
-        layout,
-        b"oppppppppppppppppppppppppppppppppppppppppppppppppppppppppppppppqr",
-        table(),
-        count,
-        &mut area,
-        4,
-    );
-    write_read(rt, b"read", read.answer)?;
-    let s = read.slots;
-    write_slot(rt, s[0])?;
-    write_slot(rt, s[record::MAX_SLOTS - 1])?;
-    write_bytes(rt, area[4], area[3 + record::MAX_SLOTS])
-}
-
-// Writes the row whose numbers start at a place.
-fn write_row(rt: &impl Print, ns: &[u32], at: usize) -> io::Result<()> {
-    if ns.len() < 4 {
-        return Ok(());
-    }
-    if ns.len() - 4 < at {
-        return Ok(());
-    }
-    write_slot(
-        rt,
-        SlotRecord {
-            kind: ns[at],
-            start: ns[at + 1],
-            length: ns[at + 2],
-            position: ns[at + 3],
-        },
+    let mut area = [0; 4 + ROWS];
+    let read = rows_read::read_some(layout, RECORD, table(), count, &mut area, 4);
+    println!(rt;
+        "read{}{}{}{}",
+        AnsweredRead(read.answer),
+        Slot(read.slots[0]),
+        Slot(read.slots[MAX_SLOTS - 1]),
+        Bytes(&[area[4], area[3 + MAX_SLOTS]])
     )
 }
 
-fn write_rows(rt: &impl Print, ns: &[u32; NUMBERS]) -> io::Result<()> {
-    write_row(rt, ns, 0)?;
-    write_row(rt, ns, record::MAX_NUMBERS - 4)
+// Both calls over the first `end` numbers, or over all where there are fewer.
+fn pack_same(rt: &impl Print, layout: &[u8], end: usize) -> io::Result<()> {
+    let mut output = [0; ROWS];
+    let a = packer::pack(
+        layout,
+        &table_numbers()[..end.min(NUMBERS)],
+        b"xyz",
+        &mut output,
+    );
+    println!(rt;
+        "pack{}{}",
+        Answered(a),
+        Bytes(&[output[0], output[MAX_SLOTS - 1]])
+    )
 }
 
-fn read_same(rt: &impl Print, layout: &[u8], count: usize) -> io::Result<()> {
-    let mut area: [u8; 4 + slots::ROWS] = [0; 4 + slots::ROWS];
-    let mut ns = numbers();
-    let answer = read_numbers(layout, &mut ns, numbers_of(count), &mut area);
-    write_read(rt, b"read", answer)?;
-    write_rows(rt, &ns)?;
-    write_bytes(rt, area[4], area[3 + record::MAX_SLOTS])
-}
-
-fn each(rt: &impl Print, layout: &[u8], count: usize) -> io::Result<()> {
-    pack_slots(rt, layout, count)?;
-    pack_same(rt, layout, count)?;
-    read_slots(rt, layout, count)?;
-    read_same(rt, layout, count)
-}
-
-fn part(layout: &[u8], fields: usize) -> &[u8] {
-    if layout.len() < fields {
-        return layout;
-    }
-    &layout[0..fields]
+fn read_same(rt: &impl Print, layout: &[u8], end: usize) -> io::Result<()> {
+    let mut area = [0; 4 + ROWS];
+    let mut numbers = table_numbers();
+    let read = reader::read(
+        layout,
+        RECORD,
+        &mut numbers[..end.min(NUMBERS)],
+        &mut area,
+        4,
+    );
+    println!(rt;
+        "read{}{}{}{}",
+        AnsweredRead(read),
+        Numbers(&numbers[..SLOT_WIDTH]),
+        Numbers(&numbers[MAX_NUMBERS - SLOT_WIDTH..MAX_NUMBERS]),
+        Bytes(&[area[4], area[3 + MAX_SLOTS]])
+    )
 }
 
 // All four calls by a layout of `fields` strings of one byte, over `count` slots.
 fn all(rt: &impl Print, fields: usize, count: usize) -> io::Result<()> {
-    let layout: [u8; slots::ROWS] = [b'a'; slots::ROWS];
-    each(rt, part(&layout, fields), count)
-}
-
-fn string() -> SlotRecord {
-    SlotRecord {
-        kind: record::slots::STRING,
-        start: 0,
-        length: 3,
-        position: 0,
-    }
-}
-
-fn integers() -> SlotRecord {
-    SlotRecord {
-        kind: record::slots::SIGNED,
-        start: 3,
-        length: 2,
-        position: 0,
-    }
-}
-
-fn unset() -> SlotRecord {
-    SlotRecord {
-        kind: record::slots::UNSET,
-        start: 0,
-        length: 0,
-        position: 0,
-    }
-}
-
-fn readings(rt: &impl Print, bytes: &[u8; 5]) -> io::Result<()> {
-    show_read(rt, b"read", b"a3c2", bytes, unset(), unset())?;
-    show_read(rt, b"short", b"a4c2", bytes, unset(), unset())?;
-    show_read(rt, b"refused", b"a3z", bytes, string(), integers())
+    let layout = &[b'a'; ROWS][..fields.min(ROWS)];
+    let end = count.saturating_mul(SLOT_WIDTH);
+    pack_slots(rt, layout, count)?;
+    pack_same(rt, layout, end)?;
+    read_slots(rt, layout, count)?;
+    read_same(rt, layout, end)
 }
 
 fn two(rt: &impl Print) -> io::Result<()> {
-    let mut bytes: [u8; 5] = [0; 5];
-    show_pack(rt, b"packed", string(), integers(), &mut bytes)?;
-    show_pack(rt, b"refused", integers(), string(), &mut bytes)?;
-    readings(rt, &bytes)
+    let mut bytes = [0; 5];
+    let string = slot_of(STRING, 0, 3, 0);
+    let integers = slot_of(SIGNED, 3, 2, 0);
+    show_pack(rt, "packed", string, integers, &mut bytes)?;
+    show_pack(rt, "refused", integers, string, &mut bytes)?;
+    let unset = slot_of(UNSET, 0, 0, 0);
+    show_read(rt, "read", b"a3c2", &bytes, unset, unset)?;
+    show_read(rt, "short", b"a4c2", &bytes, unset, unset)?;
+    show_read(rt, "refused", b"a3z", &bytes, string, integers)
 }
 
 fn main(rt: HostRuntime) -> io::Result<()> {
     two(&rt)?;
-    all(&rt, 0, 0)?;
-    all(&rt, 1, 0)?;
-    all(&rt, 1, 1)?;
-    all(&rt, 2, 1)?;
-    all(&rt, record::MAX_SLOTS, record::MAX_SLOTS)?;
-    all(&rt, slots::ROWS, record::MAX_SLOTS)?;
-    all(&rt, slots::ROWS, slots::ROWS)
+    let calls = [
+        (0, 0),
+        (1, 0),
+        (1, 1),
+        (2, 1),
+        (MAX_SLOTS, MAX_SLOTS),
+        (ROWS, MAX_SLOTS),
+        (ROWS, ROWS),
+    ];
+    for (fields, count) in calls {
+        all(&rt, fields, count)?;
+    }
+    Ok(())
 }

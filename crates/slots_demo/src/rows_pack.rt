@@ -19,8 +19,7 @@ fn pack_rows(
     ensures { record { answer = result; output = output.new }
         ≡ pack layout.now (slots_numbers (take count slots)) area.now output.old }
 {
-    let table = slots;
-    slots::pack::pack_slots(layout, &table[..count], area, output)
+    slots::pack::pack_slots(layout, &slots[..count], area, output)
 }
 
 // `slots::pack::pack_slots` on the first `count` rows; a count above the rows lends all, one more than a table may
@@ -35,5 +34,5 @@ pub fn pack_some(
     ensures { record { answer = result; output = output.new }
         ≡ pack layout.now (slots_numbers (take (min count table_rows) slots)) area.now output.old }
 {
-    pack_rows(layout, slots, record::least(count, ROWS), area, output)
+    pack_rows(layout, slots, count.min(ROWS), area, output)
 }

@@ -14,15 +14,6 @@ pub struct Outcome {
     pub slots: [SlotRecord; ROWS],
 }
 
-fn together(answer: ReadAnswer, slots: [SlotRecord; ROWS]) -> Outcome
-    ensures { result ≡ record { answer = answer; slots = slots } }
-{
-    Outcome {
-        answer: answer,
-        slots: slots,
-    }
-}
-
 // Reads into the first `count` rows.
 fn read_rows(
     layout: &[u8],
@@ -37,7 +28,10 @@ fn read_rows(
 {
     let mut table = slots;
     let answer = slots::read::read_slots(layout, bytes, &mut table[..count], area, mark);
-    together(answer, table)
+    Outcome {
+        answer,
+        slots: table,
+    }
 }
 
 // `slots::read::read_slots` on the first `count` rows, or on all where there are fewer.
@@ -51,5 +45,5 @@ pub fn read_some(
 ) -> Outcome
     ensures { ReadsRows layout.now bytes.now slots (min count table_rows) area.old area.new mark result }
 {
-    read_rows(layout, bytes, slots, record::least(count, ROWS), area, mark)
+    read_rows(layout, bytes, slots, count.min(ROWS), area, mark)
 }

@@ -55,9 +55,9 @@ drop-four bs at k x h e is =
     let cut : part bs at (k - 4 + 4) ≡ part bs at (k - 4) ++ part bs (at + (k - 4)) 4 = rw (take-add (k - 4) 4 (drop at bs), drop-drop (k - 4) at bs) in
     ap (λ (n : ℕ). trimmed (part bs at n)) s ∙ rw (cut, spaces) (trimmed-spaces (part bs at (k - 4)))
 
-pub none_left : (bs : List ℕ) (at k : ℕ) → k ≤ 0 → part bs at k ≡ trimmed (part bs at k)
+pub none_left : (bs : List ℕ) (at : ℕ) → part bs at 0 ≡ trimmed (part bs at 0)
 unfolding trimmed
-none_left bs at k h = let e : k ≡ 0 = omega arith in rw e
+none_left bs at = refl
 
 -- a string cut or padded is what is kept of it, and then the padding
 padded : (xs : List ℕ) (n pad : ℕ) → take (min (length xs) n) xs ++ replicate (n - min (length xs) n) pad ≡ stored (Text pad) n xs

@@ -8,33 +8,33 @@ ghost use Rattle.record.specs.Table.{max_record};
 ghost use Rattle.record.specs.Packing.{stored};
 ghost use Rattle.record.specs.Reading.{is_blank, trimmed};
 
-// Stores n bytes of a string of `len` bytes that stands in the area, cut or padded.
+// Stores n bytes of a string of `len` bytes that stands in the area, cut or padded: where it stands is said as its slot
+// has it.
 pub fn store(out: &mut [u8], at: usize, area: &[u8], start: usize, len: usize, n: usize, pad: u8)
     requires { (n ≤ max_record) × (at + n ≤ length out.old) × (start + len ≤ length area.now) }
     ensures { out.new ≡ store_at out.old at (stored (Text pad) n (part area.now start len)) }
 {
-    let kept = record::least(len, n);
-    byte_runs::copy_block(out, at, area, start, kept);
+    let kept = len.min(n);
+    byte_runs::copy(out, at, area, start, kept);
     byte_runs::fill(out, at + kept, n - kept, pad);
 }
 
 fn is_blank(c: u8) -> bool
     ensures { result ≡ is_blank c }
 {
-    c == 0 || c == 32
+    c == 0 || c == b' '
 }
 
 // How long n bytes of a record are without the spaces at their end that stand there in fours. What is left trims to the
 // same.
+// (A `while`: how far k falls depends on the bytes, and each turn takes off four.)
 fn without_fours(input: &[u8], at: usize, n: usize) -> usize
     requires { at + n ≤ length input.now }
     ensures { (result ≤ n) × (trimmed (part input.now at result) ≡ trimmed (part input.now at n)) }
 {
     let mut k = n;
-    while 4 <= k {
-        if byte_runs::four_at(input, at + (k - 4), false) != 0x20202020 {
-            return k;
-        }
+    // Four at a time, as long as they are spaces: the data ends it.
+    while 4 <= k && byte_runs::four_at(input, at + (k - 4), false) == 0x20202020 {
         k -= 4;
     }
     k
@@ -45,12 +45,10 @@ pub fn trimmed_len(input: &[u8], at: usize, n: usize) -> usize
     requires { at + n ≤ length input.now }
     ensures { (result ≤ n) × (part input.now at result ≡ trimmed (part input.now at n)) }
 {
-    let mut k = without_fours(input, at, n);
-    while 0 < k {
-        if !is_blank(input[at + (k - 1)]) {
-            return k;
+    for i in (0..without_fours(input, at, n)).rev() {
+        if !is_blank(input[at + i]) {
+            return i + 1;
         }
-        k -= 1;
     }
-    k
+    0
 }

@@ -2,127 +2,98 @@
 // record; or the refusal and its place. Then what is proved of layouts: a line for each, with the four numbers of the
 // answer. Then their fields: 0, fields, 0, and below it a line for each row, in which `-` stands for no count, no slot
 // and what is open, and `*` for a star.
-use super::lists;
-use super::lists::Show;
-use byte_runs::big_endian;
-use describe::fields;
+use describe::fields::fields;
 use promises::Told;
-use std::io;
-use tour_text::print;
-use tour_text::print::Style;
+use std::fmt::Formatter;
+use std::{fmt, io};
+use tour_text::lists;
+use tour_text::print::{Answered, Escaped, Lent, Short};
 
 fn show(rt: &impl Print, layout: &[u8], told: &[u8]) -> io::Result<()> {
     let a = describe::describe(layout);
-    print::call(rt, b"describe", layout)?;
-    print::lent(rt, told)?;
-    print::answer(rt, a.number, a.first, a.second)?;
-    print::text(rt, b"\n")
+    println!(rt; "describe '{}'{}{}", Short(layout), Lent(told), Answered(a))
 }
 
-fn told(rt: &impl Print, t: Told) -> io::Result<()> {
-    let a = t.answer;
-    print::answer(rt, a.number, a.first, a.second)?;
-    print::numbers(rt, &[t.fourth])?;
-    print::text(rt, b"\n")
+// The four numbers of an answer about promises.
+#[derive(Clone, Copy)]
+struct Four(Told);
+
+impl fmt::Display for Four {
+    fn fmt<W: fmt::Write>(&self, f: &mut Formatter<W>) -> fmt::Result {
+        let Told { answer, fourth } = self.0;
+        write!(f, "{} {fourth}", Answered(answer))
+    }
 }
 
-fn promises(rt: &impl Print, layout: &[u8]) -> io::Result<()> {
+fn promises(rt: &impl Print, layout: &[u8], told: &[u8]) -> io::Result<()> {
     let t = promises::promises(layout);
-    print::call(rt, b"promises", layout)?;
-    told(rt, t)
+    println!(rt; "promises '{}'{}{}", Short(layout), Lent(told), Four(t))
 }
 
 // Asks whether a new layout extends an old one.
 fn extends(rt: &impl Print, old: &[u8], new: &[u8]) -> io::Result<()> {
     let t = promises::extends(old, new);
-    print::text(rt, b"extends '")?;
-    print::bytes(rt, old, Style::Escaped)?;
-    print::text(rt, b"|")?;
-    print::bytes(rt, new, Style::Escaped)?;
-    print::text(rt, b"'")?;
-    told(rt, t)
+    println!(rt; "extends '{}|{}'{}", Escaped(old), Escaped(new), Four(t))
 }
 
-// The eight numbers of a row, each four bytes.
+// The numbers of a row, each four bytes.
 const ROW_NUMBERS: usize = 8;
 
 const NUMBER_SIZE: usize = 4;
 
 const ROW_SIZE: usize = ROW_NUMBERS * NUMBER_SIZE;
 
-// A number of a row.
-fn number(rt: &impl Print, n: u64) -> io::Result<()> {
-    match n {
-        4294967295 => print::text(rt, b" -"),
-        4294967294 => print::text(rt, b" *"),
-        _ => {
-            print::text(rt, b" ")?;
-            print::number(rt, n)
+// A number of a row, or what stands for it.
+#[derive(Clone, Copy)]
+struct Number(u32);
+
+impl fmt::Display for Number {
+    fn fmt<W: fmt::Write>(&self, f: &mut Formatter<W>) -> fmt::Result {
+        match self.0 {
+            4294967295 => f.write_str("-"),
+            4294967294 => f.write_str("*"),
+            n => write!(f, "{n}"),
         }
     }
 }
 
-// The number i of all rows: the first of a row begins a line, and the third is a character.
-fn shown(rt: &impl Print, i: usize, n: u64) -> io::Result<()> {
-    match i % ROW_NUMBERS {
-        0 => {
-            print::text(rt, b"\n ")?;
-            number(rt, n)
+// The rows, each on a line of its own; the third number is a character.
+#[derive(Clone, Copy)]
+struct Rows<'a>(&'a [u8]);
+
+impl fmt::Display for Rows<'_> {
+    fn fmt<W: fmt::Write>(&self, f: &mut Formatter<W>) -> fmt::Result {
+        let (numbers, _) = self.0.as_chunks::<NUMBER_SIZE>();
+        for (i, bytes) in numbers.iter().enumerate() {
+            let n = u32::from_be_bytes(*bytes);
+            match i % ROW_NUMBERS {
+                0 => write!(f, "\n  {}", Number(n))?,
+                2 => write!(f, " {}", Escaped(&bytes[3..]))?,
+                _ => write!(f, " {}", Number(n))?,
+            }
         }
-        2 => {
-            print::text(rt, b" ")?;
-            print::text(rt, &[(n % 256) as u8])
-        }
-        _ => number(rt, n),
+        Ok(())
     }
 }
 
-fn rows(rt: &impl Print, run: &[u8]) -> io::Result<()> {
-    let n = run.len() / NUMBER_SIZE;
-    let mut i = 0;
-    while i < n {
-        shown(
-            rt,
-            i,
-            big_endian::number_at(run, i * NUMBER_SIZE, NUMBER_SIZE),
-        )?;
-        i += 1;
-    }
-    Ok(())
-}
-
-fn wide(b: u8) -> u64 {
-    b as u64
-}
-
-// The rows in the first `bytes` bytes of a run, and the byte after them.
-fn filled(rt: &impl Print, run: &[u8], bytes: usize) -> io::Result<()> {
-    if run.len() <= bytes {
-        return Ok(());
-    }
-    rows(rt, &run[0..bytes])?;
-    print::text(rt, b"\n  then")?;
-    number(rt, wide(run[bytes]))
-}
-
-// The fields of a layout, in a run of bytes 170.
+// The fields of a layout, in a run of bytes 170; and the byte after them.
 fn list(rt: &impl Print, layout: &[u8], run: &mut [u8], told: &[u8]) -> io::Result<()> {
-    let a = fields::fields(layout, run);
-    print::call(rt, b"fields", layout)?;
-    print::lent(rt, told)?;
-    print::answer(rt, a.number, a.first, a.second)?;
-    if a.number == 0 {
-        filled(rt, run, a.first as usize * ROW_SIZE)?;
+    let a = fields(layout, run);
+    print!(rt; "fields '{}'{}{}", Short(layout), Lent(told), Answered(a))?;
+    match run.split_at_checked(a.first as usize * ROW_SIZE) {
+        Some((rows, [then, ..])) if a.number == 0 => {
+            println!(rt; "{}\n  then {then}", Rows(rows))
+        }
+        _ => println!(rt; ""),
     }
-    print::text(rt, b"\n")
 }
 
 // An example: `d` and a layout that is described, `f` and one whose fields are listed, `s` and one whose fields are
 // listed in a run that holds one row, `p` and one whose promises are asked for, or `e`, an old layout and a new one.
-pub fn example(rt: &impl Print, kind: u8, layout: &[u8], rest: &[u8]) -> io::Result<()> {
+fn example(rt: &impl Print, kind: u8, layout: &[u8], rest: &[u8]) -> io::Result<()> {
     match kind {
         b'd' => show(rt, layout, b""),
-        b'p' => promises(rt, layout),
+        b'p' => promises(rt, layout, b""),
         b'e' => extends(rt, layout, rest),
         b'f' => list(rt, layout, &mut [170; 16 * ROW_SIZE], b""),
         b's' => list(rt, layout, &mut [170; 2 * ROW_SIZE - 1], b"run of 63 bytes"),
@@ -130,10 +101,17 @@ pub fn example(rt: &impl Print, kind: u8, layout: &[u8], rest: &[u8]) -> io::Res
     }
 }
 
-fn counts(rt: &impl Print) -> io::Result<()> {
+fn run(rt: &impl Print, list: &[u8]) -> io::Result<()> {
     lists::run(
         rt,
-        Show::Layouts,
+        list,
+        |kind, layout, rest| example(rt, kind, layout, rest),
+    )
+}
+
+fn counts(rt: &impl Print) -> io::Result<()> {
+    run(
+        rt,
         b"
 h |Layouts described: layout -> 0, slots, length
 d |
@@ -173,9 +151,8 @@ fn limits(rt: &impl Print) -> io::Result<()> {
 
 // A shortest record that is longer than a record may be; then layouts that packing would refuse.
 fn refusals(rt: &impl Print) -> io::Result<()> {
-    lists::run(
+    run(
         rt,
-        Show::Layouts,
         b"
 d w4096w4096|
 h |
@@ -194,9 +171,8 @@ d a2x*|
 
 // What layouts promise; 4294967295 stands for no place.
 fn promised(rt: &impl Print) -> io::Result<()> {
-    lists::run(
+    run(
         rt,
-        Show::Layouts,
         b"
 h |
 h |Promises: layout -> 0, where it may not grow, where reading loses something, where it may not be joined
@@ -229,21 +205,15 @@ e c|c x*
 
 // A layout at the limit of slots: what it promises, and whether it is the empty layout with fields added.
 fn limit(rt: &impl Print, layout: &[u8], size: &[u8]) -> io::Result<()> {
-    let p = promises::promises(layout);
-    print::call(rt, b"promises", layout)?;
-    print::lent(rt, size)?;
-    told(rt, p)?;
-    let e = promises::extends(b"", layout);
-    print::call(rt, b"extends", b"|..")?;
-    print::lent(rt, size)?;
-    told(rt, e)
+    promises(rt, layout, size)?;
+    let t = promises::extends(b"", layout);
+    println!(rt; "extends '|..'{}{}", Lent(size), Four(t))
 }
 
 // Fields: place and bytes in the text, type, flag, count, slot, position, bytes in the record.
 fn listed(rt: &impl Print) -> io::Result<()> {
-    lists::run(
+    run(
         rt,
-        Show::Layouts,
         b"
 h |
 h |Fields listed: layout -> 0, fields, 0; place, length, type, flag, count, slot, position, bytes

@@ -3,7 +3,7 @@
 
 use std::io;
 
-// The manual's examples and the edges of document 01.
+// The manual's examples and the edges of the rules.
 mod records;
 // Reals.
 mod real_lines;
@@ -13,8 +13,6 @@ mod layouts;
 mod plan_lines;
 // Perl templates.
 mod templates;
-// Lists of examples of them.
-mod lists;
 
 fn main(rt: HostRuntime) -> io::Result<()> {
     records::main(&rt)?;

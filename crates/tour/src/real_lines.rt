@@ -1,57 +1,47 @@
-// Reals (document 02, M-108): a line for each call, with the layout, the arguments or the record, the answer's numbers,
+// Reals: a line for each call, with the layout, the arguments or the record, the answer's numbers,
 // and the bytes or the values. A double is shown by its pattern.
-use super::lists;
-use super::lists::Show;
-use record::{MAX_NUMBERS, SLOT_WIDTH};
+use record::SLOT_WIDTH;
 use std::io;
-use tour_text::print::Style;
-use tour_text::{notation, print, values};
-
-// Packs, and prints the line.
-fn packed(
-    rt: &impl Print,
-    layout: &[u8],
-    told: &[u8],
-    slots: &[u32],
-    area: &[u8],
-) -> io::Result<()> {
-    let mut out = [0u8; 48];
-    let a = packer::pack(layout, slots, area, &mut out);
-    print::call(rt, b"pack", layout)?;
-    print::lent(rt, told)?;
-    print::answer(rt, a.number, a.first, a.second)?;
-    print::result(rt, a.number, a.first as usize, &out)?;
-    print::text(rt, b"\n")
-}
+use tour_text::lists;
+use tour_text::notation::Arguments;
+use tour_text::print::{Answered, AnsweredRead, Hex, Lent, Short, Stored};
+use tour_text::values::{Left, Table};
 
 // Packs the arguments that a text names.
 fn pack(rt: &impl Print, layout: &[u8], told: &[u8]) -> io::Result<()> {
-    let mut slots = [0u32; MAX_NUMBERS];
-    let mut area = [0u8; 64];
-    let used = notation::parse(told, &mut slots, &mut area);
-    packed(
-        rt,
-        layout,
-        told,
-        notation::slots(&slots, used),
-        notation::area(&area, used),
+    let all = Arguments::parse(told);
+    let mut out = [0; 48];
+    let a = packer::pack(layout, all.slots(), all.area(), &mut out);
+    println!(rt;
+        "pack '{}'{}{}{}",
+        Short(layout),
+        Lent(told),
+        Answered(a),
+        Stored(a, &out)
     )
 }
 
 // Reads into one slot that is not set.
 fn read(rt: &impl Print, layout: &[u8], bytes: &[u8]) -> io::Result<()> {
-    let mut slots = [0u32; SLOT_WIDTH];
-    let mut area = [7u8; 32];
+    let mut slots = [0; SLOT_WIDTH];
+    let mut area = [7; 32];
     let r = reader::read(layout, bytes, &mut slots, &mut area, 0);
-    let a = r.answer;
-    print::call(rt, b"read", layout)?;
-    print::shortened(rt, bytes, Style::Hex)?;
-    print::read_answer(rt, r)?;
-    values::result(rt, a.number, &slots, &area)?;
-    print::text(rt, b"\n")
+    println!(rt;
+        "read '{}'{}{}{}",
+        Short(layout),
+        Hex(bytes),
+        AnsweredRead(r),
+        Left(
+            r.answer.number,
+            Table {
+                slots: &slots,
+                area: &area
+            }
+        )
+    )
 }
 
-pub fn example(rt: &impl Print, kind: u8, layout: &[u8], rest: &[u8]) -> io::Result<()> {
+fn example(rt: &impl Print, kind: u8, layout: &[u8], rest: &[u8]) -> io::Result<()> {
     match kind {
         b'r' => read(rt, layout, rest),
         _ => pack(rt, layout, rest),
@@ -62,7 +52,6 @@ pub fn example(rt: &impl Print, kind: u8, layout: &[u8], rest: &[u8]) -> io::Res
 pub fn main(rt: &impl Print) -> io::Result<()> {
     lists::run(
         rt,
-        Show::Reals,
         b"
 h |Reals: examples of 001 to 003
 
@@ -129,5 +118,6 @@ h |Narrowed once and read, stored the same again
 r R|\x3f\xcc\xcc\xcd
 p R|<3ff99999a0000000>
 ",
+        |kind, layout, rest| example(rt, kind, layout, rest),
     )
 }

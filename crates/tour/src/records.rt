@@ -1,12 +1,12 @@
-// The run-through program: the examples of the manual pages and the edges of document 01, a line for each call.
+// The run-through program: the examples of the manual pages and the edges of the rules, a line for each call.
 mod cuts;
-pub mod examples;
+mod examples;
 mod packing;
 mod readings;
 
 use std::io;
 
-pub fn main(rt: &impl Print) -> io::Result<()> {
+pub fn main(rt: &(impl Print + AllocGlobal)) -> io::Result<()> {
     examples::packings(rt)?;
     packing::sizes(rt)?;
     examples::outputs_and_readings(rt)?;

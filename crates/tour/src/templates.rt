@@ -1,43 +1,39 @@
-// Perl templates become layouts (document 02, M-105): a line for each call, with the template, what is lent, the
+// Perl templates become layouts: a line for each call, with the template, what is lent, the
 // answer's three numbers and the layout.
-use super::lists;
-use super::lists::Show;
 use layout::MAX_LAYOUT;
+use record::Answer;
 use std::io;
-use tour_text::print;
-use tour_text::print::Style;
+use tour_text::lists;
+use tour_text::print::{Answered, Hex, Lent, Short};
 
-// The layout of an accepted call, in quotes.
-fn result(rt: &impl Print, number: u32, length: usize, layout: &[u8]) -> io::Result<()> {
-    if number != 0 {
-        return Ok(());
+// The line of a call; an accepted one has the layout, in quotes.
+fn line(rt: &impl Print, template: &[u8], told: &[u8], a: Answer, layout: &[u8]) -> io::Result<()> {
+    print!(rt; "perl '{}'{}{}", Short(template), Lent(told), Answered(a))?;
+    match layout.get(..a.first as usize) {
+        Some(text) if a.number == 0 => println!(rt; ": '{}'", Short(text)),
+        _ => println!(rt; ""),
     }
-    if layout.len() < length {
-        return Ok(());
-    }
-    print::call(rt, b":", &layout[0..length])
 }
 
 // Turns a template into a layout, and prints the line; `told` names what is lent.
 fn show(rt: &impl Print, template: &[u8], told: &[u8], layout: &mut [u8]) -> io::Result<()> {
     let a = perl::from_perl(template, layout);
-    print::call(rt, b"perl", template)?;
-    print::lent(rt, told)?;
-    print::answer(rt, a.number, a.first, a.second)?;
-    result(rt, a.number, a.first as usize, layout)?;
-    print::text(rt, b"\n")
+    line(rt, template, told, a, layout)
 }
 
 // Turns a template into a layout, in a buffer of the longest layout. In a list it stands between `t` and a bar.
-pub fn one(rt: &impl Print, template: &[u8]) -> io::Result<()> {
+fn one(rt: &impl Print, template: &[u8]) -> io::Result<()> {
     show(rt, template, b"", &mut [0; MAX_LAYOUT])
+}
+
+fn run(rt: &impl Print, list: &[u8]) -> io::Result<()> {
+    lists::run(rt, list, |_, template, _| one(rt, template))
 }
 
 // The request's own template; every letter, alone and with a count.
 fn letters(rt: &impl Print) -> io::Result<()> {
-    lists::run(
+    run(
         rt,
-        Show::Templates,
         b"
 t (n2a3)2 C|
 t a|
@@ -61,9 +57,8 @@ t V4096|
 
 // A group written once, many times, inside others, and eight deep; spaces around items.
 fn groups(rt: &impl Print) -> io::Result<()> {
-    lists::run(
+    run(
         rt,
-        Show::Templates,
         b"
 t (a)|
 t (a)1|
@@ -87,9 +82,8 @@ t  a |
 
 // Number 15 in a count or a repeat, or where none can stand.
 fn bad_numbers(rt: &impl Print) -> io::Result<()> {
-    lists::run(
+    run(
         rt,
-        Show::Templates,
         b"
 t a4097|
 t a5000|
@@ -113,9 +107,8 @@ t (a)*|
 
 // Number 15 at a letter or another byte.
 fn bad_letters(rt: &impl Print) -> io::Result<()> {
-    lists::run(
+    run(
         rt,
-        Show::Templates,
         b"
 t A|
 t a2A3|
@@ -140,9 +133,8 @@ t a\tb|
 
 // Number 15 at a parenthesis, or at the end of a template that stops too soon.
 fn bad_groups(rt: &impl Print) -> io::Result<()> {
-    lists::run(
+    run(
         rt,
-        Show::Templates,
         b"
 t ()|
 t a()|
@@ -164,9 +156,8 @@ t (a |
 
 // Number 11, which comes after 15; lengths far above any number of 32 bits.
 fn long_results(rt: &impl Print) -> io::Result<()> {
-    lists::run(
+    run(
         rt,
-        Show::Templates,
         b"
 t ((a)64)4b|
 t ((a)64)5|
@@ -198,14 +189,14 @@ fn buffers(rt: &impl Print) -> io::Result<()> {
 
 // Turns a template into a layout in eight bytes aa, and prints all that they then hold.
 fn whole(rt: &impl Print, template: &[u8]) -> io::Result<()> {
-    let mut layout = [0xaau8; 8];
+    let mut layout = [0xaa; 8];
     let a = perl::from_perl(template, &mut layout);
-    print::call(rt, b"perl", template)?;
-    print::lent(rt, b"buffer of eight bytes aa")?;
-    print::answer(rt, a.number, a.first, a.second)?;
-    print::text(rt, b"; buffer")?;
-    print::bytes(rt, &layout, Style::Hex)?;
-    print::text(rt, b"\n")
+    println!(rt;
+        "perl '{}' buffer of eight bytes aa{}; buffer{}",
+        Short(template),
+        Answered(a),
+        Hex(&layout)
+    )
 }
 
 // What a call does not touch: the buffer after the layout, and all of it after a refusal.
@@ -219,24 +210,21 @@ fn kept(rt: &impl Print) -> io::Result<()> {
 }
 
 fn refusals(rt: &impl Print) -> io::Result<()> {
-    print::heading(rt, b"\nRefused: 15 and its place")?;
+    println!(rt; "\nRefused: 15 and its place")?;
     bad_numbers(rt)?;
     bad_letters(rt)?;
     bad_groups(rt)?;
-    print::heading(rt, b"\nRefused: 11, and 1")?;
+    println!(rt; "\nRefused: 11, and 1")?;
     long_results(rt)?;
     long_templates(rt)
 }
 
 pub fn main(rt: &impl Print) -> io::Result<()> {
-    print::heading(
-        rt,
-        b"Perl templates: template -> number, first, second: layout",
-    )?;
+    println!(rt; "Perl templates: template -> number, first, second: layout")?;
     letters(rt)?;
     groups(rt)?;
     refusals(rt)?;
-    print::heading(rt, b"\nBuffers")?;
+    println!(rt; "\nBuffers")?;
     buffers(rt)?;
     kept(rt)
 }

@@ -1,11 +1,11 @@
-// Records read and packed again (document 02, M-107): a line for each, with the layout, the record, what is lent
+// Records read and packed again: a line for each, with the layout, the record, what is lent
 // besides, the packer's three numbers, the bytes that it stored, and the values in between.
-use super::lists;
-use super::lists::Show;
+use lossless::pack_again::read_and_pack;
 use record::SLOT_WIDTH;
 use std::io;
-use tour_text::print::Style;
-use tour_text::{print, values};
+use tour_text::lists;
+use tour_text::print::{Answered, Hex, Lent, Short, Stored};
+use tour_text::values::{Left, Table};
 
 // Reads from the mark 3 on, packs again, and prints the line; `told` names the table where it is not one slot for each
 // field.
@@ -16,36 +16,26 @@ fn show(
     told: &[u8],
     slots: &mut [u32],
 ) -> io::Result<()> {
-    let mut area = [7u8; 64];
-    let mut out = [9u8; 16];
-    let a = lossless::pack_again::read_and_pack(layout, bytes, slots, &mut area, 3, &mut out);
-    print::call(rt, b"again", layout)?;
-    print::shortened(rt, bytes, Style::Hex)?;
-    print::lent(rt, told)?;
-    print::answer(rt, a.number, a.first, a.second)?;
-    print::result(rt, a.number, a.first as usize, &out)?;
-    values::result(rt, a.number, slots, &area)?;
-    print::text(rt, b"\n")
+    let mut area = [7; 64];
+    let mut out = [9; 16];
+    let a = read_and_pack(layout, bytes, slots, &mut area, 3, &mut out);
+    println!(rt;
+        "again '{}'{}{}{}{}{}",
+        Short(layout),
+        Hex(bytes),
+        Lent(told),
+        Answered(a),
+        Stored(a, &out),
+        Left(a.number, Table { slots, area: &area })
+    )
 }
 
-// One layout of five fields, flagged or not.
-fn form(rt: &impl Print, bytes: &[u8]) -> io::Result<()> {
-    show(rt, b"a2 SuB8hu2c", bytes, b"", &mut [9; 5 * SLOT_WIDTH])
-}
-
-fn one(rt: &impl Print, layout: &[u8], bytes: &[u8]) -> io::Result<()> {
-    show(rt, layout, bytes, b"", &mut [9; SLOT_WIDTH])
-}
-
-fn two(rt: &impl Print, layout: &[u8], bytes: &[u8]) -> io::Result<()> {
-    show(rt, layout, bytes, b"two slots", &mut [9; 2 * SLOT_WIDTH])
-}
-
-pub fn example(rt: &impl Print, kind: u8, layout: &[u8], rest: &[u8]) -> io::Result<()> {
+// The form is a layout of five fields, flagged or not.
+fn example(rt: &impl Print, kind: u8, layout: &[u8], rest: &[u8]) -> io::Result<()> {
     match kind {
-        b'f' => form(rt, rest),
-        b'2' => two(rt, layout, rest),
-        _ => one(rt, layout, rest),
+        b'f' => show(rt, b"a2 SuB8hu2c", rest, b"", &mut [9; 5 * SLOT_WIDTH]),
+        b'2' => show(rt, layout, rest, b"two slots", &mut [9; 2 * SLOT_WIDTH]),
+        _ => show(rt, layout, rest, b"", &mut [9; SLOT_WIDTH]),
     }
 }
 
@@ -53,7 +43,6 @@ pub fn example(rt: &impl Print, kind: u8, layout: &[u8], rest: &[u8]) -> io::Res
 pub fn main(rt: &impl Print) -> io::Result<()> {
     lists::run(
         rt,
-        Show::Lossless,
         b"
 h |Read and packed again: layout, record -> number, first, second: bytes: values
 
@@ -79,5 +68,6 @@ A byte past the last field, and a slot over.
 1 c|\x07\x08
 2 c|\x07
 ",
+        |kind, layout, rest| example(rt, kind, layout, rest),
     )
 }

@@ -9,8 +9,6 @@ mod lossless_lines;
 mod joined_lines;
 // Copies compared.
 mod compare_lines;
-// Lists of examples of them.
-mod lists;
 
 fn main(rt: HostRuntime) -> io::Result<()> {
     lossless_lines::main(&rt)?;

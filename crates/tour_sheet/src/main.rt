@@ -9,8 +9,6 @@ mod sheets;
 mod rescues;
 // Means of marked legs.
 mod means;
-// Lists of examples of them.
-mod lists;
 
 fn main(rt: HostRuntime) -> io::Result<()> {
     sheets::main(&rt)?;

@@ -1,15 +1,26 @@
-// Damaged sheets rescued (document 02, M-109): a line for each call, with what it is lent, the answer's four numbers,
+// Damaged sheets rescued: a line for each call, with what it is lent, the answer's four numbers,
 // and what it left.
 use record::{MAX_AREA, MAX_NUMBERS, MAX_SLOTS, SLOT_WIDTH};
 use rescue::fill::Rescued;
-use std::io;
-use tour_text::print::Style;
-use tour_text::{print, values};
+use std::fmt::Formatter;
+use std::{fmt, io};
+use tour_text::print::{Hex, Lent};
+use tour_text::values::{Left, Table, Whole};
 
 // The four numbers of an answer.
-fn answer(rt: &impl Print, a: Rescued) -> io::Result<()> {
-    print::answer(rt, a.number, a.first, a.second)?;
-    print::numbers(rt, &[a.third])
+#[derive(Clone, Copy)]
+struct Four(Rescued);
+
+impl fmt::Display for Four {
+    fn fmt<W: fmt::Write>(&self, f: &mut Formatter<W>) -> fmt::Result {
+        let Rescued {
+            number,
+            first,
+            second,
+            third,
+        } = self.0;
+        write!(f, " -> {number} {first} {second} {third}")
+    }
 }
 
 // Rescues, and prints the line; `told` names what is lent besides.
@@ -23,12 +34,13 @@ fn show(
     mark: usize,
 ) -> io::Result<()> {
     let a = rescue::rescue(sheet, legs, slots, area, mark);
-    print::text(rt, b"rescue")?;
-    print::shortened(rt, sheet, Style::Hex)?;
-    print::lent(rt, told)?;
-    answer(rt, a)?;
-    values::result(rt, a.number, slots, area)?;
-    print::text(rt, b"\n")
+    println!(rt;
+        "rescue{}{}{}{}",
+        Hex(sheet),
+        Lent(told),
+        Four(a),
+        Left(a.number, Table { slots, area })
+    )
 }
 
 // Three legs, into three slots that are not set.
@@ -38,10 +50,8 @@ fn three(rt: &impl Print, sheet: &[u8]) -> io::Result<()> {
 
 // The sheet's first bytes, each number of them, as of a file that was half written.
 fn cuts(rt: &impl Print, sheet: &[u8]) -> io::Result<()> {
-    let mut k = 0;
-    while k < sheet.len() {
-        three(rt, &sheet[0..k])?;
-        k += 1;
+    for end in 0..sheet.len() {
+        three(rt, &sheet[..end])?;
     }
     three(rt, sheet)
 }
@@ -92,31 +102,27 @@ fn second_versions(rt: &impl Print) -> io::Result<()> {
 // Two strings and one that is not set, for `legs` legs, into three slots of nines and eight bytes aa from the mark 1
 // on; prints all that they then hold.
 fn whole(rt: &impl Print, legs: usize) -> io::Result<()> {
-    let mut slots = [9u32; 3 * SLOT_WIDTH];
-    let mut area = [0xaau8; 8];
-    let a = rescue::rescue(
-        b"\x01\x00\x0b\x00\x03\x01xy\x00\x02\x01z\x00\x01\x00",
-        legs,
-        &mut slots,
-        &mut area,
-        1,
-    );
-    print::text(rt, b"rescue into slots of 9, eight bytes aa, mark 1, legs ")?;
-    print::number(rt, legs as u64)?;
-    answer(rt, a)?;
-    values::whole(rt, &slots, &area)?;
-    print::text(rt, b"\n")
+    let mut slots = [9; 3 * SLOT_WIDTH];
+    let mut area = [0xaa; 8];
+    let sheet = b"\x01\x00\x0b\x00\x03\x01xy\x00\x02\x01z\x00\x01\x00";
+    let a = rescue::rescue(sheet, legs, &mut slots, &mut area, 1);
+    println!(rt;
+        "rescue into slots of 9, eight bytes aa, mark 1, legs {legs}{}{}",
+        Four(a),
+        Whole(Table {
+            slots: &slots,
+            area: &area
+        })
+    )
 }
 
 // Slots past the legs and bytes that no kept value covers stay as lent, and all of a refused call does.
 fn kept(rt: &impl Print) -> io::Result<()> {
-    print::heading(rt, b"\nAll that a rescue leaves")?;
-    whole(rt, 0)?;
-    whole(rt, 1)?;
-    whole(rt, 2)?;
-    whole(rt, 3)?;
-    whole(rt, 4)?;
-    whole(rt, 65)
+    println!(rt; "\nAll that a rescue leaves")?;
+    for legs in [0, 1, 2, 3, 4, 65] {
+        whole(rt, legs)?;
+    }
+    Ok(())
 }
 
 // An integer and a string in an area of eight bytes, for `legs` legs.
@@ -156,62 +162,54 @@ fn orders(rt: &impl Print) -> io::Result<()> {
     first(rt, b"\x01", b"4294967297 legs", 4294967297)
 }
 
-// A long array is lent as an array, and only its borrower takes it for a slice: where an array is made, the prover
-// counts a slice of it byte by byte.
-fn longest(rt: &impl Print, sheet: &[u8; MAX_AREA], area: &mut [u8; MAX_AREA]) -> io::Result<()> {
-    show(
-        rt,
-        sheet,
-        b"a sheet as long as an area, 64 legs",
-        MAX_SLOTS,
-        &mut [0; MAX_NUMBERS],
-        area,
-        0,
-    )
-}
-
-fn longer(rt: &impl Print, area: &mut [u8; MAX_AREA + 1]) -> io::Result<()> {
-    show(
-        rt,
-        b"",
-        b"area over its size",
-        1,
-        &mut [0; SLOT_WIDTH],
-        area,
-        0,
-    )
-}
-
-fn table(rt: &impl Print, told: &[u8], slots: &mut [u32]) -> io::Result<()> {
-    show(rt, b"", told, 1, slots, &mut [0; 8], 0)
+// A sheet of no bytes, for one leg.
+fn empty(rt: &impl Print, told: &[u8], slots: &mut [u32], area: &mut [u8]) -> io::Result<()> {
+    show(rt, b"", told, 1, slots, area, 0)
 }
 
 // Sizes at their limits and above.
-fn sizes(rt: &impl Print) -> io::Result<()> {
-    longest(rt, &[1; MAX_AREA], &mut [0; MAX_AREA])?;
-    table(
+fn sizes(rt: &(impl Print + AllocGlobal)) -> io::Result<()> {
+    let sheet = vec![in rt.alloc(); 1; MAX_AREA]?;
+    let told = b"a sheet as long as an area, 64 legs";
+    let mut area = vec![in rt.alloc(); 0; MAX_AREA]?;
+    show(
+        rt,
+        &sheet,
+        told,
+        MAX_SLOTS,
+        &mut [0; MAX_NUMBERS],
+        &mut area,
+        0,
+    )?;
+    empty(
         rt,
         b"a slot more than can be",
         &mut [0; MAX_NUMBERS + SLOT_WIDTH],
+        &mut [0; 8],
     )?;
-    table(rt, b"a number more than a slot", &mut [0; SLOT_WIDTH + 1])?;
-    longer(rt, &mut [0; MAX_AREA + 1])
+    empty(
+        rt,
+        b"a number more than a slot",
+        &mut [0; SLOT_WIDTH + 1],
+        &mut [0; 8],
+    )?;
+    let mut area = vec![in rt.alloc(); 0; MAX_AREA + 1]?;
+    empty(rt, b"area over its size", &mut [0; SLOT_WIDTH], &mut area)
 }
 
-pub fn main(rt: &impl Print) -> io::Result<()> {
-    print::heading(
-        rt,
-        b"Rescues for three legs: sheet -> number, kept, cleared, dropped: values. Every cut of a sheet",
+pub fn main(rt: &(impl Print + AllocGlobal)) -> io::Result<()> {
+    println!(rt;
+        "Rescues for three legs: sheet -> number, kept, cleared, dropped: values. Every cut of a sheet"
     )?;
     cuts(
         rt,
         b"\x01\x00\x13\x00\x01\x00\x00\x03\x01OK\x00\x09\x02\xff\xff\xff\xff\xff\xff\xff\xfe",
     )?;
-    print::heading(rt, b"\nDamaged bytes")?;
+    println!(rt; "\nDamaged bytes")?;
     damages(rt)?;
     second_versions(rt)?;
     kept(rt)?;
-    print::heading(rt, b"\nRefusals and limits")?;
+    println!(rt; "\nRefusals and limits")?;
     marks(rt)?;
     orders(rt)?;
     sizes(rt)

@@ -1,7 +1,7 @@
-// What the run-through programs share: tables named by texts, lists of examples, and printing.
+// What the run-through programs share: tables named by texts, lists of examples, and how things are shown.
 #![tactic(auto)]
 
-pub mod lines;
+pub mod lists;
 pub mod notation;
 pub mod print;
 pub mod values;

@@ -1,148 +1,129 @@
-// What a program prints: runs of bytes, numbers and answers, each written out at once.
-use record::ReadAnswer;
-use std::io;
+// How runs of bytes, numbers and answers are shown.
+use record::{Answer, ReadAnswer};
+use std::fmt;
+use std::fmt::Formatter;
 
-// How a byte is shown: as a character or `\x` and two digits, or as a space and two digits.
+// The first and the last `few` items of a run of more than `most`.
+pub(crate) fn ends<T>(run: &[T], most: usize, few: usize) -> Option<(&[T], &[T])> {
+    if run.len() <= most {
+        return None;
+    }
+    Some((run.get(..few)?, run.get(run.len().saturating_sub(few)..)?))
+}
+
+// Bytes as text: characters, or `\x` and two digits.
 #[derive(Clone, Copy)]
-pub enum Style {
-    Escaped,
-    Hex,
-}
+pub struct Escaped<'a>(pub &'a [u8]);
 
-pub fn text(rt: &impl Print, run: &[u8]) -> io::Result<()> {
-    rt.write_all(run)
-}
-
-pub fn number(rt: &impl Print, n: u64) -> io::Result<()> {
-    rt.print(n)
-}
-
-fn small(rt: &impl Print, n: u32) -> io::Result<()> {
-    number(rt, n as u64)
-}
-
-// A pattern of 64 bits, as sixteen digits.
-pub fn pattern(rt: &impl Print, bits: u64) -> io::Result<()> {
-    print!(rt; "{bits:016x}")
-}
-
-fn hex_pair(rt: &impl Print, b: u8) -> io::Result<()> {
-    print!(rt; "{b:02x}")
-}
-
-fn is_printable(b: u8) -> bool {
-    if b < 32 {
-        return false;
+impl fmt::Display for Escaped<'_> {
+    fn fmt<W: fmt::Write>(&self, f: &mut Formatter<W>) -> fmt::Result {
+        for b in self.0 {
+            match b {
+                b' '..=b'~' => f.write_char(char::from(*b))?,
+                _ => write!(f, "\\x{b:02x}")?,
+            }
+        }
+        Ok(())
     }
-    b < 127
 }
 
-fn escaped(rt: &impl Print, b: u8) -> io::Result<()> {
-    if is_printable(b) {
-        return text(rt, &[b]);
-    }
-    text(rt, b"\\x")?;
-    hex_pair(rt, b)
-}
+// The same; of a long run the first and the last eight bytes.
+#[derive(Clone, Copy)]
+pub struct Short<'a>(pub &'a [u8]);
 
-fn styled(rt: &impl Print, b: u8, style: Style) -> io::Result<()> {
-    match style {
-        Style::Escaped => escaped(rt, b),
-        Style::Hex => {
-            text(rt, b" ")?;
-            hex_pair(rt, b)
+impl fmt::Display for Short<'_> {
+    fn fmt<W: fmt::Write>(&self, f: &mut Formatter<W>) -> fmt::Result {
+        match ends(self.0, 48, 8) {
+            Some((first, last)) => write!(f, "{} .. {}", Escaped(first), Escaped(last)),
+            None => write!(f, "{}", Escaped(self.0)),
         }
     }
 }
 
-pub fn bytes(rt: &impl Print, run: &[u8], style: Style) -> io::Result<()> {
-    let mut i = 0;
-    while i < run.len() {
-        styled(rt, run[i], style)?;
-        i += 1;
-    }
-    Ok(())
-}
+// Bytes as two digits each, after a space.
+#[derive(Clone, Copy)]
+struct Digits<'a>(&'a [u8]);
 
-fn gap(rt: &impl Print, style: Style) -> io::Result<()> {
-    match style {
-        Style::Escaped => text(rt, b" .. "),
-        Style::Hex => text(rt, b" .."),
+impl fmt::Display for Digits<'_> {
+    fn fmt<W: fmt::Write>(&self, f: &mut Formatter<W>) -> fmt::Result {
+        for b in self.0 {
+            write!(f, " {b:02x}")?;
+        }
+        Ok(())
     }
 }
 
-// A run of bytes; of a long one its first and last eight.
-pub fn shortened(rt: &impl Print, run: &[u8], style: Style) -> io::Result<()> {
-    if run.len() <= 48 {
-        return bytes(rt, run, style);
+// The same; of a long run the first and the last eight bytes.
+#[derive(Clone, Copy)]
+pub struct Hex<'a>(pub &'a [u8]);
+
+impl fmt::Display for Hex<'_> {
+    fn fmt<W: fmt::Write>(&self, f: &mut Formatter<W>) -> fmt::Result {
+        match ends(self.0, 48, 8) {
+            Some((first, last)) => write!(f, "{} ..{}", Digits(first), Digits(last)),
+            None => write!(f, "{}", Digits(self.0)),
+        }
     }
-    let last = run.len() - 8;
-    bytes(rt, &run[0..8], style)?;
-    gap(rt, style)?;
-    bytes(rt, &run[last..], style)
-}
-
-// The bytes that an accepted call wrote at the front of a run.
-pub fn result(rt: &impl Print, number: u32, length: usize, run: &[u8]) -> io::Result<()> {
-    if number != 0 {
-        return Ok(());
-    }
-    if run.len() < length {
-        return Ok(());
-    }
-    text(rt, b":")?;
-    shortened(rt, &run[0..length], Style::Hex)
-}
-
-// A line of its own.
-pub fn heading(rt: &impl Print, title: &[u8]) -> io::Result<()> {
-    text(rt, title)?;
-    text(rt, b"\n")
-}
-
-// What is called, and its layout or template in quotes.
-pub fn call(rt: &impl Print, name: &[u8], layout: &[u8]) -> io::Result<()> {
-    text(rt, name)?;
-    text(rt, b" '")?;
-    shortened(rt, layout, Style::Escaped)?;
-    text(rt, b"'")
-}
-
-// What is lent besides, if there is anything to say of it.
-pub fn lent(rt: &impl Print, told: &[u8]) -> io::Result<()> {
-    if told.len() == 0 {
-        return Ok(());
-    }
-    text(rt, b" ")?;
-    bytes(rt, told, Style::Escaped)
-}
-
-// The three numbers of an answer.
-pub fn answer(rt: &impl Print, n: u32, first: u32, second: u32) -> io::Result<()> {
-    text(rt, b" -> ")?;
-    small(rt, n)?;
-    spaced(rt, first)?;
-    spaced(rt, second)
-}
-
-// The three numbers of a reading's answer, and its steps.
-pub fn read_answer(rt: &impl Print, r: ReadAnswer) -> io::Result<()> {
-    let a = r.answer;
-    answer(rt, a.number, a.first, a.second)?;
-    spaced(rt, r.steps)
-}
-
-fn spaced(rt: &impl Print, n: u32) -> io::Result<()> {
-    text(rt, b" ")?;
-    small(rt, n)
 }
 
 // Numbers, a space before each.
-pub fn numbers(rt: &impl Print, run: &[u32]) -> io::Result<()> {
-    let mut i = 0;
-    while i < run.len() {
-        spaced(rt, run[i])?;
-        i += 1;
+#[derive(Clone, Copy)]
+pub struct Numbers<'a>(pub &'a [u32]);
+
+impl fmt::Display for Numbers<'_> {
+    fn fmt<W: fmt::Write>(&self, f: &mut Formatter<W>) -> fmt::Result {
+        for n in self.0 {
+            write!(f, " {n}")?;
+        }
+        Ok(())
     }
-    Ok(())
+}
+
+// What is lent besides, after a space, if there is anything to say of it.
+#[derive(Clone, Copy)]
+pub struct Lent<'a>(pub &'a [u8]);
+
+impl fmt::Display for Lent<'_> {
+    fn fmt<W: fmt::Write>(&self, f: &mut Formatter<W>) -> fmt::Result {
+        if self.0.is_empty() {
+            return Ok(());
+        }
+        write!(f, " {}", Escaped(self.0))
+    }
+}
+
+// The three numbers of an answer.
+#[derive(Clone, Copy)]
+pub struct Answered(pub Answer);
+
+impl fmt::Display for Answered {
+    fn fmt<W: fmt::Write>(&self, f: &mut Formatter<W>) -> fmt::Result {
+        let a = self.0;
+        write!(f, " -> {} {} {}", a.number, a.first, a.second)
+    }
+}
+
+// The three numbers of a reading's answer, and its steps.
+#[derive(Clone, Copy)]
+pub struct AnsweredRead(pub ReadAnswer);
+
+impl fmt::Display for AnsweredRead {
+    fn fmt<W: fmt::Write>(&self, f: &mut Formatter<W>) -> fmt::Result {
+        let r = self.0;
+        write!(f, "{} {}", Answered(r.answer), r.steps)
+    }
+}
+
+// The bytes that an accepted call wrote at the front of a run: as many as the first number of its answer says.
+#[derive(Clone, Copy)]
+pub struct Stored<'a>(pub Answer, pub &'a [u8]);
+
+impl fmt::Display for Stored<'_> {
+    fn fmt<W: fmt::Write>(&self, f: &mut Formatter<W>) -> fmt::Result {
+        let Stored(answer, run) = *self;
+        match run.get(..answer.first as usize) {
+            Some(bytes) if answer.number == 0 => write!(f, ":{}", Hex(bytes)),
+            _ => Ok(()),
+        }
+    }
 }

@@ -1,151 +1,154 @@
 // The values that slots show: strings in quotes, integers in braces, reals by their patterns in angle brackets, `not
 // set` for a slot that is not set.
-use super::print;
-use super::print::Style;
-use byte_runs::big_endian;
+use super::print::{Hex, Numbers, Short, ends};
+use record::slots::{REAL, SIGNED, STRING, UNSET};
 use record::{INTEGER_SIZE, SLOT_WIDTH};
-use std::io;
+use std::fmt;
+use std::fmt::Formatter;
 
-// Of a table longer than this, only a few slots at either end are shown.
-const LONG: usize = 8 * SLOT_WIDTH;
-
-const FEW: usize = 2 * SLOT_WIDTH;
-
-fn part(run: &[u8], start: usize, n: usize) -> &[u8] {
-    if run.len() < start {
-        return run;
-    }
-    if run.len() - start < n {
-        return run;
-    }
-    let end = start + n;
-    &run[start..end]
+// Integers or reals, by the kind of their slot, with a space between two.
+#[derive(Clone, Copy)]
+struct Items<'a> {
+    kind: u32,
+    items: &'a [[u8; INTEGER_SIZE]],
 }
 
-fn integer(rt: &impl Print, n: u64, kind: u32) -> io::Result<()> {
-    if kind == record::slots::REAL {
-        return print::pattern(rt, n);
+impl fmt::Display for Items<'_> {
+    fn fmt<W: fmt::Write>(&self, f: &mut Formatter<W>) -> fmt::Result {
+        for (i, item) in self.items.iter().enumerate() {
+            if i > 0 {
+                f.write_str(" ")?;
+            }
+            match self.kind {
+                REAL => write!(f, "{:016x}", u64::from_be_bytes(*item))?,
+                SIGNED => write!(f, "{}", i64::from_be_bytes(*item))?,
+                _ => write!(f, "{}", u64::from_be_bytes(*item))?,
+            }
+        }
+        Ok(())
     }
-    if kind == record::slots::SIGNED {
-        if 9223372036854775807 < n {
-            print::text(rt, b"-")?;
-            return print::number(rt, 18446744073709551615 - n + 1);
+}
+
+// The same; of many the first two and the last two.
+#[derive(Clone, Copy)]
+struct Few<'a>(Items<'a>);
+
+impl fmt::Display for Few<'_> {
+    fn fmt<W: fmt::Write>(&self, f: &mut Formatter<W>) -> fmt::Result {
+        let Items { kind, items } = self.0;
+        match ends(items, 16, 2) {
+            Some((first, last)) => {
+                write!(
+                    f,
+                    "{} .. {}",
+                    Items { kind, items: first },
+                    Items { kind, items: last }
+                )
+            }
+            None => write!(f, "{}", self.0),
         }
     }
-    print::number(rt, n)
 }
 
-// What stands before an item: nothing before the first, else a space, after a comma or not.
-fn between(rt: &impl Print, i: usize, comma: bool) -> io::Result<()> {
-    if i == 0 {
-        return Ok(());
-    }
-    if comma {
-        print::text(rt, b",")?;
-    }
-    print::text(rt, b" ")
+// What a slot shows in an area.
+#[derive(Clone, Copy)]
+struct Value<'a> {
+    slot: [u32; SLOT_WIDTH],
+    area: &'a [u8],
 }
 
-fn integers(rt: &impl Print, run: &[u8], kind: u32) -> io::Result<()> {
-    let n = run.len() / INTEGER_SIZE;
-    let mut i = 0;
-    while i < n {
-        between(rt, i, false)?;
-        integer(
-            rt,
-            big_endian::number_at(run, i * INTEGER_SIZE, INTEGER_SIZE),
-            kind,
-        )?;
-        i += 1;
-    }
-    Ok(())
-}
-
-// The integers in a run of bytes; of a long run the first two and the last two.
-fn few_integers(rt: &impl Print, run: &[u8], kind: u32) -> io::Result<()> {
-    if run.len() <= 128 {
-        return integers(rt, run, kind);
-    }
-    let last = run.len() - 16;
-    integers(rt, &run[0..16], kind)?;
-    print::text(rt, b" .. ")?;
-    integers(rt, &run[last..], kind)
-}
-
-fn list(rt: &impl Print, run: &[u8], kind: u32) -> io::Result<()> {
-    if kind == record::slots::REAL {
-        print::text(rt, b"<")?;
-        few_integers(rt, run, kind)?;
-        return print::text(rt, b">");
-    }
-    print::text(rt, b"{")?;
-    few_integers(rt, run, kind)?;
-    print::text(rt, b"}")
-}
-
-fn string(rt: &impl Print, run: &[u8]) -> io::Result<()> {
-    print::text(rt, b"\"")?;
-    print::shortened(rt, run, Style::Escaped)?;
-    print::text(rt, b"\"")
-}
-
-fn value(rt: &impl Print, kind: u32, start: u32, length: u32, area: &[u8]) -> io::Result<()> {
-    match kind {
-        record::slots::UNSET => print::text(rt, b"not set"),
-        record::slots::STRING => string(rt, part(area, start as usize, length as usize)),
-        _ => list(
-            rt,
-            part(area, start as usize, length as usize * INTEGER_SIZE),
-            kind,
-        ),
+impl fmt::Display for Value<'_> {
+    fn fmt<W: fmt::Write>(&self, f: &mut Formatter<W>) -> fmt::Result {
+        let [kind, start, length, _] = self.slot;
+        let rest = self.area.get(start as usize..).unwrap_or(self.area);
+        let bytes = rest.get(..length as usize).unwrap_or(rest);
+        let (items, _) = rest.as_chunks::<INTEGER_SIZE>();
+        let items = items.get(..length as usize).unwrap_or(items);
+        let few = Few(Items { kind, items });
+        match kind {
+            UNSET => f.write_str("not set"),
+            STRING => write!(f, "\"{}\"", Short(bytes)),
+            REAL => write!(f, "<{few}>"),
+            _ => write!(f, "{{{few}}}"),
+        }
     }
 }
 
-// The value of the slot whose numbers start at k, if there is one.
-fn slot(rt: &impl Print, slots: &[u32], k: usize, area: &[u8]) -> io::Result<()> {
-    if slots.len() < SLOT_WIDTH {
-        return Ok(());
-    }
-    if slots.len() - SLOT_WIDTH < k {
-        return Ok(());
-    }
-    value(rt, slots[k], slots[k + 1], slots[k + 2], area)
+// The values of slots over an area, with a comma between two.
+#[derive(Clone, Copy)]
+struct Values<'a> {
+    slots: &'a [[u32; SLOT_WIDTH]],
+    area: &'a [u8],
 }
 
-fn all(rt: &impl Print, slots: &[u32], area: &[u8]) -> io::Result<()> {
-    let mut k = 0;
-    while k < slots.len() {
-        between(rt, k, true)?;
-        slot(rt, slots, k, area)?;
-        k += SLOT_WIDTH;
+impl fmt::Display for Values<'_> {
+    fn fmt<W: fmt::Write>(&self, f: &mut Formatter<W>) -> fmt::Result {
+        for (i, slot) in self.slots.iter().enumerate() {
+            if i > 0 {
+                f.write_str(", ")?;
+            }
+            write!(
+                f,
+                "{}",
+                Value {
+                    slot: *slot,
+                    area: self.area
+                }
+            )?;
+        }
+        Ok(())
     }
-    Ok(())
 }
 
 // The values of a table; of a long one the first two and the last two.
-pub fn table(rt: &impl Print, slots: &[u32], area: &[u8]) -> io::Result<()> {
-    if slots.len() <= LONG {
-        return all(rt, slots, area);
-    }
-    let last = slots.len() - FEW;
-    all(rt, &slots[0..FEW], area)?;
-    print::text(rt, b", .. ")?;
-    all(rt, &slots[last..], area)
+#[derive(Clone, Copy)]
+pub struct Table<'a> {
+    pub slots: &'a [u32],
+    pub area: &'a [u8],
 }
 
-// The values that an accepted call left.
-pub fn result(rt: &impl Print, number: u32, slots: &[u32], area: &[u8]) -> io::Result<()> {
-    if number != 0 {
-        return Ok(());
+impl fmt::Display for Table<'_> {
+    fn fmt<W: fmt::Write>(&self, f: &mut Formatter<W>) -> fmt::Result {
+        let area = self.area;
+        let (slots, _) = self.slots.as_chunks::<SLOT_WIDTH>();
+        match ends(slots, 8, 2) {
+            Some((first, last)) => {
+                write!(
+                    f,
+                    "{}, .. {}",
+                    Values { slots: first, area },
+                    Values { slots: last, area }
+                )
+            }
+            None => write!(f, "{}", Values { slots, area }),
+        }
     }
-    print::text(rt, b": ")?;
-    table(rt, slots, area)
+}
+
+// The values that a call left whose answer begins with a number: an accepted one, with 0, left some.
+#[derive(Clone, Copy)]
+pub struct Left<'a>(pub u32, pub Table<'a>);
+
+impl fmt::Display for Left<'_> {
+    fn fmt<W: fmt::Write>(&self, f: &mut Formatter<W>) -> fmt::Result {
+        match self.0 {
+            0 => write!(f, ": {}", self.1),
+            _ => Ok(()),
+        }
+    }
 }
 
 // Every number and every byte of a table.
-pub fn whole(rt: &impl Print, slots: &[u32], area: &[u8]) -> io::Result<()> {
-    print::text(rt, b"; slots")?;
-    print::numbers(rt, slots)?;
-    print::text(rt, b"; area")?;
-    print::bytes(rt, area, Style::Hex)
+#[derive(Clone, Copy)]
+pub struct Whole<'a>(pub Table<'a>);
+
+impl fmt::Display for Whole<'_> {
+    fn fmt<W: fmt::Write>(&self, f: &mut Formatter<W>) -> fmt::Result {
+        write!(
+            f,
+            "; slots{}; area{}",
+            Numbers(self.0.slots),
+            Hex(self.0.area)
+        )
+    }
 }

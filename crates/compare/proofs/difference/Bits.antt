@@ -1,7 +1,7 @@
 -- Laws of the bits that differ: of two bytes they are the ones of the exclusive or, and of two runs the sum over the
 -- bytes.
 use Rattle.std.specs.Prelude.{if◌then◌else◌}
-use Prim.Native.Nat.{ℕ, zero, suc, ◌+◌, ◌*◌, ◌/◌, ◌%◌, ◌^◌, ◌≤◌, ◌<◌, min}
+use Prim.Native.Nat.{ℕ, zero, suc, ◌+◌, ◌-◌, ◌*◌, ◌/◌, ◌%◌, ◌^◌, ◌≤◌, ◌<◌, min}
 use native.Mathlib.Nat.{pow-suc, add_assoc, zero-add}
 use native.Mathlib.Omega.{arith}
 use mathlib.Core.Path.{◌≡◌, refl, sym, ap, ap₂, ◌∙◌}
@@ -11,12 +11,12 @@ use lib.Arith.{lt-one}
 use lib.Bits.{bit_xor, differ, xor_step}
 use lib.Count.{ones, ones_step}
 use lib.Dec.{eqb}
-use lib.ListN.{length, take, get_or}
+use lib.ListN.{length, take, get_or, drop, length-drop, take-append-drop}
 use Rattle.record.specs.Bytes.{part, join, digits}
 use Rattle.record.proofs.Bytes.{length_digits}
-use Rattle.record.proofs.Stores.{length_part}
 use Rattle.compare.specs.Difference.{differing, bits_of, differing_bits}
-use Rattle.compare.proofs.difference.Runs.{part-more, part-add}
+use lib.Seq.{take-add, take_all}
+use Rattle.compare.proofs.difference.Runs.{front-more, fronts-long}
 
 -- ---- two bytes
 
@@ -126,31 +126,33 @@ bits-common (suc m) (x ∷ xs) (y ∷ ys) h =
 
 -- ---- what the sum keeps: it is that of the first i bytes
 
-pub record Counted (f : List ℕ) (at : ℕ) (s : List ℕ) (to sum i : ℕ) : Type 0 where
-  pub is : sum ≡ differing_bits (part f at i) (part s to i)
+pub record Counted (xs ys : List ℕ) (sum i : ℕ) : Type 0 where
+  pub is : sum ≡ differing_bits (take i xs) (take i ys)
   pub small : sum ≤ 8 * i
 
-pub counted_none : (f : List ℕ) (at : ℕ) (s : List ℕ) (to : ℕ) → Counted f at s to 0 0
-counted_none f at s to = record { is = sym (none-bits []); small = omega arith }
+pub counted_none : (xs ys : List ℕ) → Counted xs ys 0 0
+counted_none xs ys = record { is = sym (none-bits []); small = omega arith }
 
-pub counted-more : {f : List ℕ} {at : ℕ} {s : List ℕ} {to sum i r : ℕ} → Counted f at s to sum i → at + i < length f → to + i < length s
-    → r ≡ differing (digits 2 8 (get_or f (at + i) 0)) (digits 2 8 (get_or s (to + i) 0)) → Counted f at s to (sum + r) (i + 1)
-counted-more {f} {at} {s} {to} {sum} {i} {r} c h k e =
-    let l : length (part f at i) ≡ length (part s to i) = length_part i at f (omega arith) ∙ sym (length_part i to s (omega arith)) in
-    record {
-      is = rw (part-more f at i h, part-more s to i k, bits-more (part f at i) (part s to i) (get_or f (at + i) 0) (get_or s (to + i) 0) l, ← c.is, ← e);
-      small = omega (arith, c.small, byte-few (get_or f (at + i) 0) (get_or s (to + i) 0) e);
-    }
+module _ {xs ys : List ℕ} {sum i r : ℕ} (e : length xs ≡ length ys) (c : Counted xs ys sum i) where
+  pub counted-more : i < length xs → r ≡ differing (digits 2 8 (get_or xs i 0)) (digits 2 8 (get_or ys i 0)) → Counted xs ys (sum + r) (i + 1)
+  counted-more h q = record {
+    is = rw (front-more xs i h, front-more ys i (omega arith), bits-more (take i xs) (take i ys) (get_or xs i 0) (get_or ys i 0) (fronts-long i xs ys e), ← c.is, ← q);
+    small = omega (arith, c.small, byte-few (get_or xs i 0) (get_or ys i 0) q);
+  }
 
--- a block more
-pub counted-block : {f : List ℕ} {at : ℕ} {s : List ℕ} {to sum i r : ℕ} (m : ℕ) → Counted f at s to sum i → at + (i + m) ≤ length f → to + (i + m) ≤ length s
-    → r ≡ differing_bits (part f (at + i) m) (part s (to + i) m) → r ≤ 8 * m → Counted f at s to (sum + r) (i + m)
-counted-block {f} {at} {s} {to} {sum} {i} {r} m c h k e few =
-    let l : length (part f at i) ≡ length (part s to i) = length_part i at f (omega arith) ∙ sym (length_part i to s (omega arith)) in
-    record {
-      is = rw (part-add f at i m, part-add s to i m, bits-append (part f at i) (part s to i) (part f (at + i) m) (part s (to + i) m) l, ← c.is, ← e);
-      small = omega (arith, c.small);
-    }
+  -- a block more
+  pub counted-block : (m : ℕ) → r ≡ differing_bits (part xs i m) (part ys i m) → r ≤ 8 * m → Counted xs ys (sum + r) (i + m)
+  counted-block m q few = record {
+    is = rw (take-add i m xs, take-add i m ys, bits-append (take i xs) (take i ys) (part xs i m) (part ys i m) (fronts-long i xs ys e), ← c.is, ← q);
+    small = omega (arith, c.small);
+  }
 
-pub counted-done : {f : List ℕ} {at : ℕ} {s : List ℕ} {to sum i n : ℕ} → Counted f at s to sum i → i ≤ n → n ≤ i → sum ≡ differing_bits (part f at n) (part s to n)
-counted-done {i} {n} c h k = let e : n ≡ i = omega arith in rw e c.is
+  -- the rest
+  pub counted-last : r ≡ differing_bits (part xs i (length xs - i)) (part ys i (length ys - i)) → sum + r ≡ differing_bits xs ys
+  counted-last q =
+      let all : (l : List ℕ) → part l i (length l - i) ≡ drop i l = λ l. take_all (length l - i) (drop i l) (simp length-drop (omega arith)) in
+      rw (c.is, q, all xs, all ys)
+      (sym (bits-append (take i xs) (take i ys) (drop i xs) (drop i ys) (fronts-long i xs ys e)) ∙ ap₂ differing_bits (take-append-drop i xs) (take-append-drop i ys))
+
+pub counted-done : {xs ys : List ℕ} {sum i : ℕ} → Counted xs ys sum i → length xs ≡ length ys → length xs ≤ i → sum ≡ differing_bits xs ys
+counted-done {xs} {ys} {i = i} c e h = c.is ∙ ap₂ differing_bits (take_all i xs h) (take_all i ys (omega arith))

@@ -1,6 +1,6 @@
 -- Laws of two runs of bytes: where they part, and whether they are the same.
 use Rattle.std.specs.Prelude.{if◌then◌else◌}
-use Prim.Native.Nat.{ℕ, zero, suc, ◌+◌, ◌-◌, ◌≤◌, ◌<◌, min}
+use Prim.Native.Nat.{ℕ, zero, suc, ◌+◌, ◌≤◌, ◌<◌, min}
 use native.Mathlib.Nat.{zero-add}
 use native.Mathlib.Numerals.{add-one}
 use native.Mathlib.Omega.{arith}
@@ -9,32 +9,21 @@ use mathlib.Core.Bool.{Bool, true, false, ◌&&◌, true≢false}
 use mathlib.Core.List.{List, [], ◌∷◌, ◌++◌}
 use borrow.Author.Tests.{eq-eqb, ne_eqb}
 use lib.Dec.{eqb}
-use lib.ListN.{length, take, drop, get_or, length-drop}
-use lib.Seq.{drop-cons, take-add, take-suc, drop-drop, get_or-drop}
+use lib.ListN.{length, take, drop, get_or, length-take, take-append-drop, drop_of_length-le}
+use lib.Seq.{drop-cons, take-add, take-suc, length-take-le}
 use Rattle.record.specs.Bytes.{part}
 use Rattle.record.proofs.Bytes.{and-true}
-use Rattle.record.proofs.Stores.{length_part}
 use Rattle.compare.specs.Difference.{same_bytes, first_difference}
 
--- ---- parts of a run
+-- ---- the front of a run
 
-pub part-cons : (l : List ℕ) (at n : ℕ) → at < length l → part l at (suc n) ≡ get_or l at 0 ∷ part l (suc at) n
-part-cons l at n h = rw (drop-cons l at 0 h)
+pub front-more : (l : List ℕ) (n : ℕ) → n < length l → take (n + 1) l ≡ take n l ++ (get_or l n 0 ∷ [])
+front-more l n h = rw (add-one, take-suc l n 0 h)
 
-pub part-more : (l : List ℕ) (at n : ℕ) → at + n < length l → part l at (n + 1) ≡ part l at n ++ (get_or l (at + n) 0 ∷ [])
-part-more l at n h =
-    let k : n < length (drop at l) = rw length-drop (omega arith) in
-    rw (add-one, take-suc (drop at l) n 0 k, get_or-drop)
-
-pub part-add : (l : List ℕ) (at n m : ℕ) → part l at (n + m) ≡ part l at n ++ part l (at + n) m
-part-add l at n m = take-add n m (drop at l) ∙ ap (λ (r : List ℕ). part l at n ++ take m r) (drop-drop n at l)
+pub fronts-long : (n : ℕ) (xs ys : List ℕ) → length xs ≡ length ys → length (take n xs) ≡ length (take n ys)
+fronts-long n xs ys e = simp length-take (omega arith)
 
 -- ---- where they part
-
-pub difference-none : (xs : List ℕ) → first_difference xs [] ≡ 0
-unfolding first_difference
-difference-none [] = refl
-difference-none (x ∷ xs) = refl
 
 pub difference-common : (m : ℕ) (xs ys : List ℕ) → min (length xs) (length ys) ≤ m → first_difference (take m xs) (take m ys) ≡ first_difference xs ys
 unfolding first_difference
@@ -53,38 +42,29 @@ difference-common (suc m) (x ∷ xs) (y ∷ ys) h =
     let l : min (length xs) (length ys) ≤ m = omega arith in
     ap (λ (n : ℕ). if eqb x y then suc n else 0) (difference-common m xs ys l)
 
--- what the search keeps: the first i of n bytes are the same
-pub record Alike (f : List ℕ) (at : ℕ) (s : List ℕ) (to n i : ℕ) : Type 0 where
-  pub within : i ≤ n
-  pub same : first_difference (part f at n) (part s to n) ≡ i + first_difference (part f (at + i) (n - i)) (part s (to + i) (n - i))
+-- what the search keeps: the first i bytes are the same
+abbrev pub Alike : List ℕ → List ℕ → ℕ → Type 0
+Alike xs ys i = first_difference xs ys ≡ i + first_difference (drop i xs) (drop i ys)
 
-module _ {f : List ℕ} {at : ℕ} {s : List ℕ} {to n i : ℕ} (a : Alike f at s to n i) where
-  pub alike-done : n ≤ i → i ≡ first_difference (part f at n) (part s to n)
+module _ (xs ys : List ℕ) (i : ℕ) (a : Alike xs ys i) where
+  pub alike-done : length xs ≤ i → i ≡ first_difference xs ys
   unfolding first_difference
-  alike-done h = let z : n - i ≡ 0 = omega arith in sym (a.same ∙ rw z (omega arith))
+  alike-done h = let none : drop i xs ≡ [] = drop_of_length-le xs {i = i} h in sym (a ∙ rw none (omega arith))
 
-  module _ (h : i < n) (k : at + i < length f) (l : to + i < length s) where
-    step : first_difference (part f (at + i) (n - i)) (part s (to + i) (n - i)) ≡ (if eqb (get_or f (at + i) 0)
-        (get_or s (to + i) 0) then suc (first_difference (part f (suc (at + i)) (n - (i + 1))) (part s (suc (to + i))
-        (n - (i + 1)))) else 0)
+  module _ (h : i < length xs) (k : i < length ys) where
+    step : first_difference (drop i xs) (drop i ys) ≡ (if eqb (get_or xs i 0) (get_or ys i 0) then suc (first_difference (drop (suc i) xs) (drop (suc i) ys)) else 0)
     unfolding first_difference
-    step =
-        let m : n - i ≡ suc (n - (i + 1)) = omega arith in
-        rw (m, part-cons f (at + i) (n - (i + 1)) k, part-cons s (to + i) (n - (i + 1)) l)
+    step = rw (drop-cons xs i 0 h, drop-cons ys i 0 k)
 
-    pub alike-more : get_or f (at + i) 0 ≡ get_or s (to + i) 0 → Alike f at s to n (i + 1)
+    pub alike-more : get_or xs i 0 ≡ get_or ys i 0 → Alike xs ys (i + 1)
     alike-more e =
-        let p : at + (i + 1) ≡ suc (at + i) = omega arith in
-        let q : to + (i + 1) ≡ suc (to + i) = omega arith in
-        let t : first_difference (part f (at + i) (n - i)) (part s (to + i) (n - i)) ≡ suc
-        (first_difference (part f (suc (at + i)) (n - (i + 1))) (part s (suc (to + i)) (n - (i + 1)))) = step
-        ∙ rw (eq-eqb _ _ e) in
-        record { within = omega arith; same = rw (p, q) (omega (arith, a.same, t)) }
+        let t : first_difference (drop i xs) (drop i ys) ≡ suc (first_difference (drop (suc i) xs) (drop (suc i) ys)) = step ∙ rw (eq-eqb _ _ e) in
+        rw add-one (omega (arith, a, t))
 
-    pub alike-parts : (get_or f (at + i) 0 ≡ get_or s (to + i) 0 → ⊥) → i ≡ first_difference (part f at n) (part s to n)
+    pub alike-parts : (get_or xs i 0 ≡ get_or ys i 0 → ⊥) → i ≡ first_difference xs ys
     alike-parts e =
-        let t : first_difference (part f (at + i) (n - i)) (part s (to + i) (n - i)) ≡ 0 = step ∙ rw (ne_eqb _ _ e) in
-        omega (arith, a.same, t)
+        let t : first_difference (drop i xs) (drop i ys) ≡ 0 = step ∙ rw (ne_eqb _ _ e) in
+        omega (arith, a, t)
 
 -- the place lies in both
 pub difference-few : (xs ys : List ℕ) → first_difference xs ys ≤ length xs
@@ -96,9 +76,6 @@ difference-few (x ∷ xs) (y ∷ ys) = step (eqb x y) (difference-few xs ys)
     step : (t : Bool) → first_difference xs ys ≤ length xs → (if t then suc (first_difference xs ys) else 0) ≤ suc (length xs)
     step true h = omega arith
     step false h = omega arith
-
-pub place-small : (f : List ℕ) (at : ℕ) (s : List ℕ) (to n : ℕ) {r : ℕ} → at + n ≤ length f → r ≡ first_difference (part f at n) (part s to n) → r ≤ n
-place-small f at s to n h e = omega (arith, difference-few (part f at n) (part s to n), length_part n at f h)
 
 -- ---- whether they are the same
 
@@ -125,18 +102,16 @@ same_more xs ys x y e = same-append xs ys (x ∷ []) (y ∷ []) e ∙ ap (λ (b 
     and-end true = refl
     and-end false = refl
 
-pub part_same : (f : List ℕ) (at : ℕ) (s : List ℕ) (to i : ℕ) → at + i < length f → to + i < length s
-    → same_bytes (part f at (i + 1)) (part s to (i + 1)) ≡ same_bytes (part f at i) (part s to i) && eqb (get_or f (at + i) 0) (get_or s (to + i) 0)
-part_same f at s to i h k =
-    let l : length (part f at i) ≡ length (part s to i) = length_part i at f (omega arith) ∙ sym (length_part i to s (omega arith)) in
-    rw (part-more f at i h, part-more s to i k) (same_more (part f at i) (part s to i) (get_or f (at + i) 0) (get_or s (to + i) 0) l)
+pub front_same : (xs ys : List ℕ) (i : ℕ) → length xs ≡ length ys → i < length xs
+    → same_bytes (take (i + 1) xs) (take (i + 1) ys) ≡ same_bytes (take i xs) (take i ys) && eqb (get_or xs i 0) (get_or ys i 0)
+front_same xs ys i e h =
+    rw (front-more xs i h, front-more ys i (omega arith)) (same_more (take i xs) (take i ys) (get_or xs i 0) (get_or ys i 0) (fronts-long i xs ys e))
 
 -- a block more
-pub block_same : (f : List ℕ) (at : ℕ) (s : List ℕ) (to i m : ℕ) → at + (i + m) ≤ length f → to + (i + m) ≤ length s
-    → same_bytes (part f at i) (part s to i) ≡ true → same_bytes (part f (at + i) m) (part s (to + i) m) ≡ true → same_bytes (part f at (i + m)) (part s to (i + m)) ≡ true
-block_same f at s to i m h k p q =
-    let l : length (part f at i) ≡ length (part s to i) = length_part i at f (omega arith) ∙ sym (length_part i to s (omega arith)) in
-    rw (part-add f at i m, part-add s to i m, same-append (part f at i) (part s to i) (part f (at + i) m) (part s (to + i) m) l, p, q)
+pub block_same : (xs ys : List ℕ) (i m : ℕ) → length xs ≡ length ys → same_bytes (take i xs) (take i ys) ≡ true → same_bytes (part xs i m) (part ys i m) ≡ true
+    → same_bytes (take (i + m) xs) (take (i + m) ys) ≡ true
+block_same xs ys i m e p q =
+    rw (take-add i m xs, take-add i m ys, same-append (take i xs) (take i ys) (part xs i m) (part ys i m) (fronts-long i xs ys e), p, q)
 
 -- two runs part no sooner than after what is the same at their fronts
 difference-past : (xs ys us vs : List ℕ) → same_bytes xs ys ≡ true → first_difference (xs ++ us) (ys ++ vs) ≡ length xs + first_difference us vs
@@ -149,15 +124,10 @@ difference-past (x ∷ xs) (y ∷ ys) us vs h =
     let e : first_difference (xs ++ us) (ys ++ vs) ≡ length xs + first_difference us vs = difference-past xs ys us vs p.1 in
     rw p.0 (omega (arith, e))
 
-pub alike_from : (f : List ℕ) (at : ℕ) (s : List ℕ) (to n i : ℕ) → i ≤ n → at + n ≤ length f → to + n ≤ length s → same_bytes (part f at i) (part s to i) ≡ true → Alike f at s to n i
-alike_from f at s to n i w h k e =
-    let sum : n ≡ i + (n - i) = omega arith in
-    let p : part f at n ≡ part f at i ++ part f (at + i) (n - i) = ap (part f at) sum ∙ part-add f at i (n - i) in
-    let q : part s to n ≡ part s to i ++ part s (to + i) (n - i) = ap (part s to) sum ∙ part-add s to i (n - i) in
-    let d : first_difference (part f at i ++ part f (at + i) (n - i)) (part s to i ++ part s (to + i) (n - i)) ≡ length
-    (part f at i) + first_difference (part f (at + i) (n - i)) (part s (to + i) (n - i)) = difference-past
-    (part f at i) (part s to i) (part f (at + i) (n - i)) (part s (to + i) (n - i)) e in
-    record { within = w; same = ap₂ first_difference p q ∙ d ∙ ap (λ (m : ℕ). m + first_difference (part f (at + i) (n - i)) (part s (to + i) (n - i))) (length_part i at f (omega arith)) }
+pub alike_from : (xs ys : List ℕ) (i : ℕ) → i ≤ length xs → same_bytes (take i xs) (take i ys) ≡ true → Alike xs ys i
+alike_from xs ys i h e =
+    ap₂ first_difference (sym (take-append-drop i xs)) (sym (take-append-drop i ys)) ∙ difference-past (take i xs) (take i ys) (drop i xs) (drop i ys) e
+    ∙ ap (λ (m : ℕ). m + first_difference (drop i xs) (drop i ys)) (length-take-le i xs h)
 
 -- runs of different lengths are not the same
 pub same-long : (xs ys : List ℕ) → (length xs ≡ length ys → ⊥) → same_bytes xs ys ≡ false
@@ -170,6 +140,3 @@ same-long (x ∷ xs) (y ∷ ys) h = rw (same-long xs ys (λ e. h (ap suc e))) (a
     and_none : (b : Bool) → b && false ≡ false
     and_none true = refl
     and_none false = refl
-
-pub parts-long : (f : List ℕ) (at n : ℕ) (s : List ℕ) (to m : ℕ) → at + n ≤ length f → to + m ≤ length s → (n ≡ m → ⊥) → false ≡ same_bytes (part f at n) (part s to m)
-parts-long f at n s to m h k d = sym (same-long (part f at n) (part s to m) (λ e. d (sym (length_part n at f h) ∙ e ∙ length_part m to s k)))

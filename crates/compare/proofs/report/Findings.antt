@@ -3,12 +3,12 @@ use Rattle.std.specs.Prelude.{if◌then◌else◌}
 use Prim.Native.Nat.{ℕ, zero, suc, ◌+◌, ◌*◌, ◌≤◌, ◌<◌}
 use native.Mathlib.Nat.{not-suc-le-zero}
 use native.Mathlib.Omega.{arith}
-use mathlib.Core.Path.{◌≡◌, refl, ap, ◌∙◌}
+use mathlib.Core.Path.{◌≡◌, refl, sym, ap, ◌∙◌}
 use mathlib.Core.Bool.{Bool, true, false}
-use mathlib.Core.List.{List, [], ◌∷◌, ◌++◌, map}
-use lib.ListN.{length, take, drop, set, length-append, length-take, length-map, drop_of_length-le}
-use lib.Seq.{drop-drop, sets-eq}
-use Rattle.record.specs.Bytes.{part, store_at}
+use mathlib.Core.List.{List, [], ◌∷◌, ◌++◌, map, append_assoc}
+use lib.ListN.{length, take, drop, length-append, length-take, length-map, drop_of_length-le}
+use lib.Seq.{drop-drop}
+use Rattle.record.specs.Bytes.{store_at}
 use Rattle.record.specs.declared.slots.Slot.{Slot}
 use Rattle.record.specs.Table.{slot_width, slots_of}
 use Rattle.record.specs.Packing.{next_slot}
@@ -16,11 +16,13 @@ use Rattle.record.specs.Slots.{slot_at, value_end}
 use Rattle.record.proofs.SlotLaws.{next-slot}
 use Rattle.record.proofs.Stores.{runs, runs-first, Wrote, wrote-more}
 use Rattle.record.proofs.Tables.{length-slots}
-use Rattle.compare.specs.Difference.{report_width, same_bytes, first_difference, differing_bits, only_first, only_second, in_neither, both_same, both_differ, plain_finding, both_finding, finding_numbers}
-use Rattle.compare.specs.declared.difference.Finding.{Finding}
+use Rattle.compare.specs.Difference.{report_width, same_bytes, first_difference, differing_bits, both_same, both_differ, plain_finding, both_finding}
 use Rattle.compare.specs.Report.{finding_of, findings}
-use Rattle.compare.specs.inside.Shown.{span_at, bytes_shown, shown_bytes, Shows}
-use Rattle.compare.specs.declared.report.Span.{Span}
+use Rattle.compare.specs.inside.Shown.{size_of, bytes_shown, shown_bytes, Shows}
+use borrow.Rule.Slice.PartMut.{put_mid}
+
+put-part : (at k : ℕ) (d s : List ℕ) → length s ≡ k → put_mid at k d s ≡ store_at d at s
+put-part at k d s e = rw (drop-drop k at d, ← e) (sym (append_assoc (take at d) s (drop (at + length s) d)))
 
 -- ---- the findings one by one
 
@@ -60,19 +62,13 @@ unfolding findings
 length-findings zero xs ys = refl
 length-findings (suc n) xs ys = length-append (finding_of xs ys) (findings n (drop 1 xs) (drop 1 ys)) ∙ rw (length-finding xs ys, length-findings n (drop 1 xs) (drop 1 ys)) (omega arith)
 
--- three stores side by side are one run
-pub finding-stored : (d : List ℕ) (i x y z : ℕ) → report_width * i + report_width ≤ length d
-    → set (set (set d (report_width * i) x) (report_width * i + 1) y) (report_width * i + 2) z ≡ store_at d (report_width * i) (x ∷ y ∷ z ∷ [])
-finding-stored d i x y z h =
-    let second : report_width * i + 1 ≡ suc (report_width * i) = omega arith in
-    let third : report_width * i + 2 ≡ suc (suc (report_width * i)) = omega arith in
-    rw (second, third) (sets-eq (x ∷ y ∷ z ∷ []) d (report_width * i) h)
-
 -- one finding more
-pub finding-more : {d₀ d d' : List ℕ} (xs ys : List (List ℕ)) {i : ℕ} (r : Finding) → Wrote d₀ 0 (finding_at xs ys) d i → report_width * i + report_width ≤ length d₀
-    → finding_numbers r ≡ finding_at xs ys i → d' ≡ store_at d (report_width * i) (finding_numbers r) → Wrote d₀ 0 (finding_at xs ys) d' (i + 1)
-finding-more {d} xs ys {i} r w h e q =
-    wrote-more {to = report_width * i} report_width (λ j. length-finding (drop j xs) (drop j ys)) w (omega arith) (omega arith) (q ∙ ap (λ (x : List ℕ). store_at d (report_width * i) x) e)
+pub finding-more : {d₀ d : List ℕ} (xs ys : List (List ℕ)) {i : ℕ} {numbers : List ℕ} (k : ℕ) → Wrote d₀ 0 (finding_at xs ys) d i → report_width * i + report_width ≤ length d₀
+    → numbers ≡ finding_at xs ys i → k ≡ 3 → Wrote d₀ 0 (finding_at xs ys) (put_mid (report_width * i) k d numbers) (i + 1)
+finding-more {d = d} xs ys {i} {numbers} k w h e q =
+    let long : length numbers ≡ k = ap length e ∙ length-finding (drop i xs) (drop i ys) ∙ sym q in
+    wrote-more {to = report_width * i} report_width (λ j. length-finding (drop j xs) (drop j ys)) w (omega arith) (omega arith)
+    (put-part (report_width * i) k d numbers long ∙ ap (λ (x : List ℕ). store_at d (report_width * i) x) e)
 
 -- ---- what the first n slots show from slot i on
 
@@ -85,7 +81,7 @@ from-here area (t ∷ ts) (suc n) zero h k = refl
 from-here area (t ∷ ts) (suc n) (suc i) h k = from-here area ts n i (omega arith) (omega arith)
 
 module _ (slots area : List ℕ) (n i : ℕ) where
-  shown-none : n ≤ i → drop i (shown_bytes slots area n) ≡ []
+  pub shown-none : n ≤ i → drop i (shown_bytes slots area n) ≡ []
   unfolding shown_bytes
   shown-none h =
       let l : length (map (bytes_shown area) (take n (slots_of slots))) ≤ i = rw (length-map, length-take) (omega arith) in
@@ -104,24 +100,7 @@ module _ (slots area : List ℕ) (n i : ℕ) where
     inside-at : value_end (slot_at slots i) ≤ length area
     inside-at = rw (← next-slot slots i lent) (h.values i k)
 
-pub inside : {slots area : List ℕ} {n i : ℕ} {a : Span} → a ≡ span_at slots i → Shows slots area n → i < n → a.start + a.size ≤ length area
-inside {slots} {area} {n} {i} e h k = rw e (inside-at slots area n i h k)
-
--- the finding of field i, by the tests on the way to it
-module _ (slots area : List ℕ) (n : ℕ) (slots' area' : List ℕ) (m i : ℕ) {r : List ℕ} where
-  pub finding-both : Shows slots area n → Shows slots' area' m → i < n → i < m → {a b : Span} → a ≡ span_at slots i → b ≡ span_at slots' i
-      → r ≡ both_finding (part area a.start a.size) (part area' b.start b.size) → r ≡ finding_at (shown_bytes slots area n) (shown_bytes slots' area' m) i
-  unfolding finding_of
-  finding-both h k p q s t e = e ∙ rw (s, t, shown-here slots area n i h p, shown-here slots' area' m i k q)
-
-  pub finding-first : Shows slots area n → i < n → m ≤ i → r ≡ plain_finding only_first → r ≡ finding_at (shown_bytes slots area n) (shown_bytes slots' area' m) i
-  unfolding finding_of
-  finding-first h p q e = e ∙ rw (shown-here slots area n i h p, shown-none slots' area' m i q)
-
-  pub finding-second : Shows slots' area' m → n ≤ i → i < m → r ≡ plain_finding only_second → r ≡ finding_at (shown_bytes slots area n) (shown_bytes slots' area' m) i
-  unfolding finding_of
-  finding-second k p q e = e ∙ rw (shown-none slots area n i p, shown-here slots' area' m i k q)
-
-  pub finding-neither : n ≤ i → m ≤ i → r ≡ plain_finding in_neither → r ≡ finding_at (shown_bytes slots area n) (shown_bytes slots' area' m) i
-  unfolding finding_of
-  finding-neither p q e = e ∙ rw (shown-none slots area n i p, shown-none slots' area' m i q)
+-- what is shown for field i, where its slot is set and where it is not
+module _ (slots area : List ℕ) (n i : ℕ) where
+  pub value-shown : Shows slots area n → i < n → {s : Slot} → s ≡ slot_at slots i → (s.start + size_of s ≤ length area) × (drop i (shown_bytes slots area n) ≡ bytes_shown area s ∷ drop (suc i) (shown_bytes slots area n))
+  value-shown h k e = rw e (inside-at slots area n i h k, shown-here slots area n i h k)

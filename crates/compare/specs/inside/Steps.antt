@@ -5,11 +5,10 @@ use Rattle.layout.specs.Layout.{max_layout, fields_of, slot_count}
 use Rattle.layout.specs.inside.Parsing.{decoded}
 use Rattle.reader.specs.inside.Sizes.{read_lent_fits}
 
--- the first n codes are the fields of the layout, of which `taken` take a slot, and what the first reading is lent
--- keeps to its size
-pub record LayoutOpened (n taken : ℕ) (codes layout first slots area : List ℕ) : Type 0 where
-  pub fields : fields_of false layout ≡ ok (decoded n codes)
-  pub count : taken ≡ slot_count (decoded n codes)
-  pub few : n ≤ length codes
+-- the codes are the fields of the layout, of which `taken` take a slot, and what the first reading is lent keeps to its
+-- size
+pub record LayoutOpened (taken : ℕ) (codes layout first slots area : List ℕ) : Type 0 where
+  pub fields : fields_of false layout ≡ ok (decoded (length codes) codes)
+  pub count : taken ≡ slot_count (decoded (length codes) codes)
   pub room : length codes ≤ max_layout
   pub sizes : read_lent_fits (length layout) (length slots) (length first) (length area) 0 ≡ true

@@ -1,4 +1,5 @@
 -- What is fixed of a position and of the bytes of a field stays far below what wraps, field after field.
+use Rattle.std.specs.declared.option.Option.TheVariants.{Some, None}
 use Prim.Native.Nat.{ℕ, ◌+◌, ◌-◌, ◌≤◌, ◌<◌, min}
 use native.Mathlib.Omega.{arith}
 use mathlib.Core.Path.{◌≡◌, ap, ◌∙◌}
@@ -14,23 +15,21 @@ use Rattle.layout.specs.declared.Count.TheVariants.{Absent, Star, Times}
 use Rattle.layout.specs.Layout.{max_count, in_limit}
 use Rattle.layout.specs.inside.Parsing.{FitRole, FitCount}
 use Rattle.record.proofs.Bounds.{bytes_small}
-use Rattle.describe.specs.declared.fields.Extent.{Extent}
-use Rattle.describe.specs.declared.fields.Extent.TheVariants.{Fixed, Open}
 use Rattle.describe.specs.declared.fields.Track.{Track}
-use Rattle.describe.specs.Rows.{plus, highest, less, asked, filling, back, position_after, onward}
+use Rattle.describe.specs.Rows.{Extent, plus, highest, less, asked, filling, back, position_after, onward}
 use Rattle.describe.specs.inside.Walk.{AtMost, field_reach, layout_reach}
 
-pub sum_fits : (a b : Extent) (m n : ℕ) → AtMost layout_reach a → AtMost layout_reach b → a ≡ Fixed m → b ≡ Fixed n
+pub sum_fits : (a b : Extent) (m n : ℕ) → AtMost layout_reach a → AtMost layout_reach b → a ≡ Some m → b ≡ Some n
     → m + n < 18446744073709551616
 sum_fits a b m n h k e f =
-    let p : AtMost layout_reach (Fixed m) = rw e at h in
-    let q : AtMost layout_reach (Fixed n) = rw f at k in
+    let p : AtMost layout_reach (Some m) = rw e at h in
+    let q : AtMost layout_reach (Some n) = rw f at k in
     omega arith
 
-pub less-fixed : (a : Extent) (m n r : ℕ) → a ≡ Fixed m → r ≡ min m n → Fixed (m - r) ≡ less a n
-less-fixed a m n r e f = let same : m - r ≡ m - n = omega arith in rw e (ap Fixed same)
+pub less-fixed : (a : Extent) (m n r : ℕ) → a ≡ Some m → r ≡ min m n → Some (m - r) ≡ less a n
+less-fixed a m n r e f = let same : m - r ≡ m - n = omega arith in rw e (ap Some same)
 
-pub asked-small : (n : Count) → FitCount n → AtMost layout_reach (asked n Open)
+pub asked-small : (n : Count) → FitCount n → AtMost layout_reach (asked n None)
 asked-small Absent h = omega arith
 asked-small Star h = tt
 asked-small (Times n) h = omega arith
@@ -56,22 +55,22 @@ module _ (t : Track) (k : Role) (n : Count) (b r : Extent) (fills : b ≡ fillin
 -- ---- how far a field reaches
 
 pub most-more : (m n : ℕ) (a : Extent) → m ≤ n → AtMost m a → AtMost n a
-most-more m n (Fixed a) l h = omega arith
-most-more m n Open l h = tt
+most-more m n (Some a) l h = omega arith
+most-more m n None l h = tt
 
 plus-most : (m n : ℕ) (a b : Extent) → AtMost m a → AtMost n b → AtMost (m + n) (plus a b)
-plus-most m n (Fixed a) (Fixed b) h k = omega arith
-plus-most m n (Fixed a) Open h k = tt
-plus-most m n Open b h k = tt
+plus-most m n (Some a) (Some b) h k = omega arith
+plus-most m n (Some a) None h k = tt
+plus-most m n None b h k = tt
 
 highest-most : (m : ℕ) (a b : Extent) → AtMost m a → AtMost m b → AtMost m (highest a b)
-highest-most m (Fixed a) (Fixed b) h k = omega arith
-highest-most m (Fixed a) Open h k = tt
-highest-most m Open b h k = tt
+highest-most m (Some a) (Some b) h k = omega arith
+highest-most m (Some a) None h k = tt
+highest-most m None b h k = tt
 
 less-most : (m : ℕ) (a : Extent) (n : ℕ) → AtMost m a → AtMost m (less a n)
-less-most m (Fixed a) n h = omega arith
-less-most m Open n h = tt
+less-most m (Some a) n h = omega arith
+less-most m None n h = tt
 
 back-most : (m : ℕ) (a : Extent) (n : Count) → AtMost m a → AtMost m (back a n)
 back-most m a Absent h = less-most m a 1 h
@@ -88,7 +87,7 @@ filling-most (Data s) Absent h l = omega (arith, bytes_small s 1 h)
 filling-most (Data s) Star h l = tt
 filling-most (Data s) (Times n) h l = omega (arith, bytes_small s n h, leb-true n max_count l)
 filling-most (Move Skip) n h l =
-    most-more (0 + max_count) field_reach (asked n Open) (omega arith) (asked-most n 0 Open l tt)
+    most-more (0 + max_count) field_reach (asked n None) (omega arith) (asked-most n 0 None l tt)
 filling-most (Move Back) n h l = omega arith
 filling-most (Move Goto) n h l = omega arith
 

@@ -1,7 +1,9 @@
 -- The row of a field, and the rows as a loop over the text writes them.
 use Prim.Native.Nat.{ℕ, suc, ◌+◌, ◌-◌, ◌*◌, ◌≤◌, ◌<◌}
 use native.Mathlib.Omega.{arith}
-use mathlib.Core.Path.{◌≡◌, ap, ◌∙◌}
+use mathlib.Core.Path.{◌≡◌, refl, ap, ◌∙◌}
+use mathlib.Core.Bool.{Bool, true, false}
+use mir.Val.{bool_byte}
 use mathlib.Core.List.{List}
 use lib.ListN.{length, get_or, drop}
 use Rattle.layout.specs.declared.Field.{Field}
@@ -12,11 +14,14 @@ use Rattle.record.proofs.NumberLaws.{length-number_bytes, big-endian-runs}
 use Rattle.record.proofs.Stores.{runs, Wrote, wrote-more}
 use Rattle.describe.specs.inside.Texts.{tail_length, placed_at}
 use Rattle.describe.proofs.Places.{next_place, tail-inside}
-use Rattle.describe.specs.declared.fields.Extent.{Extent}
 use Rattle.describe.specs.declared.fields.Track.{Track}
-use Rattle.describe.specs.Rows.{filling, count_shown, slot_shown, number_shown, row_of, number_size}
+use Rattle.describe.specs.Rows.{Extent, filling, count_shown, slot_shown, number_shown, row_of, number_size}
 
 -- ---- one row
+
+pub bit_number : (b : Bool) → bool_byte b ≡ to_nat b
+bit_number true = refl
+bit_number false = refl
 
 module _ (text : List ℕ) (at : ℕ) (b v e : ℕ) (tail : TailAt text (at + 1) b v e) where
   pub size_is : e - at ≡ suc (tail_length (drop (suc at) text))

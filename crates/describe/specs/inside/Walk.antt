@@ -1,4 +1,5 @@
 -- What the functions inside the call rely on and compute.
+use Rattle.std.specs.declared.option.Option.TheVariants.{Some, None}
 use Rattle.std.specs.Prelude.{ℕ, ◌*◌, ◌≤◌, ◌≡◌, false, List, length}
 use Rattle.layout.specs.declared.Role.{Role}
 use Rattle.layout.specs.declared.Count.{Count}
@@ -7,15 +8,13 @@ use Rattle.layout.specs.Layout.{max_layout, max_count, fields_of}
 use Rattle.layout.specs.inside.Parsing.{FitRole, FitCount, decoded}
 use Rattle.record.specs.Bytes.{store_at}
 use Rattle.describe.specs.Placed.{Placed, placed_fields}
-use Rattle.describe.specs.declared.fields.Extent.{Extent}
-use Rattle.describe.specs.declared.fields.Extent.TheVariants.{Fixed, Open}
 use Rattle.describe.specs.declared.fields.Track.{Track}
-use Rattle.describe.specs.Rows.{rows_of, row_bytes}
+use Rattle.describe.specs.Rows.{Extent, rows_of, row_bytes}
 
 -- a number that is fixed is at most `most`
 abbrev pub AtMost : ℕ → Extent → Type 0
-AtMost most (Fixed n) = n ≤ most
-AtMost most Open = Unit {0}
+AtMost most (Some n) = n ≤ most
+AtMost most None = Unit {0}
 
 -- the most bytes that one field can add to a position, and so the fields of a layout
 -- (crates/describe/specs/Description.antt)

@@ -1,20 +1,19 @@
 -- Laws of eight binary digits at a time: the number that four of them make, and the byte of eight.
 use Prim.Native.Nat.{ℕ, zero, suc, ◌+◌, ◌-◌, ◌*◌, ◌/◌, ◌%◌, ◌≤◌, ◌<◌}
-use native.Mathlib.Nat.{zero-add}
 use native.Mathlib.Omega.{arith}
-use mathlib.Core.Path.{◌≡◌, refl, ap, ◌∙◌}
+use mathlib.Core.Path.{◌≡◌, refl, sym, ap, ◌∙◌}
 use mathlib.Core.Bool.{Bool, true, false}
-use mathlib.Core.List.{List, [], ◌∷◌, ◌++◌, map, map-append, reverse, append-nil}
-use lib.ListN.{length, drop, get_or, length-map}
-use lib.Seq.{drop-drop, take-add, take_all}
-use Rattle.record.specs.Bytes.{part, fit, digits, number, ordered}
+use mathlib.Core.List.{List, [], ◌∷◌, ◌++◌, map, map-append, append-nil}
+use lib.ListN.{length, take, drop, length-map}
+use lib.Seq.{take-add, take_all}
+use Rattle.record.specs.Bytes.{fit, number, ordered}
 use Rattle.record.specs.Packing.{digit_value}
-use Rattle.record.proofs.Bytes.{part_at}
 use Rattle.record.proofs.Stores.{length_part}
-use Rattle.digits.specs.inside.Numerals.{DigitsAt, values_at}
+use Rattle.std.specs.Int.{from_le_bytes, w32}
+use Rattle.digits.specs.inside.Numerals.{AreDigits}
 use Rattle.digits.specs.inside.bytes.{byte_of}
 use Rattle.digits.proofs.DigitLaws.{digit-cases}
-use Rattle.digits.proofs.bytes.DigitBytes.{number-low, number-high}
+use Rattle.digits.proofs.bytes.DigitBytes.{two-halves}
 
 -- ---- the number that four binary digits make
 
@@ -65,49 +64,33 @@ four-gathered high x a b c d e ha hb hc hd =
     let less : x - 808464432 ≡ (a - 48) + (b - 48) * 256 + (c - 48) * 65536 + (d - 48) * 16777216 = omega arith in
     (omega arith, rw (less, ca.2, cb.2, cc.2, cd.2) (gathers high (a - 48) (b - 48) (c - 48) (d - 48) (omega arith) (omega arith) (omega arith) (omega arith)))
 
-pub gathered-four : (high : Bool) (x : ℕ) → x < 4294967296 → DigitsAt false (digits 256 4 x) 0 4
-    → (808464432 ≤ x) × (((x - 808464432) * mover high / 16777216) % 16 ≡ number 2 (ordered high (map digit_value (digits 256 4 x))))
-unfolding digits
-gathered-four high x h d =
-    four-gathered high x (x % 256) (x / 256 % 256) (x / 256 / 256 % 256) (x / 256 / 256 / 256 % 256) (omega arith) (d 0 (omega arith)) (d 1 (omega arith)) (d 2 (omega arith)) (d 3 (omega arith))
+module _ (high : Bool) where
+  pub gathered-four : (four : List ℕ) → length four ≡ 4 → AreDigits false four
+      → (808464432 ≤ from_le_bytes w32 four) × (((from_le_bytes w32 four - 808464432) * mover high / 16777216) % 16 ≡ number 2 (ordered high (map digit_value four)))
+  gathered-four [] e ok = absurd (omega arith)
+  gathered-four (a ∷ []) e ok = absurd (omega arith)
+  gathered-four (a ∷ b ∷ []) e ok = absurd (omega arith)
+  gathered-four (a ∷ b ∷ c ∷ []) e ok = absurd (omega arith)
+  gathered-four (a ∷ b ∷ c ∷ d ∷ []) e ok =
+      four-gathered high (a + b * 256 + c * 65536 + d * 16777216) a b c d refl (ok 0 (omega arith)) (ok 1 (omega arith)) (ok 2 (omega arith)) (ok 3 (omega arith))
+  gathered-four (a ∷ b ∷ c ∷ d ∷ x ∷ l) e ok = absurd (omega arith)
 
 -- ---- the byte of eight binary digits
-
--- four of them
-pub four-of : (area : List ℕ) (at from j : ℕ) {l : List ℕ} → from ≡ at + j → j ≤ 4 → DigitsAt false area at 8 → l ≡ part area from 4 → DigitsAt false l 0 4
-four-of area at from j {l} ef h d e i k =
-    let place : from + i ≡ at + (j + i) = omega arith in
-    let is : get_or l (0 + i) 0 ≡ get_or area (at + (j + i)) 0 = rw (zero-add, e) (part_at area from 4 i k ∙ ap (λ (q : ℕ). get_or area q 0) place) in
-    rw is (d (j + i) (omega arith))
 
 fit_all : (n : ℕ) (l : List ℕ) → length l ≡ n → fit n 0 l ≡ l
 unfolding fit
 fit_all n l e = let none : n - length l ≡ 0 = omega arith in rw (none, take_all n l (omega arith), append-nil)
 
-module _ (area : List ℕ) (at : ℕ) (fits : at + 8 ≤ length area) where
-  abbrev first : List ℕ
-  first = map digit_value (part area at 4)
-
-  abbrev second : List ℕ
-  second = map digit_value (part area (at + 4) 4)
-
-  first-long : length first ≡ 4
-  first-long = length-map (part area at 4) digit_value ∙ length_part 4 at area (omega arith)
-
-  second-long : length second ≡ 4
-  second-long = length-map (part area (at + 4) 4) digit_value ∙ length_part 4 (at + 4) area (omega arith)
-
-  eight-values : fit 8 0 (values_at area at 8) ≡ first ++ second
-  eight-values =
-      let halves : part area at 8 ≡ part area at 4 ++ part area (at + 4) 4 = rw (take-add 4 4 (drop at area), drop-drop 4 at area) in
-      fit_all 8 (values_at area at 8) (length-map (part area at 8) digit_value ∙ length_part 8 at area fits) ∙ rw (halves, map-append)
-
-  pub eight-low : {a b : ℕ} → a ≡ number 2 (map digit_value (part area at 4)) → b ≡ number 2 (map digit_value (part area (at + 4) 4)) → a + b * 16 ≡ byte_of false false (values_at area at 8)
-  unfolding byte_of
-  eight-low {a} {b} ea eb = rw (eight-values, number-low first second first-long second-long, ea, eb)
-
-  pub eight-high : {a b : ℕ} → a ≡ number 2 (reverse (map digit_value (part area at 4)))
-      → b ≡ number 2 (reverse (map digit_value (part area (at + 4) 4)))
-      → a * 16 + b ≡ byte_of false true (values_at area at 8)
-  unfolding byte_of
-  eight-high {a} {b} ea eb = rw (eight-values, number-high first second first-long second-long, ea, eb)
+pub eight-byte : (high : Bool) (cs : List ℕ) → length cs ≡ 8 → {a b : ℕ} → a ≡ number 2 (ordered high (map digit_value (take 4 cs)))
+    → b ≡ number 2 (ordered high (map digit_value (take (length cs - 4) (drop 4 cs)))) → number 16 (ordered high (a ∷ b ∷ [])) ≡ byte_of false high (map digit_value cs)
+unfolding byte_of
+eight-byte high cs e {a} {b} ea eb =
+    let first : List ℕ = map digit_value (take 4 cs) in
+    let second : List ℕ = map digit_value (take (length cs - 4) (drop 4 cs)) in
+    let lf : length first ≡ 4 = length-map (take 4 cs) digit_value ∙ length_part 4 0 cs (omega arith) in
+    let ls : length second ≡ 4 = length-map (take (length cs - 4) (drop 4 cs)) digit_value ∙ length_part (length cs - 4) 4 cs (omega arith) ∙ (omega arith) in
+    let four : length cs - 4 ≡ 4 = omega arith in
+    let all : take 4 cs ++ take (length cs - 4) (drop 4 cs) ≡ cs = rw four (sym (take-add 4 4 cs) ∙ take_all 8 cs (omega arith)) in
+    let values : first ++ second ≡ fit 8 0 (map digit_value cs) =
+    sym (map-append digit_value (take 4 cs) (take (length cs - 4) (drop 4 cs))) ∙ ap (map digit_value) all ∙ sym (fit_all 8 (map digit_value cs) (length-map cs digit_value ∙ e)) in
+    rw (ea, eb) (two-halves high first second lf ls ∙ ap (λ (l : List ℕ). number 2 (ordered high l)) values)

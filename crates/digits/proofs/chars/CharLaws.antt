@@ -1,20 +1,20 @@
 -- Laws of the characters of a byte's digits.
-use Prim.Native.Nat.{ℕ, zero, suc, ◌+◌, ◌*◌, ◌/◌, ◌%◌, ◌^◌, ◌≤◌, ◌<◌}
+use Prim.Native.Nat.{ℕ, zero, suc, ◌+◌, ◌-◌, ◌*◌, ◌/◌, ◌%◌, ◌^◌, ◌<◌}
 use native.Mathlib.Nat.{zero-add, suc-add, mul-zero, not-suc-le-zero, le_of_suc-le-suc, pow-zero, pow-suc, pow-succ', mul-suc, div-one, div-div-eq-div-mul}
 use native.Mathlib.Omega.{arith}
 use lib.Pow.{pow-add}
 use mathlib.Core.Path.{◌≡◌, sym, ap, ◌∙◌}
 use mathlib.Core.Bool.{Bool, true, false}
-use mathlib.Core.List.{List, ◌++◌, map, map-append, reverse, reverse-append}
-use lib.ListN.{length, take, get_or, length-map}
-use lib.Seq.{length-take-le}
-use Rattle.record.specs.Bytes.{store_at, digits, number, ordered}
+use mathlib.Core.List.{List, [], ◌++◌, map, map-append, reverse, reverse-append, append-nil}
+use lib.ListN.{length, drop, get_or, length-map, length-append, length-drop, drop_of_length-le}
+use borrow.Rule.Slice.PartMut.{put_mid}
+use lib.Seq.{take_at}
+use Rattle.record.specs.Bytes.{digits, number, ordered}
 use Rattle.record.specs.Geometry.{base, per_byte}
 use Rattle.record.specs.Reading.{digit_char}
 use Rattle.record.proofs.Bytes.{digits_number, digits-below, number_digits, length_digits, length-ordered}
 use Rattle.digits.specs.inside.Numerals.{place_of}
 use Rattle.digits.specs.inside.chars.{chars_of, four_chars}
-use Rattle.byte_runs.proofs.ByteLaws.{store_both}
 use Rattle.digits.proofs.DigitLaws.{ordered_at, map_at, map_turned}
 
 -- ---- the digits of a byte
@@ -60,26 +60,23 @@ high-first b =
     map_turned digit_char (digits 2 8 b) ∙ ap reverse (sym (low_first b)) in
     sym (turned ∙ reverse-append (map digit_char (digits 2 4 (b % 16))) (map digit_char (digits 2 4 (b / 16))))
 
--- two numbers' four bytes each, stored one after the other
-pub two-fours : (d : List ℕ) (to x y : ℕ) (high : Bool) (chars : List ℕ) {d₁ d₂ : List ℕ} → ordered high (digits 256 4 x) ++ ordered high (digits 256 4 y) ≡ chars → to + 8 ≤ length d
-    → d₁ ≡ store_at d to (ordered high (digits 256 4 x)) → d₂ ≡ store_at d₁ (to + 4) (ordered high (digits 256 4 y)) → d₂ ≡ store_at d to chars
-two-fours d to x y high chars e h one two =
-    let long : (v : ℕ) → length (ordered high (digits 256 4 v)) ≡ 4 = λ v. length-ordered high (digits 256 4 v) ∙ length_digits 256 4 v in
-    store_both d to 4 (ordered high (digits 256 4 x)) (ordered high (digits 256 4 y)) (long x) (omega (arith, long y)) one two ∙ ap (store_at d to) e
+-- the second half put after the first
+pub halves-put : (d s t : List ℕ) → length d ≡ 8 → length s ≡ 4 → put_mid 4 (length (s ++ drop 4 d) - 4) (s ++ drop 4 d) t ≡ s ++ t
+halves-put d s t ed es =
+    let long : length (s ++ drop 4 d) ≡ 8 = simp (length-append, length-drop) (omega arith) in
+    let rest : drop (length (s ++ drop 4 d) - 4) (drop 4 (s ++ drop 4 d)) ≡ [] = drop_of_length-le (drop 4 (s ++ drop 4 d)) (simp length-drop (omega arith)) in
+    rw (take_at s (drop 4 d) 4 es, rest, append-nil t)
 
 pub length-chars : (hex high : Bool) (b : ℕ) → length (chars_of hex high b) ≡ per_byte hex
 unfolding chars_of
 length-chars hex high b = simp (length-map, length-ordered, length_digits)
 
-pub length-first : (hex high : Bool) (b count : ℕ) → count ≤ per_byte hex → length (take count (chars_of hex high b)) ≡ count
-length-first hex high b count h = length-take-le count (chars_of hex high b) (omega (arith, length-chars hex high b))
-
 -- the character of a digit that was found at its place
-pub char-found : (hex high : Bool) (b j p q x d v : ℕ) → j < per_byte hex → p ≡ per_byte hex → q ≡ place_of high p j
-    → x ≡ b → d ≡ get_or (digits (base hex) (per_byte hex) x) q 0 → v ≡ digit_char d → v ≡ get_or (chars_of hex high b) j 0
+pub char-found : (hex high : Bool) (b j q d v : ℕ) → j < per_byte hex → q ≡ place_of high (per_byte hex) j
+    → d ≡ get_or (digits (base hex) (per_byte hex) b) q 0 → v ≡ digit_char d → v ≡ get_or (chars_of hex high b) j 0
 unfolding chars_of
-char-found hex high b j p q x d v h ep eq ex ed ev =
+char-found hex high b j q d v h eq ed ev =
     let ds : List ℕ = digits (base hex) (per_byte hex) b in
     let long : length ds ≡ per_byte hex = length_digits (base hex) (per_byte hex) b in
-    let at : get_or (ordered high ds) j 0 ≡ d = ordered_at high (per_byte hex) ds j long h ∙ rw (ed, eq, ep, ex) in
+    let at : get_or (ordered high ds) j 0 ≡ d = ordered_at high (per_byte hex) ds j long h ∙ rw (ed, eq) in
     rw (map_at digit_char (ordered high ds) j (omega (arith, length-ordered high ds)), at) ev

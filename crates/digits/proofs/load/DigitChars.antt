@@ -1,20 +1,20 @@
 -- Laws of reading digits: the characters of the bytes of a field, and what a loop keeps that stores them.
-use Prim.Native.Nat.{ℕ, zero, suc, ◌+◌, ◌-◌, ◌*◌, ◌≤◌, ◌<◌, min}
+use Prim.Native.Nat.{ℕ, zero, suc, ◌+◌, ◌*◌, ◌≤◌, ◌<◌}
 use native.Mathlib.Nat.{not-suc-le-zero, le_of_suc-le-suc, zero-mul, suc-mul}
 use native.Mathlib.Omega.{arith}
-use mathlib.Core.Path.{◌≡◌, refl, ◌∙◌}
+use mathlib.Core.Path.{◌≡◌, refl, sym, ap, ◌∙◌}
 use mathlib.Core.Bool.{Bool, true, false}
 use mathlib.Core.List.{List, [], ◌∷◌, map, map-append}
-use lib.ListN.{length, take, drop, get_or}
+use lib.ListN.{length, take, drop, get_or, set}
 use lib.Seq.{get_or-drop, get_or-take, take-append-le, drop-append-add, length-take-le}
 use Rattle.layout.specs.declared.Shape.TheVariants.{Digits}
-use Rattle.record.specs.Bytes.{part, store_at, ceil_div, join, digits, ordered}
+use Rattle.record.specs.Bytes.{part, ceil_div, join, digits, ordered}
 use Rattle.record.specs.Geometry.{base, per_byte}
 use Rattle.record.specs.Reading.{digit_char, loaded}
 use Rattle.record.proofs.Bytes.{length-join}
-use Rattle.record.proofs.Stores.{length_part}
+use Rattle.record.proofs.Stores.{Put, put-more, put-done, store-whole}
 use Rattle.digits.specs.inside.chars.{chars_of}
-use Rattle.byte_runs.proofs.ByteLaws.{part-take, Grown, grown-more}
+use Rattle.byte_runs.proofs.ByteLaws.{part-take}
 use Rattle.digits.proofs.chars.CharLaws.{length-chars}
 
 -- ---- the characters of a field
@@ -58,17 +58,28 @@ unfolding loaded
 shown-part hex high n bs k count h l m =
     rw (chars-join hex high bs) (part-take n (k * per_byte hex) count (join (map (chars_of hex high) bs)) m ∙ join-part (chars_of hex high) (per_byte hex) (length-chars hex high) bs k count h l)
 
--- the turn of the loop that reads the byte number k
-pub chars-turn : (hex high : Bool) (n : ℕ) (bytes : List ℕ) (at k : ℕ) {d₀ d d' : List ℕ} {to i count : ℕ}
-    → at + ceil_div n (per_byte hex) ≤ length bytes → k < ceil_div n (per_byte hex) → i ≡ k * per_byte hex → i < n
-    → to + n ≤ length d₀ → count ≡ min (per_byte hex) (n - i) → Grown d₀ to (shown_chars hex high n (part bytes at (ceil_div n (per_byte hex)))) d i
-    → d' ≡ store_at d (to + i) (take count (chars_of hex high (get_or bytes (at + k) 0))) → Grown d₀ to (shown_chars hex high n (part bytes at (ceil_div n (per_byte hex)))) d' (i + count)
-chars-turn hex high n bytes at k {d₀} {d} {d'} {to} {i} {count} fits h ei l room ec g q =
-    let m : ℕ = ceil_div n (per_byte hex) in
-    let bs : List ℕ = part bytes at m in
-    let lb : length bs ≡ m = length_part m at bytes fits in
-    let ls : length (shown_chars hex high n bs) ≡ n = length-shown hex high n bs lb in
-    let byte : get_or bs k 0 ≡ get_or bytes (at + k) 0 = get_or-take m (drop at bytes) k 0 h ∙ get_or-drop at bytes k 0 in
-    let piece : part (shown_chars hex high n bs) i count ≡ take count (chars_of hex high (get_or bytes (at + k) 0)) =
-    rw (ei, ← byte) (shown-part hex high n bs k count (omega arith) (omega arith) (omega arith)) in
-    grown-more count g (omega arith) (omega arith) (rw piece q)
+-- one character
+pub shown_at : (hex high : Bool) (n : ℕ) (bs : List ℕ) (k j : ℕ) → k < length bs → j < per_byte hex → k * per_byte hex + j < n
+    → get_or (shown_chars hex high n bs) (k * per_byte hex + j) 0 ≡ get_or (chars_of hex high (get_or bs k 0)) j 0
+shown_at hex high n bs k j h l m =
+    let first : ℕ = k * per_byte hex in
+    let s : List ℕ = shown_chars hex high n bs in
+    let chars : List ℕ = chars_of hex high (get_or bs k 0) in
+    let piece : part s first (j + 1) ≡ take (j + 1) chars = shown-part hex high n bs k (j + 1) h (omega arith) (omega arith) in
+    sym (get_or-take (j + 1) (drop first s) j 0 (omega arith) ∙ get_or-drop first s j 0) ∙ ap (λ (l : List ℕ). get_or l j 0) piece ∙ get_or-take (j + 1) chars j 0 (omega arith)
+
+-- a character of the byte number k
+pub hex-more : (high : Bool) (bytes d₀ : List ℕ) (k j i : ℕ) {d : List ℕ} {v : ℕ} → length bytes ≡ ceil_div (length d₀) 2 → k < length bytes → j < 2 → i ≡ 2 * k + j → i < length d₀
+    → Put d₀ 0 (shown_chars true high (length d₀) bytes) d i → v ≡ get_or (chars_of true high (get_or bytes k 0)) j 0 → Put d₀ 0 (shown_chars true high (length d₀) bytes) (set d i v) (i + 1)
+hex-more high bytes d₀ k j i fits h jl e l p v =
+    let place : k * 2 + j ≡ i = omega arith in
+    let at : 0 + i ≡ i = omega arith in
+    let char = rw place at (shown_at true high (length d₀) bytes k j h jl (omega arith)) in
+    rw at at (put-more p (omega arith) (omega (arith, length-shown true high (length d₀) bytes fits)) (v ∙ sym char))
+
+-- all of them
+pub hex-done : (high u : Bool) (bytes d₀ d : List ℕ) (i : ℕ) → length bytes ≡ ceil_div (length d₀) 2 → i ≡ length d₀ → Put d₀ 0 (shown_chars true high (length d₀) bytes) d i
+    → d ≡ (loaded (Digits true high) u (length d₀) bytes).items
+hex-done high u bytes d₀ d i fits e p =
+    let long = length-shown true high (length d₀) bytes fits in
+    put-done p (omega arith) ∙ store-whole d₀ (shown_chars true high (length d₀) bytes) long ∙ shown-any true high u (length d₀) bytes

@@ -9,13 +9,15 @@ use lib.ListN.{length, take, drop, get_or, set}
 use lib.Seq.{take_all, drop-cons}
 use Rattle.record.specs.Bytes.{part, store_at, ceil_div}
 use Rattle.record.proofs.Bytes.{drop-take, part_at}
-use Rattle.record.proofs.Stores.{length_part}
+use Rattle.record.proofs.Stores.{length_part, store-whole}
+use Rattle.layout.specs.declared.Shape.TheVariants.{Digits}
+use Rattle.record.specs.Reading.{loaded}
 use Rattle.digits.specs.inside.chars.{chars_of}
 use Rattle.digits.proofs.chars.CharLaws.{length-chars}
 use Rattle.byte_runs.proofs.ByteLaws.{part-rest, Grown, grown-none, grown-more, grown-done}
-use Rattle.digits.specs.Steps.{showing, steps, Advanced, binary_budget, ShownWithin}
+use Rattle.digits.specs.Steps.{Writing, showing, steps, Advanced, binary_budget, ShownWithin}
 use Rattle.digits.proofs.StepLaws.{done_after, over-steps, whole-step, digit-step, one_set}
-use Rattle.digits.proofs.load.DigitChars.{shown_chars, length-shown, shown-part}
+use Rattle.digits.proofs.load.DigitChars.{shown_chars, length-shown, shown-part, shown-any}
 
 -- a part of a byte's characters, in those of the field
 shown-piece : (high : Bool) (n : ℕ) (bs : List ℕ) (k j count : ℕ) → k < length bs → j + count ≤ 8 → k * 8 + (j + count) ≤ n
@@ -57,34 +59,48 @@ module _ (high : Bool) (bytes : List ℕ) (at to n : ℕ) (area : List ℕ) (fit
 
 -- ---- the step that the code does
 
-module _ (high : Bool) (bytes : List ℕ) (at to n k : ℕ) {area area' : List ℕ} where
+module _ (high : Bool) (bytes : List ℕ) where
+  abbrev writing : Writing
+  writing = showing high bytes 0 0
+
+module _ (high : Bool) (bytes : List ℕ) (n k : ℕ) {area area' : List ℕ} where
   -- over a whole byte
-  pub eight-shown : k < n / 8 → area' ≡ store_at area (to + 8 * k) (chars_of false high (get_or bytes (at + k) 0)) → Advanced (showing high bytes at to) n k (k + 1) area area'
+  pub eight-shown : k < n / 8 → area' ≡ store_at area (8 * k) (chars_of false high (get_or bytes k 0)) → Advanced (writing high bytes) n k (k + 1) area area'
   unfolding chars_of
   eight-shown h e start same =
-      let byte : 8 * k / 8 ≡ k = omega arith in
+      let byte : 0 + 8 * k / 8 ≡ k = omega arith in
+      let place : 0 + 8 * k ≡ 8 * k = omega arith in
       let first : 8 * k % 8 ≡ 0 = omega arith in
       let count : 8 * k + 8 - 8 * k ≡ 8 = omega arith in
-      let chars : List ℕ = chars_of false high (get_or bytes (at + k) 0) in
-      let all : take 8 chars ≡ chars = take_all 8 chars (omega (arith, length-chars false high (get_or bytes (at + k) 0))) in
-      let here : showing high bytes at to area (8 * k) (8 * k + 8) ≡ store_at area (to + 8 * k) chars = rw (byte, first, count) (ap (store_at area (to + 8 * k)) all) in
-      e ∙ sym (whole-step (showing high bytes at to) n k start h ∙ ap (λ (r : List ℕ). showing high bytes at to r (8 * k) (8 * k + 8)) (sym same) ∙ here)
+      let chars : List ℕ = chars_of false high (get_or bytes k 0) in
+      let all : take 8 chars ≡ chars = take_all 8 chars (omega (arith, length-chars false high (get_or bytes k 0))) in
+      let here : writing high bytes area (8 * k) (8 * k + 8) ≡ store_at area (8 * k) chars = rw (byte, place, first, count) (ap (store_at area (8 * k)) all) in
+      e ∙ sym (whole-step (writing high bytes) n k start h ∙ ap (λ (r : List ℕ). writing high bytes r (8 * k) (8 * k + 8)) (sym same) ∙ here)
 
   -- over the digit number j of the last
-  pub digit-shown : (j : ℕ) → k ≡ n / 8 + j → j < n % 8 → to + n ≤ length area → area' ≡ set area (to + 8 * (n / 8) + j) (get_or (chars_of false high (get_or bytes (at + n / 8) 0)) j 0)
-      → Advanced (showing high bytes at to) n k (k + 1) area area'
+  pub digit-shown : (j : ℕ) → k ≡ n / 8 + j → j < n % 8 → n ≤ length area → area' ≡ set area (8 * (n / 8) + j) (get_or (chars_of false high (get_or bytes (n / 8) 0)) j 0)
+      → Advanced (writing high bytes) n k (k + 1) area area'
   unfolding chars_of
   digit-shown j ek h room e start same =
       let d : ℕ = 8 * (n / 8) + j in
-      let byte : d / 8 ≡ n / 8 = omega arith in
+      let byte : 0 + d / 8 ≡ n / 8 = omega arith in
       let first : d % 8 ≡ j = omega arith in
       let count : d + 1 - d ≡ 1 = omega arith in
-      let place : to + d ≡ to + 8 * (n / 8) + j = omega arith in
-      let chars : List ℕ = chars_of false high (get_or bytes (at + n / 8) 0) in
-      let one : part chars j 1 ≡ get_or chars j 0 ∷ [] = rw (drop-cons chars j 0 (omega (arith, length-chars false high (get_or bytes (at + n / 8) 0)))) in
-      let here : showing high bytes at to area d (d + 1) ≡ set area (to + 8 * (n / 8) + j) (get_or chars j 0) =
-      rw (byte, first, count, place) (ap (store_at area (to + 8 * (n / 8) + j)) one ∙ sym (one_set area (to + 8 * (n / 8) + j) (get_or chars j 0) (omega arith))) in
-      e ∙ sym (digit-step (showing high bytes at to) n k start j ek h ∙ ap (λ (r : List ℕ). showing high bytes at to r d (d + 1)) (sym same) ∙ here)
+      let place : 0 + d ≡ d = omega arith in
+      let chars : List ℕ = chars_of false high (get_or bytes (n / 8) 0) in
+      let one : part chars j 1 ≡ get_or chars j 0 ∷ [] = rw (drop-cons chars j 0 (omega (arith, length-chars false high (get_or bytes (n / 8) 0)))) in
+      let here : writing high bytes area d (d + 1) ≡ set area d (get_or chars j 0) =
+      rw (byte, first, count, place) (ap (store_at area d) one ∙ sym (one_set area d (get_or chars j 0) (omega arith))) in
+      e ∙ sym (digit-step (writing high bytes) n k start j ek h ∙ ap (λ (r : List ℕ). writing high bytes r d (d + 1)) (sym same) ∙ here)
 
 pub shown-within : ShownWithin
 shown-within high bytes at to n area fits room = shown-all high bytes at to n area fits room
+
+-- the whole of a field
+pub shown-whole : (high u : Bool) (bytes area : List ℕ) → length bytes ≡ ceil_div (length area) 8
+    → (steps (showing high bytes 0 0) (length area) area (binary_budget (length area))).bytes ≡ (loaded (Digits false high) u (length area) bytes).items
+shown-whole high u bytes area e =
+    let n : ℕ = length area in
+    let all : part bytes 0 (ceil_div n 8) ≡ bytes = take_all (ceil_div n 8) bytes (omega arith) in
+    shown-within high bytes 0 0 n area (omega arith) (omega arith)
+    ∙ rw all (store-whole area (shown_chars false high n bytes) (length-shown false high n bytes e) ∙ shown-any false high u n bytes)

@@ -8,14 +8,13 @@ use mathlib.Core.List.{List, [], ◌∷◌, map, map-append}
 use lib.ListN.{length, take, drop, get_or, replicate, length-map}
 use lib.Seq.{get_or-drop, get_or-take, drop-drop, ext_get_or}
 use Rattle.layout.specs.declared.Shape.TheVariants.{Digits}
-use Rattle.record.specs.Bytes.{part, fit, ceil_div, pieces, number, ordered}
+use Rattle.record.specs.Bytes.{fit, ceil_div, pieces, number, ordered}
 use Rattle.record.specs.Geometry.{base, per_byte}
 use Rattle.record.specs.Packing.{digit_value, digit_bytes, stored}
 use Rattle.record.proofs.Bytes.{length-fit, length-pieces}
 use Rattle.record.proofs.Stores.{length_part, next-run}
-use Rattle.digits.specs.inside.Numerals.{values_at}
 use Rattle.digits.specs.inside.bytes.{byte_of}
-use Rattle.digits.proofs.DigitLaws.{take_min}
+use Rattle.digits.proofs.DigitLaws.{take-there}
 use Rattle.digits.proofs.bytes.DigitBytes.{fit-zero}
 
 -- ---- the bytes of a field
@@ -61,6 +60,6 @@ stored_at hex high n cs k h =
     (ap (λ (l : List ℕ). take per (drop (k * per) l)) (map-fit digit_value (m * per) 48 (take n cs)) ∙ fit-piece per (m * per) (k * per) (map digit_value (take n cs)) (next-run per h))
 
 -- the byte that a turn stores
-pub byte-turn : (hex high : Bool) (area : List ℕ) (start len n have i k b : ℕ) → k < ceil_div n (per_byte hex) → have ≡ min n len → i ≡ k * per_byte hex
-    → b ≡ byte_of hex high (drop i (values_at area start have)) → b ≡ get_or (stored (Digits hex high) n (part area start len)) k 0
-byte-turn hex high area start len n have i k b h eh ei eb = rw (stored_at hex high n (part area start len) k h, take_min n len (drop start area), ← eh, ← ei) eb
+pub byte-turn : (hex high : Bool) (cs : List ℕ) (n i k b : ℕ) → k < ceil_div n (per_byte hex) → i ≡ k * per_byte hex
+    → b ≡ byte_of hex high (drop i (map digit_value (take (min n (length cs)) cs))) → b ≡ get_or (stored (Digits hex high) n cs) k 0
+byte-turn hex high cs n i k b h ei eb = rw (stored_at hex high n cs k h, ← take-there n cs, ← ei) eb

@@ -8,7 +8,7 @@ use native.Mathlib.Omega.{arith}
 use mathlib.Core.Path.{◌≡◌, refl, sym, ap, ◌∙◌}
 use mathlib.Core.Bool.{Bool, false}
 use mathlib.Core.List.{List, [], ◌∷◌, ◌++◌, map}
-use lib.ListN.{length, take, drop, get_or, set, length-set, length-take, get_or-eq_default}
+use lib.ListN.{length, take, drop, get_or, set, length-set, length-take, length-map, get_or-eq_default}
 use lib.Seq.{get_or-drop, get_or-take, get_or-set_same}
 use Rattle.layout.specs.declared.Shape.TheVariants.{Digits}
 use Rattle.record.specs.Bytes.{part, store_at, ceil_div}
@@ -16,15 +16,15 @@ use Rattle.record.specs.Packing.{digit_value, digit_bytes, stored}
 use Rattle.record.proofs.Stores.{store-none, length-store_at}
 use Rattle.record.proofs.Fields.{split}
 use Rattle.byte_runs.proofs.ByteLaws.{store_both}
-use Rattle.digits.specs.inside.Numerals.{place_of, DigitsAt, values_at}
+use Rattle.digits.specs.inside.Numerals.{place_of, AreDigits}
 use Rattle.digits.specs.Steps.{Writing, storing, steps, Advanced, binary_budget, StoredWithin}
-use Rattle.digits.proofs.DigitLaws.{take_min}
+use Rattle.digits.proofs.DigitLaws.{take_min, take-there, map_at}
 use Rattle.digits.proofs.StepLaws.{done_after, over-steps, whole-step, digit-step}
 use Rattle.digits.specs.inside.bytes.{byte_of}
-use Rattle.digits.proofs.bytes.DigitBytes.{zero-byte, value_low, value-high}
+use Rattle.digits.proofs.bytes.DigitBytes.{zero-byte, byte-first}
 use Rattle.digits.specs.inside.store.{so_far}
 use Rattle.digits.proofs.store.FieldBytes.{map-take, length-stored, stored_at}
-use Rattle.digits.proofs.store.StripLaws.{byte-eight, map-drop, front_long, stored_cut, byte_more, byte_small, single, set-over}
+use Rattle.digits.proofs.store.StripLaws.{map-drop, front_long, stored_cut, byte_more, byte_small, single, set-over}
 
 module _ (high : Bool) (cs : List ℕ) where
   -- the bytes of a field of d digits
@@ -72,56 +72,52 @@ module _ (high : Bool) (cs : List ℕ) where
         same ∙ one_more at bytes d e (omega arith) h l)
 
 -- only the first n characters count
-pub first-stored : (high : Bool) (l : List ℕ) (len at n : ℕ) (bytes : List ℕ) (k : ℕ) → at + ceil_div n 8 ≤ length bytes
-    → (steps (storing high (take (min n len) l) at) n bytes k).bytes ≡ (steps (storing high (take len l) at) n bytes k).bytes
+pub first-stored : (high : Bool) (cs : List ℕ) (at n : ℕ) (bytes : List ℕ) (k : ℕ) → at + ceil_div n 8 ≤ length bytes
+    → (steps (storing high (take (min n (length cs)) cs) at) n bytes k).bytes ≡ (steps (storing high cs at) n bytes k).bytes
 unfolding stored digit_bytes
-first-stored high l len at n bytes k room =
+first-stored high cs at n bytes k room =
+    let first : List ℕ = take (min n (length cs)) cs in
     let d : ℕ = done_after n k in
-    let less : min d (min n len) ≡ min d len = omega arith in
-    let same : stored (Digits false high) d (take (min n len) l) ≡ stored (Digits false high) d (take len l) = rw (take_min d (min n len) l, take_min d len l, less) in
-    stored-run high (take (min n len) l) at n bytes room k ∙ ap (store_at bytes at) same ∙ sym (stored-run high (take len l) at n bytes room k)
+    let less : min d (min n (length cs)) ≡ min d (length cs) = omega arith in
+    let same : stored (Digits false high) d first ≡ stored (Digits false high) d cs = rw (take_min d (min n (length cs)) cs, less, take-there d cs) in
+    stored-run high first at n bytes room k ∙ ap (store_at bytes at) same ∙ sym (stored-run high cs at n bytes room k)
 
 -- the first j values from the number m on are 0 or 1, and 0 past those that are there
-bits : (area : List ℕ) (start have : ℕ) → start + have ≤ length area → DigitsAt false area start have → (m j i : ℕ) → get_or (take j (drop m (values_at area start have))) i 0 < 2
-bits area start have fits checked m j i =
-    let values : List ℕ = values_at area start have in
+bits : (cs : List ℕ) → AreDigits false cs → (m j i : ℕ) → get_or (take j (drop m (map digit_value cs))) i 0 < 2
+bits cs checked m j i =
+    let values : List ℕ = map digit_value cs in
     let all : get_or values (m + i) 0 < 2 =
-    split (suc (m + i)) have (λ h. rw (value_low area start have (m + i) fits h) (checked (m + i) h)) (λ h. rw (value-high area start have (m + i) (omega arith)) (omega arith)) in
+    split (suc (m + i)) (length cs) (λ h. rw (map_at digit_value cs (m + i) h) (checked (m + i) h))
+    (λ h. rw (get_or-eq_default values 0 {n = m + i} (simp length-map (omega arith))) (omega arith)) in
     split (suc i) j (λ h. rw (get_or-take j (drop m values) i 0 h, get_or-drop m values i 0) all)
     (λ h. rw (get_or-eq_default (take j (drop m values)) 0 {n = i} (simp length-take (omega arith))) (omega arith))
 
 -- ---- the step that the code does
 
-module _ (high : Bool) (area : List ℕ) (start have at n : ℕ) where
+module _ (high : Bool) (cs : List ℕ) (at n : ℕ) where
   abbrev writing : Writing
-  writing = storing high (part area start have) at
+  writing = storing high cs at
 
   -- over a whole byte
   pub whole-stored : (k : ℕ) {out out' : List ℕ} {b : ℕ} → k < n / 8
-      → b ≡ byte_of false high (drop (8 * k) (values_at area start have)) → out' ≡ set out (at + k) b
+      → b ≡ byte_of false high (drop (8 * k) (map digit_value cs)) → out' ≡ set out (at + k) b
       → Advanced writing n k (k + 1) out out'
   unfolding byte_of
   whole-stored k {out} {b = b} h eb e bytes same =
-      let cs : List ℕ = part area start have in
       let byte : 8 * k / 8 ≡ k = omega arith in
       let count : 8 * k + 8 - 8 * k ≡ 8 = omega arith in
-      let eight : byte_of false high (map digit_value (part cs (8 * k) 8)) ≡ b = rw (
-        map-take digit_value 8
-            (drop (8 * k) cs),
-        map-drop digit_value (8 * k) cs,
-      ) (byte-eight high (drop (8 * k) (map digit_value cs))
-      ∙ sym eb) in
+      let eight : byte_of false high (map digit_value (part cs (8 * k) 8)) ≡ b =
+      rw (map-take digit_value 8 (drop (8 * k) cs), map-drop digit_value (8 * k) cs) (byte-first false high (drop (8 * k) (map digit_value cs)) 8 (omega arith) ∙ sym eb) in
       let here : writing out (8 * k) (8 * k + 8) ≡ set out (at + k) b = rw (byte, count) (ap (set out (at + k)) eight) in
       e ∙ sym (whole-step writing n k bytes h ∙ ap (λ (r : List ℕ). writing r (8 * k) (8 * k + 8)) (sym same) ∙ here)
 
   -- the values of the digits of the last byte
   abbrev last : List ℕ
-  last = drop (8 * (n / 8)) (values_at area start have)
+  last = drop (8 * (n / 8)) (map digit_value cs)
 
   last_set : (r : List ℕ) (j : ℕ) → j < 8 → writing r (8 * (n / 8) + j) (8 * (n / 8) + j + 1) ≡ set r (at + n / 8) (byte_of false high (take (j + 1) last))
   unfolding byte_of
   last_set r j h =
-      let cs : List ℕ = part area start have in
       let byte : (8 * (n / 8) + j) / 8 ≡ n / 8 = omega arith in
       let count : 8 * (n / 8) + j + 1 - 8 * (n / 8) ≡ j + 1 = omega arith in
       rw (byte, count, map-take digit_value (j + 1) (drop (8 * (n / 8)) cs), map-drop digit_value (8 * (n / 8)) cs)
@@ -141,13 +137,13 @@ module _ (high : Bool) (area : List ℕ) (start have at n : ℕ) where
       ap (λ (l : List ℕ). get_or l (at + n / 8) 0) was ∙ get_or-set_same r (at + n / 8) byte 0 (omega arith) ∙ ap (λ (i : ℕ). byte_of false high (take i last)) one
 
   -- over the digit number j of the last byte
-  pub digit-stored : (k j : ℕ) {out out' : List ℕ} {bit : ℕ} → start + have ≤ length area → DigitsAt false area start have → k ≡ n / 8 + j → j < n % 8 → at + n / 8 < length out
-      → bit ≡ get_or (values_at area start have) (8 * (n / 8) + j) 0 * 2 ^ place_of high 8 j → out' ≡ set out (at + n / 8) ((so_far j out (at + n / 8) + bit) % 256) → Advanced writing n k (k + 1) out out'
-  digit-stored k j {out} {bit = bit} fits checked ek h inside eb e bytes same =
+  pub digit-stored : (k j : ℕ) {out out' : List ℕ} {bit : ℕ} → AreDigits false cs → k ≡ n / 8 + j → j < n % 8 → at + n / 8 < length out
+      → bit ≡ get_or (map digit_value cs) (8 * (n / 8) + j) 0 * 2 ^ place_of high 8 j → out' ≡ set out (at + n / 8) ((so_far j out (at + n / 8) + bit) % 256) → Advanced writing n k (k + 1) out out'
+  digit-stored k j {out} {bit = bit} checked ek h inside eb e bytes same =
       let d : ℕ = 8 * (n / 8) + j in
-      let digit : get_or last j 0 ≡ get_or (values_at area start have) d 0 = get_or-drop (8 * (n / 8)) (values_at area start have) j 0 in
+      let digit : get_or last j 0 ≡ get_or (map digit_value cs) d 0 = get_or-drop (8 * (n / 8)) (map digit_value cs) j 0 in
       let sum : so_far j out (at + n / 8) + bit ≡ byte_of false high (take (j + 1) last) = rw (so-far k out bytes j ek h inside same, eb, ← digit) (sym (byte_more high last j (omega arith))) in
-      let small : so_far j out (at + n / 8) + bit < 256 = rw sum (byte_small high (take (j + 1) last) (bits area start have fits checked (8 * (n / 8)) (j + 1))) in
+      let small : so_far j out (at + n / 8) + bit < 256 = rw sum (byte_small high (take (j + 1) last) (bits cs checked (8 * (n / 8)) (j + 1))) in
       let here : set out (at + n / 8) ((so_far j out (at + n / 8) + bit) % 256) ≡ writing out d (d + 1) = rw (mod-eq_of_lt small, sum) (sym (last_set out j (omega arith))) in
       e ∙ here ∙ ap (λ (r : List ℕ). writing r d (d + 1)) same ∙ sym (digit-step writing n k bytes j ek h)
 

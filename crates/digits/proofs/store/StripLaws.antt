@@ -1,15 +1,13 @@
 -- Laws of binary digits stored in steps: a field may be cut after whole bytes, for no byte has digits of two parts; and
 -- each digit of a last byte that is not full adds a bit to it.
-use Prim.Native.Nat.{ℕ, zero, suc, ◌+◌, ◌-◌, ◌*◌, ◌%◌, ◌^◌, ◌≤◌, ◌<◌}
+use Prim.Native.Nat.{ℕ, zero, suc, ◌+◌, ◌-◌, ◌*◌, ◌^◌, ◌≤◌, ◌<◌}
 use native.Mathlib.Omega.{arith}
-use native.Mathlib.Nat.{mod-eq_of_lt}
-use lib.Pow.{pow_mono}
 use native.Mathlib.Numerals.{add-one}
 use mathlib.Core.Path.{◌≡◌, refl, sym, ap, ◌∙◌}
 use mathlib.Core.Bool.{Bool, true, false}
 use mathlib.Core.List.{List, [], ◌∷◌, ◌++◌, map, reverse, reverse-cons, reverse-append, append_assoc}
 use lib.ListN.{length, take, drop, get_or, set, replicate, length-append, length-take, length-replicate, length-reverse, get_or-append, get_or-eq_default, get_or-replicate}
-use lib.Seq.{drop-drop, take-suc, take-take, length-take-le, ext_get_or, get_or-take, get_or-append-add, set-set}
+use lib.Seq.{drop-drop, take-suc, length-take-le, ext_get_or, get_or-take, get_or-append-add, set-set}
 use Rattle.layout.specs.declared.Shape.TheVariants.{Digits}
 use Rattle.record.specs.Bytes.{part, store_at, fit, ceil_div, number, ordered}
 use Rattle.record.specs.Packing.{digit_value, stored}
@@ -22,18 +20,10 @@ use Rattle.digits.specs.inside.bytes.{byte_of}
 use Rattle.byte_runs.proofs.ByteLaws.{part-take}
 use Rattle.digits.proofs.DigitLaws.{ordered_at, place-lt}
 use Rattle.digits.proofs.StepLaws.{one_set}
-use Rattle.digits.proofs.bytes.DigitEights.{bit}
-use Rattle.digits.proofs.bytes.DigitBytes.{fit-zero}
+use Rattle.digits.proofs.bytes.DigitBytes.{fit-zero, byte-first}
 use Rattle.digits.proofs.store.FieldBytes.{map-take, stored_at, length-stored}
 
 -- ---- a field cut after whole bytes
-
--- a byte is made of the first eight
-pub byte-eight : (high : Bool) (ds : List ℕ) → byte_of false high (take 8 ds) ≡ byte_of false high ds
-unfolding byte_of fit
-byte-eight high ds =
-    let some : 8 - length (take 8 ds) ≡ 8 - length ds = simp length-take (omega arith) in
-    rw (some, take-take 8 8 ds (omega arith))
 
 pub map-drop : (f : ℕ → ℕ) (k : ℕ) (l : List ℕ) → map f (drop k l) ≡ drop k (map f l)
 map-drop f zero l = refl
@@ -56,7 +46,7 @@ module _ (high : Bool) (cs : List ℕ) (n m : ℕ) (h : 8 * m ≤ n) where
   in-front : (k : ℕ) → k < m → get_or (front ++ back) k 0 ≡ get_or whole k 0
   in-front k l =
       let eight : (j : ℕ) → k * 8 + 8 ≤ j → byte_of false high (drop (k * 8) (map digit_value (take j cs))) ≡ byte_of false high (part (map digit_value cs) (k * 8) 8) =
-      λ j i. sym (byte-eight high (drop (k * 8) (map digit_value (take j cs)))) ∙ rw (map-take digit_value j cs, part-take j (k * 8) 8 (map digit_value cs) i) in
+      λ j i. sym (byte-first false high (drop (k * 8) (map digit_value (take j cs))) 8 (omega arith)) ∙ rw (map-take digit_value j cs, part-take j (k * 8) 8 (map digit_value cs) i) in
       get_or-append front back 0 k (omega (arith, front_long)) ∙ stored_at false high (8 * m) cs k (omega arith) ∙ eight (8 * m) (omega arith)
       ∙ sym (stored_at false high n cs k (omega arith) ∙ eight n (omega arith))
 
@@ -137,13 +127,6 @@ byte_small high ds small =
     (λ h. rw (ordered_at high 8 eight i le h, fit-zero 8 ds (place_of high 8 i) (place-lt high 8 i h)) (small (place_of high 8 i)))
     (λ h. rw (get_or-eq_default (ordered high eight) 0 {n = i} (omega arith)) (omega arith)) in
     rw long at (number-below 2 (ordered high eight) (all-below (ordered high eight) each))
-
--- a bit at its place, which is below 8
-pub bit-placed : (d p : ℕ) → d < 2 → p < 8 → (d * 2 ^ p < 256) × (d * 2 ^ p % 18446744073709551616 ≡ d * 2 ^ p)
-bit-placed d p h k =
-    let top : 2 ^ p ≤ 2 ^ 7 = pow_mono {j = 7} (omega arith) in
-    let small : d * 2 ^ p < 256 = bit (λ d. d * 2 ^ p < 256) d h (omega arith) (omega arith) in
-    (small, mod-eq_of_lt (omega arith))
 
 -- ---- one byte
 

@@ -1,13 +1,14 @@
 -- Numbers of a host's width as bytes, many of them one after the other: the laws of any width, at this one.
 use Prim.Native.Nat.{ℕ, ◌+◌, ◌*◌, ◌/◌, ◌%◌, ◌≤◌, ◌<◌}
+use native.Mathlib.Nat.{zero-add}
 use native.Mathlib.Omega.{arith}
 use mathlib.Core.Path.{◌≡◌, sym, ap, ◌∙◌}
 use mathlib.Core.List.{List, ◌++◌}
 use lib.ListN.{length, take, drop, get_or, set}
 use Rattle.record.specs.Bytes.{part, store_at, number_bytes, number_at}
-use Rattle.record.proofs.Bytes.{All, part_at}
+use Rattle.record.proofs.Bytes.{All}
 use Rattle.record.proofs.NumberLaws.{length-number_bytes, length-big_endian, length-big_endian_in, number_in, big-endian-runs, big-endian-append, big-endian-drop, big-endian-take, big-endian-part, big-endian-back}
-use Rattle.record.proofs.Stores.{store-whole, length_part, runs, Put, put-more, put-done, Wrote, wrote-more, Front, front-more, front-whole}
+use Rattle.record.proofs.Stores.{store-whole, runs, Put, put-more, put-done, Wrote, wrote-more}
 use Rattle.host.specs.Numbers.{number_size, numbers_in, numbers_bytes}
 
 -- ---- many numbers
@@ -16,21 +17,16 @@ use Rattle.host.specs.Numbers.{number_size, numbers_in, numbers_bytes}
 abbrev pub encoded_at : List ℕ → ℕ → List ℕ
 encoded_at xs i = number_bytes number_size (get_or xs i 0)
 
--- one more of the n numbers from number `from` on
-pub encoded-more : {d₀ d d' : List ℕ} (xs : List ℕ) (from n : ℕ) {j : ℕ}
-    → Wrote d₀ (from * number_size) (encoded_at (part xs from n)) d j → j < n → from + n ≤ length xs
-    → length xs * number_size ≤ length d₀
-    → d' ≡ store_at d ((from + j) * number_size) (encoded_at xs (from + j)) → Wrote d₀ (from * number_size) (encoded_at (part xs from n)) d' (j + 1)
-encoded-more {d} xs from n {j} w h k room e =
-    let is : ◌≡◌ {A = ℕ} (get_or xs (from + j) 0) (get_or (part xs from n) j 0) = sym (part_at xs from n j h) in
-    wrote-more {to = (from + j) * number_size} number_size (λ i. length-number_bytes number_size _) w (omega arith)
-    (omega arith) (e ∙ ap (λ (x : ℕ). store_at d ((from + j) * number_size) (number_bytes number_size x)) is)
+-- one more number
+pub encoded-more : {d₀ d d' : List ℕ} (xs : List ℕ) {i : ℕ} → Wrote d₀ 0 (encoded_at xs) d i → i < length xs → length xs * number_size ≤ length d₀
+    → d' ≡ store_at d (i * number_size) (encoded_at xs i) → Wrote d₀ 0 (encoded_at xs) d' (i + 1)
+encoded-more xs {i} w h room e = wrote-more {to = i * number_size} number_size (λ j. length-number_bytes number_size _) w (omega arith) (omega arith) e
 
-pub encoded : {d₀ d : List ℕ} {at : ℕ} (xs : List ℕ) {i : ℕ} → Wrote d₀ at (encoded_at xs) d i → i ≡ length xs → d ≡ store_at d₀ at (numbers_bytes xs)
+pub encoded : {d₀ d : List ℕ} (xs : List ℕ) {i : ℕ} → Wrote d₀ 0 (encoded_at xs) d i → i ≡ length xs → d ≡ store_at d₀ 0 (numbers_bytes xs)
 unfolding numbers_bytes
-encoded {d₀} {d} {at} xs {i} w all =
+encoded {d₀} {d} xs {i} w all =
     let runs-all : runs i (encoded_at xs) ≡ numbers_bytes xs = rw all (big-endian-runs number_size xs) in
-    w.is ∙ ap (store_at d₀ at) runs-all
+    w.is ∙ ap (store_at d₀ 0) runs-all
 
 pub length-bytes_of : (xs : List ℕ) → length (numbers_bytes xs) ≡ length xs * number_size
 unfolding numbers_bytes
@@ -44,21 +40,21 @@ pub length-numbers_in : (bs : List ℕ) → length (numbers_in bs) ≡ length bs
 unfolding numbers_in
 length-numbers_in bs = length-big_endian_in number_size (length bs / number_size) bs
 
-module _ (bs : List ℕ) {d₀ d : List ℕ} (from n : ℕ) {j : ℕ} (p : Put d₀ from (part (numbers_in bs) from n) d j) (size : length bs ≡ length d₀ * number_size) (room : from + n ≤ length d₀) where
-  enough : from + n ≤ length (numbers_in bs)
-  enough = rw length-numbers_in (omega arith)
+module _ (bs : List ℕ) {d₀ d : List ℕ} {i : ℕ} (p : Put d₀ 0 (numbers_in bs) d i) (size : length bs ≡ length d₀ * number_size) where
+  all-numbers : length (numbers_in bs) ≡ length d₀
+  all-numbers = length-numbers_in bs ∙ (omega arith)
 
   -- one more number
-  pub decoded-more : {x : ℕ} → j < n → x ≡ number_at number_size bs ((from + j) * number_size) → Put d₀ from (part (numbers_in bs) from n) (set d (from + j) x) (j + 1)
+  pub decoded-more : {x : ℕ} → i < length d₀ → x ≡ number_at number_size bs (i * number_size) → Put d₀ 0 (numbers_in bs) (set d i x) (i + 1)
   unfolding numbers_in
   decoded-more {x} h e =
-      let inside : from + j < length bs / number_size = omega arith in
-      let is : x ≡ get_or (part (numbers_in bs) from n) j 0 = e ∙ sym (number_in number_size (length bs / number_size) bs (from + j) inside) ∙ sym (part_at (numbers_in bs) from n j h) in
-      let long : length (part (numbers_in bs) from n) ≡ n = length_part n from (numbers_in bs) enough in
-      put-more p (omega arith) (omega arith) is
+      let inside : i < length bs / number_size = omega arith in
+      let is : x ≡ get_or (numbers_in bs) i 0 = e ∙ sym (number_in number_size (length bs / number_size) bs i inside) in
+      let more : Put d₀ 0 (numbers_in bs) (set d (0 + i) x) (i + 1) = put-more p (omega arith) (omega (arith, all-numbers)) is in
+      rw zero-add at more
 
-  pub decoded-run : j ≡ n → d ≡ store_at d₀ from (part (numbers_in bs) from n)
-  decoded-run all = put-done p (length_part n from (numbers_in bs) enough ∙ sym all)
+  pub decoded : i ≡ length d₀ → d ≡ numbers_in bs
+  decoded all = put-done p (omega (arith, all-numbers)) ∙ store-whole d₀ (numbers_in bs) all-numbers
 
 -- ---- parts of many numbers
 
@@ -77,31 +73,6 @@ bytes_take n xs h = big-endian-take number_size n xs h
 pub bytes-part : (xs : List ℕ) (from n : ℕ) → from + n ≤ length xs → numbers_bytes (part xs from n) ≡ part (numbers_bytes xs) (from * number_size) (n * number_size)
 unfolding numbers_bytes
 bytes-part xs from n h = big-endian-part number_size xs from n h
-
--- ---- n numbers a turn
-
--- the numbers of a run of bytes
-module _ (bs : List ℕ) {d₀ d : List ℕ} {i : ℕ} (f : Front d₀ (numbers_in bs) d i) (size : length bs ≡ length d₀ * number_size) where
-  all-numbers : length (numbers_in bs) ≡ length d₀
-  all-numbers = length-numbers_in bs ∙ (omega arith)
-
-  pub decoded-next : {d' : List ℕ} (n : ℕ) → i + n ≤ length d₀ → d' ≡ store_at d i (part (numbers_in bs) i n) → Front d₀ (numbers_in bs) d' (i + n)
-  decoded-next n h e = front-more n f (omega (arith, all-numbers)) h e
-
-  pub decoded : i ≡ length d₀ → d ≡ numbers_in bs
-  decoded all = front-whole f all all-numbers
-
--- the bytes of a run of numbers
-module _ (xs : List ℕ) (i : ℕ) {d₀ d : List ℕ} (f : Front d₀ (numbers_bytes xs) d (i * number_size)) where
-  pub encoded-next : {d' : List ℕ} {to : ℕ} (n : ℕ) → to ≡ i + n → length xs * number_size ≤ length d₀ → i + n ≤ length xs → d' ≡ store_at d (i * number_size) (numbers_bytes (part xs i n))
-      → Front d₀ (numbers_bytes xs) d' (to * number_size)
-  encoded-next {d'} {to} n on room h e =
-      let sum : to * number_size ≡ i * number_size + n * number_size = omega arith in
-      let l : length (numbers_bytes xs) ≡ length xs * number_size = length-bytes_of xs in
-      rw sum (front-more (n * number_size) f (omega arith) (omega arith) (e ∙ ap (store_at d (i * number_size)) (bytes-part xs i n h)))
-
-  pub encoded-front : {m : ℕ} → i ≡ m → m ≤ length xs → d ≡ store_at d₀ 0 (numbers_bytes (take m xs))
-  encoded-front {m} e h = f.is ∙ rw e (ap (store_at d₀ 0) (sym (bytes_take m xs h)))
 
 -- ---- bytes come back from their numbers
 

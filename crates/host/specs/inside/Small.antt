@@ -1,16 +1,11 @@
 -- Calls that small arrays serve.
 use Rattle.std.specs.Prelude.{ℕ, ◌*◌, ◌%◌, Bool, ◌&&◌, leb, eqb}
-use Rattle.layout.specs.inside.Parsing.{short_layout}
 use Rattle.record.specs.Table.{slot_width, max_slots}
 use Rattle.host.specs.Host.{slot_size}
 
 -- the numbers of eight slots, which are few
 abbrev pub few_numbers : ℕ
 few_numbers = 8 * slot_width
-
--- a layout of `layout` bytes is short, and `numbers` numbers are few
-unfoldable pub is_small : ℕ → ℕ → Bool
-is_small layout numbers = leb layout short_layout && leb numbers few_numbers
 
 -- a run of `size` slot bytes is taken apart: the slots are whole, and no more than a call may be lent
 abbrev pub slot_bytes_fit : ℕ → Bool

@@ -1,54 +1,26 @@
--- Number by number, in the order of the definition: each return is one law of it. What the room is lent for fits into
--- it, small or large.
+-- Number by number, in the order of the definition: each return is one law of it.
 use native.Mathlib.Omega.{arith}
-use mathlib.Core.Path.{sym}
-use lib.Seq.{length-take-le}
-use Rattle.host.proofs.Guards.{room_for, room_whole}
-use Rattle.host_plans.proofs.Calls.{pack-place, pack-bad, pack-slots, packable, pack-fields, slots-whole}
+use mathlib.Core.Path.{sym, ◌∙◌}
+use Rattle.host_plans.proofs.Calls.{pack-place, pack-bad, pack-slots, packable, pack-fields, few-numbers, all-numbers}
 use Rattle.host_plans.proofs.packed.Goals as goal
 
-pub overflow_cast-place : goal.overflow_cast-place
-overflow_cast-place c =
-    omega (arith, pack-place c.requires c.in-Refused.is)
+pub overflow_cast-e : goal.overflow_cast-e
+overflow_cast-e c = omega (arith, pack-place c.requires c.in-Err.is)
 
-pub returns-then-k-needed : goal.returns-then-k-needed
-returns-then-k-needed c =
-    pack-slots c.requires c.in-Fields.is (λ e. omega (arith, c.if-k-needed.true)) c.refused-then-k-needed.ensures
+pub returns-in-Err : goal.returns-in-Err
+returns-in-Err c = pack-bad c.requires c.in-Err.is c.refused.ensures
 
-pub slice_bounds-room-end : goal.slice_bounds-room-end
-slice_bounds-room-end c = c.if-k-le-FEW_NUMBERS.true
+pub returns-then-slots-fields : goal.returns-then-slots-fields
+returns-then-slots-fields c = pack-slots c.requires c.in-Ok.is c.if-slots-fields.true c.refused-then-slots-fields.ensures
 
-pub slice_bounds-pack_few-end : goal.slice_bounds-pack_few-end
-slice_bounds-pack_few-end c = sym (length-take-le _ _ c.if-k-le-FEW_NUMBERS.true)
+pub pack_in-requires : goal.pack_in-requires
+pack_in-requires c = (packable c.requires c.in-Ok.is c.if-slots-fields.false, few-numbers (sym c.few.ensures ∙ c.if-few.true), omega arith)
 
-pub pack_few-requires : goal.pack_few-requires
-pack_few-requires c =
-    let k = packable c.requires c.in-Fields.is (omega (arith, c.if-k-needed.false)) in
-    (k, (room_for _ (slots-whole k) c.if-k-le-FEW_NUMBERS.true, room_whole _ (slots-whole k) c.if-k-le-FEW_NUMBERS.true))
+pub pack_in-requires-else-few : goal.pack_in-requires-else-few
+pack_in-requires-else-few c = (packable c.requires c.in-Ok.is c.if-slots-fields.false, all-numbers c.requires, omega arith)
 
-pub returns-then-k-le-FEW_NUMBERS : goal.returns-then-k-le-FEW_NUMBERS
-returns-then-k-le-FEW_NUMBERS c =
-    pack-fields c.requires c.in-Fields.is (omega (arith, c.if-k-needed.false)) c.pack_few.ensures
+pub returns-then-few : goal.returns-then-few
+returns-then-few c = pack-fields c.requires c.in-Ok.is c.if-slots-fields.false c.pack_in.ensures
 
-pub slice_bounds-room-end-in-Fields : goal.slice_bounds-room-end-in-Fields
-slice_bounds-room-end-in-Fields c =
-    let k = slots-whole (packable c.requires c.in-Fields.is (omega (arith, c.if-k-needed.false))) in
-    omega (arith, k.few)
-
-pub slice_bounds-pack_many-end : goal.slice_bounds-pack_many-end
-slice_bounds-pack_many-end c =
-    let k = packable c.requires c.in-Fields.is (omega (arith, c.if-k-needed.false)) in
-    sym (length-take-le _ _ (omega (arith, (slots-whole k).few)))
-
-pub pack_many-requires : goal.pack_many-requires
-pack_many-requires c =
-    let k = packable c.requires c.in-Fields.is (omega (arith, c.if-k-needed.false)) in
-    (k, (room_for _ (slots-whole k) (omega (arith, (slots-whole k).few)), room_whole _ (slots-whole k) (omega (arith, (slots-whole k).few))))
-
-pub returns-in-Refused : goal.returns-in-Refused
-returns-in-Refused c =
-    pack-bad c.requires c.in-Refused.is c.refused.ensures
-
-pub returns-else-k-le-FEW_NUMBERS : goal.returns-else-k-le-FEW_NUMBERS
-returns-else-k-le-FEW_NUMBERS c =
-    pack-fields c.requires c.in-Fields.is (omega (arith, c.if-k-needed.false)) c.pack_many.ensures
+pub returns-else-few : goal.returns-else-few
+returns-else-few c = pack-fields c.requires c.in-Ok.is c.if-slots-fields.false c.pack_in-else-few.ensures

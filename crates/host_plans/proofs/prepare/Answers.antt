@@ -1,21 +1,10 @@
 -- Each way out is one law of the definition; what was tested on the way is its premise.
-use mathlib.Core.Path.{◌≡◌, sym, ◌∙◌}
-use mathlib.Core.Bool.{true}
-use borrow.Author.Tests.{eqb-true}
-use lib.Dec.{eqb}
-use lib.ListN.{length}
-use Rattle.host.specs.Host.{reply_size}
+use mathlib.Core.Path.{sym, ◌∙◌}
 use Rattle.host_plans.proofs.Calls.{prepare-unwritten, prepare-replied}
 use Rattle.host_plans.proofs.prepare.Goals as goal
 
 pub returns-then-not-reply_fits : goal.returns-then-not-reply_fits
-returns-then-not-reply_fits c = prepare-unwritten _ _ _ (sym c.reply_fits.ensures ∙ c.if-not-reply_fits.true)
-
-pub reply_with-requires : goal.reply_with-requires
-reply_with-requires c =
-    let right : eqb (length c.args.reply.now) reply_size ≡ true = sym c.reply_fits.ensures ∙ c.if-not-reply_fits.false in eqb-true _ _ (right)
+returns-then-not-reply_fits c = rw c.number.ensures (prepare-unwritten _ _ _ (sym c.reply_fits.ensures ∙ c.if-not-reply_fits.true))
 
 pub returns : goal.returns
-returns c =
-    let right : eqb (length c.args.reply.now) reply_size ≡ true = sym c.reply_fits.ensures ∙ c.if-not-reply_fits.false in
-    prepare-replied _ _ _ (right) c.prepare-a.ensures c.reply_with.ensures
+returns c = prepare-replied _ _ _ (sym c.reply_fits.ensures ∙ c.if-not-reply_fits.false) c.prepare-a.ensures c.reply_with.ensures

@@ -5,7 +5,7 @@ use Rattle.integers.proofs.IntegerLaws.{eights-kept}
 use Rattle.integers.proofs.copy_eights.Goals as goal
 
 pub returns-then-turn : goal.returns-then-turn
-returns-then-turn c = rw c.if-turn.true c.turn_eights.ensures
+returns-then-turn c = rw c.if-turn.true c.turn_each.ensures
 
 pub returns : goal.returns
 returns c =

@@ -8,17 +8,14 @@ use Rattle.integers.proofs.IntegerLaws.{eight-more, eights-runs}
 use Rattle.integers.proofs.turn_each.Goals as goal
 
 pub loop-i-init : goal.loop-i-init
-loop-i-init c = (omega arith, wrote_none)
+loop-i-init c = wrote_none
 
 pub loop-i-preserved : goal.loop-i-preserved
 loop-i-preserved c =
     let a = c.args in
-    (omega arith, eight-more a.from.now a.start c.loop-i.invariant.1 c.loop-i-test.true c.requires.0 c.requires.1 c.turn_eight.ensures)
-
-pub shape_of-out : goal.shape_of-out
-shape_of-out c = c.loop-i.invariant.1.long
+    eight-more a.from.now a.start c.loop-i.invariant c.loop-i-test.true c.requires.0 c.requires.1 c.copy_ordered.ensures
 
 pub returns : goal.returns
 returns c =
     let a = c.args in
-    wrote-done c.loop-i.invariant.1 (omega arith) (omega arith) ∙ ap (store_at a.out.now a.at) (sym (eights-runs true a.from.now a.start a.n))
+    wrote-done c.loop-i.invariant (omega arith) (omega arith) ∙ ap (store_at a.out.now a.at) (sym (eights-runs true a.from.now a.start a.n))

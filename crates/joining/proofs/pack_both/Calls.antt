@@ -12,7 +12,6 @@ use Rattle.layout.specs.declared.Field.{Field}
 use Rattle.layout.specs.declared.Refusal.TheVariants.{BadSize}
 use Rattle.layout.specs.Refusals.{Result, ok, refused, ◌>>=◌}
 use Rattle.record.specs.declared.Answer.{Answer}
-use Rattle.record.specs.Bytes.{part, store_at}
 use Rattle.record.specs.Packing.{accepted, refusal, packs, Packed, pack_effect, pack}
 use Rattle.record.specs.Table.{max_record}
 use Rattle.record.proofs.Sizes.{Sized, sized}
@@ -154,21 +153,20 @@ module _ (c : Pair) (room : List ℕ) (same : length room ≡ length c.output) (
         pub last-holds : n ≤ length last
         last-holds = rw (put_back, length-append) (omega (arith, length-take-le n o first_fits))
 
-        pub both-packed : (z : Answer) → z ≡ accepted (n + y.first) 0 → (end : List ℕ) → end ≡ store_at last 0 (part left 0 n) → PacksBothAs c (record { answer = z; output = end })
-        both-packed z e end copied =
+        pub both-packed : (z : Answer) → z ≡ accepted (n + y.first) 0 → (head : List ℕ) → head ≡ take n left → PacksBothAs c (record { answer = z; output = head ++ drop n last })
+        both-packed z e head copied =
             let bs : List ℕ = one.bytes in
             let cs : List ℕ = two.bytes in
-            let front : part left 0 n ≡ bs = ap (take n) one.stored ∙ take_at bs (drop (length bs) room) n (sym one.count) in
+            let front : take n left ≡ bs = ap (take n) one.stored ∙ take_at bs (drop (length bs) room) n (sym one.count) in
             let behind : drop n last ≡ out = ap (drop n) put_back ∙ drop_at (take n o) out n (length-take-le n o first_fits) in
             let total : n + y.first ≡ length (bs ++ cs) = rw length-append (omega (arith, one.count, two.count)) in
             let end_of : n + length cs ≡ length (bs ++ cs) = omega (arith, total, two.count) in
             let rest : drop (length cs) (drop n o) ≡ drop (length (bs ++ cs)) o = drop-drop (length cs) n o ∙ ap (λ (i : ℕ). drop i o) end_of in
             let joined : bs ++ out ≡ bs ++ cs ++ drop (length (bs ++ cs)) o =
             ap (λ (r : List ℕ). bs ++ r) (two.stored ∙ ap (λ (r : List ℕ). cs ++ r) rest) ∙ sym (append_assoc bs cs (drop (length (bs ++ cs)) o)) in
-            let whole : 0 + length bs ≡ n = omega (arith, one.count) in
-            let put : store_at last 0 (part left 0 n) ≡ bs ++ out = rw (front, whole, behind) in
+            let put : head ++ drop n last ≡ bs ++ out = rw (copied, front, behind) in
             promised c _ (ap₂ (λ (a : Answer) (b : List ℕ). record { answer = a; output = b }) (e
-            ∙ ap (λ (i : ℕ). accepted i 0) total) (copied ∙ put ∙ joined)
+            ∙ ap (λ (i : ℕ). accepted i 0) total) (put ∙ joined)
             ∙ ap (pack_effect o) (sym (both_is (ok cs) two.result)))
 
 -- a buffer larger than a record may be

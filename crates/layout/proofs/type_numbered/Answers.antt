@@ -1,49 +1,44 @@
--- The tests are those of the definition, in its order.
-use borrow.Author.Tests.{le-leb, lt-leb, eq-eqb, ne_eqb}
+-- The ranges are the tests of the definition, in its order.
+use native.Mathlib.Omega.{arith}
+use borrow.Author.Tests.{le-leb, lt-leb, ne_eqb}
 use Rattle.layout.specs.Codes.{last_text, last_digits, last_integers, last_data, skip_number, back_number, goto_number, type_numbered}
 use Rattle.layout.proofs.Numbered.{move-type}
 use Rattle.layout.proofs.type_numbered.Goals as goal
 
-pub returns-then-k-le-LAST_TEXT : goal.returns-then-k-le-LAST_TEXT
+pub returns-in-0-to-1 : goal.returns-in-0-to-1
 unfolding type_numbered
-returns-then-k-le-LAST_TEXT c = rw (le-leb _ last_text c.if-k-le-LAST_TEXT.true)
+returns-in-0-to-1 c = rw (le-leb c.args.k last_text (omega arith))
 
-pub returns-then-k-le-LAST_DIGITS : goal.returns-then-k-le-LAST_DIGITS
+pub returns-in-0-to-5 : goal.returns-in-0-to-5
 unfolding type_numbered
-returns-then-k-le-LAST_DIGITS c = rw (lt-leb _ last_text c.if-k-le-LAST_TEXT.false, le-leb _ last_digits c.if-k-le-LAST_DIGITS.true)
+returns-in-0-to-5 c = rw (lt-leb c.args.k last_text (omega arith), le-leb c.args.k last_digits (omega arith))
 
-pub returns-then-k-le-LAST_INTEGERS : goal.returns-then-k-le-LAST_INTEGERS
+pub returns-in-0-to-13 : goal.returns-in-0-to-13
 unfolding type_numbered
-returns-then-k-le-LAST_INTEGERS c =
-    rw (lt-leb _ last_text c.if-k-le-LAST_TEXT.false, lt-leb _ last_digits c.if-k-le-LAST_DIGITS.false, le-leb _ last_integers c.if-k-le-LAST_INTEGERS.true, c.width.ensures)
+returns-in-0-to-13 c = rw (lt-leb c.args.k last_text (omega arith), lt-leb c.args.k last_digits (omega arith), le-leb c.args.k last_integers (omega arith), c.width.ensures)
 
-pub returns-then-k-le-LAST_DATA : goal.returns-then-k-le-LAST_DATA
+pub returns-in-0-to-17 : goal.returns-in-0-to-17
 unfolding type_numbered
-returns-then-k-le-LAST_DATA c =
-    rw (lt-leb _ last_text c.if-k-le-LAST_TEXT.false, lt-leb _ last_digits c.if-k-le-LAST_DIGITS.false, lt-leb _ last_integers c.if-k-le-LAST_INTEGERS.false, le-leb _ last_data c.if-k-le-LAST_DATA.true)
+returns-in-0-to-17 c =
+    rw (lt-leb c.args.k last_text (omega arith), lt-leb c.args.k last_digits (omega arith), lt-leb c.args.k last_integers (omega arith), le-leb c.args.k last_data (omega arith))
 
-pub returns-then-k-eq-SKIP : goal.returns-then-k-eq-SKIP
-returns-then-k-eq-SKIP c = rw (move-type _ c.if-k-le-LAST_DATA.false, eq-eqb _ skip_number c.if-k-eq-SKIP.true)
+pub returns-in-24 : goal.returns-in-24
+unfolding type_numbered
+returns-in-24 c = rw c.in-24.is
 
-pub returns-then-k-eq-BACK : goal.returns-then-k-eq-BACK
-returns-then-k-eq-BACK c = rw (move-type _ c.if-k-le-LAST_DATA.false, ne_eqb _ skip_number c.if-k-eq-SKIP.false, eq-eqb _ back_number c.if-k-eq-BACK.true)
+pub returns-in-25 : goal.returns-in-25
+unfolding type_numbered
+returns-in-25 c = rw c.in-25.is
 
-pub returns-then-k-eq-GOTO : goal.returns-then-k-eq-GOTO
-returns-then-k-eq-GOTO c =
+pub returns-in-26 : goal.returns-in-26
+unfolding type_numbered
+returns-in-26 c = rw c.in-26.is
+
+pub returns-in_default : goal.returns-in_default
+returns-in_default c =
     rw (
-      move-type _ c.if-k-le-LAST_DATA.false,
-      ne_eqb _ skip_number c.if-k-eq-SKIP.false,
-      ne_eqb _
-          back_number c.if-k-eq-BACK.false,
-      eq-eqb _ goto_number c.if-k-eq-GOTO.true,
-    )
-
-pub returns : goal.returns
-returns c =
-    rw (
-      move-type _ c.if-k-le-LAST_DATA.false,
-      ne_eqb _ skip_number c.if-k-eq-SKIP.false,
-      ne_eqb _
-          back_number c.if-k-eq-BACK.false,
-      ne_eqb _ goto_number c.if-k-eq-GOTO.false,
+      move-type c.args.k (omega arith),
+      ne_eqb c.args.k skip_number (λ e. omega arith),
+      ne_eqb c.args.k back_number (λ e. omega arith),
+      ne_eqb c.args.k goto_number (λ e. omega arith),
     )

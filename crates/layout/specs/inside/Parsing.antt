@@ -1,5 +1,6 @@
 -- What the functions of the layout reader promise each other, and its callers: `Parses` is the contract of `parse`, and
 -- packer and reader see nothing else of it (01, Layout text).
+use Rattle.std.specs.declared.option.Option.TheVariants.{Some}
 use Rattle.std.specs.Prelude.{ℕ, suc, ◌+◌, ◌^◌, ◌≤◌, ◌<◌, min, ◌≡◌, Bool, List, map, length, take, drop, get_or, leb, if◌then◌else◌}
 use Rattle.layout.specs.declared.Role.{Role}
 use Rattle.layout.specs.declared.Role.TheVariants.{Data, Move}
@@ -8,11 +9,11 @@ use Rattle.layout.specs.declared.Shape.TheVariants.{Text, Digits, Integers, Real
 use Rattle.layout.specs.declared.Count.{Count}
 use Rattle.layout.specs.declared.Count.TheVariants.{Absent, Star, Times}
 use Rattle.layout.specs.declared.Field.{Field}
-use Rattle.layout.specs.declared.Typed.TheVariants.{Known}
-use Rattle.layout.specs.declared.Parsed.{Parsed}
-use Rattle.layout.specs.declared.Parsed.TheVariants.{Fields, Refused}
-use Rattle.layout.specs.declared.Found.{Found}
-use Rattle.layout.specs.declared.Found.TheVariants.{Item, Bad}
+use Rattle.layout.specs.declared.Fields.{Fields}
+use Rattle.layout.specs.declared.Item.{Item}
+use Rattle.layout.specs.declared.Refused.{Refused}
+use Rattle.std.specs.declared.result.Result as Std
+use Rattle.std.specs.declared.result.Result.TheVariants.{Ok, Err}
 use Rattle.layout.specs.Refusals.{Result, ok, refused}
 use Rattle.layout.specs.Layout.{max_layout, max_count, real_size, to_nat, slots_taken, flagged, digit_run, decimal, count_of, count_length, Step, field, bad, step_of, fields_from, slot_count}
 use Rattle.layout.specs.Codes.{last_integers, last_single, last_data, last_type, width_numbered, type_numbered, known, field_of, code_for}
@@ -34,7 +35,7 @@ shape_of (Move m) = Text 0
 
 -- asked of a number d: where it is not above the last, it has a type (the numbers in the gap have none)
 abbrev pub HasType : ℕ → Type 0
-HasType d = d ≤ last_type → type_numbered d ≡ Known (known (type_numbered d))
+HasType d = d ≤ last_type → type_numbered d ≡ Some (known (type_numbered d))
 
 -- the form of a type that takes a slot, by its number
 unfoldable pub shape_numbered : ℕ → Shape
@@ -71,9 +72,9 @@ decoded n ws = map field_of (take n ws)
 -- ---- what `parse` promises
 
 -- the answer: how many fields there are and how many slots they take, or the refusal
-abbrev pub parsed_as : Result (List Field) → Parsed
-parsed_as (ok fs) = Fields (length fs) (slot_count fs)
-parsed_as (refused n p) = Refused n p
+abbrev pub parsed_as : Result (List Field) → Std.Result Fields Refused
+parsed_as (ok fs) = Ok (record { count = length fs; slots = slot_count fs })
+parsed_as (refused n p) = Err (record { why = n; place = p })
 
 -- the first codes stand for the fields, where the text is accepted
 abbrev pub Decodes : Result (List Field) → List ℕ → Type 0
@@ -86,7 +87,7 @@ Encodes (ok fs) ws = map code_for fs ≡ take (length fs) ws
 Encodes (refused n p) ws = Unit {0}
 
 -- the answer is that of the definition, and the first codes are the fields; the other codes may be anything
-pub record Parses (o : Result (List Field)) (r : Parsed) (ws : List ℕ) : Type 0 where
+pub record Parses (o : Result (List Field)) (r : Std.Result Fields Refused) (ws : List ℕ) : Type 0 where
   pub answer : r ≡ parsed_as o
   pub codes : Decodes o ws
   pub plan : Encodes o ws
@@ -107,16 +108,16 @@ pub record SpacesEnd (text : List ℕ) (at r : ℕ) : Type 0 where
   pub stops : r < length text → get_or text r 0 ≡ 32 → ⊥
 
 -- the step that an answer of `read_field` stands for
-abbrev pub step_found : Found → Step
-step_found (Item w m k) = field (field_of w) m
-step_found (Bad why place) = bad why place
+abbrev pub step_found : Std.Result Item Refused → Step
+step_found (Ok i) = field (field_of i.code) i.more
+step_found (Err e) = bad e.why e.place
 
 -- what is told of a field found at p: its slots are its own, it ends inside a text of `size` bytes, and w is its code
-abbrev pub Told : ℕ → ℕ → Found → Type 0
-Told size p (Item w m k) = (k ≡ slots_taken (field_of w)) × (p + m < size) × (code_for (field_of w) ≡ w)
-Told size p (Bad why place) = Unit {0}
+abbrev pub Told : ℕ → ℕ → Std.Result Item Refused → Type 0
+Told size p (Ok i) = (i.slots ≡ slots_taken (field_of i.code)) × (p + i.more < size) × (code_for (field_of i.code) ≡ i.code)
+Told size p (Err e) = Unit {0}
 
-pub record FoundAs (packing : Bool) (text : List ℕ) (p : ℕ) (r : Found) : Type 0 where
+pub record FoundAs (packing : Bool) (text : List ℕ) (p : ℕ) (r : Std.Result Item Refused) : Type 0 where
   pub step : step_of packing p (get_or text p 0) (drop (suc p) text) ≡ step_found r
   pub told : Told (length text) p r
 

@@ -1,25 +1,24 @@
 -- The leg of one slot, on plain values.
-use Rattle.std.specs.Prelude.{if◌then◌else◌}
-use Prim.Native.Nat.{ℕ, ◌+◌, ◌*◌, ◌≤◌}
-use native.Mathlib.Omega.{arith}
-use mathlib.Core.Path.{◌≡◌, refl, sym, ap, ◌∙◌}
+use Rattle.std.specs.Prelude.{Ok, Err, if◌then◌else◌}
+use Prim.Native.Nat.{ℕ, ◌≤◌}
+use mathlib.Core.Path.{◌≡◌, refl, sym, ◌∙◌}
 use mathlib.Core.Bool.{Bool, true, false}
 use mathlib.Core.List.{List}
 use borrow.Author.Tests.{leb-true, eqb-true}
 use lib.Dec.{eqb, leb}
 use lib.ListN.{length}
 use Rattle.layout.specs.declared.Refusal.{Refusal}
+use Rattle.record.specs.declared.Answer.{Answer}
+use Rattle.record.specs.Packing.{refusal}
 use Rattle.layout.specs.declared.Refusal.TheVariants.{BadSlot, WrongKind, BadList, BadMark}
 use Rattle.layout.specs.Refusals.{Result, ok, refused, ◌>>=◌, demand}
 use Rattle.layout.proofs.Laws.{demanded, ok-inj}
 use Rattle.record.specs.Bytes.{pieces, big_endian_in, number_at}
 use Rattle.record.specs.declared.slots.Slot.{Slot}
-use Rattle.record.specs.Table.{unset as kind_unset, max_kind, is_integers, integer_size, shown, item_size}
-use Rattle.record.specs.Slots.{value_end, is_inside}
-use Rattle.record.proofs.Bytes.{and-true}
+use Rattle.record.specs.Table.{unset as kind_unset, is_integers, integer_size, shown}
+use Rattle.record.specs.Slots.{is_inside}
 use Rattle.record.proofs.Tables.{integers-kind}
 use Rattle.mean.specs.declared.marks.Tally.{Tally}
-use Rattle.mean.specs.declared.marks.Turn.TheVariants.{Next, Stop}
 use Rattle.mean.specs.Mean.{Leg, unset, marked, max_mark, mark_in, leg_of}
 use Rattle.mean.specs.inside.Walk.{counted, turn_of}
 
@@ -56,89 +55,21 @@ leg-by : (area : List ℕ) (i : ℕ) (s : Slot) → leg_of area i s ≡ leg_by (
 unfolding leg_of leg_by
 leg-by area i s = refl
 
-module _ (t : Tally) (x : Tests) (m i : ℕ) where
-  unset-by : x.blank ≡ true → Next (counted t unset) ≡ turn_of t (leg_by x m i)
-  unfolding leg_by
-  unset-by h = simp h
+-- ---- a slot that shows one integer: it stands at the slot's start
 
-  module _ (e₁ : x.blank ≡ false) where
-    slot-by : x.inside ≡ false → Stop BadSlot ≡ turn_of t (leg_by x m i)
-    unfolding leg_by
-    slot-by h = simp (e₁, h)
-
-    module _ (e₂ : x.inside ≡ true) where
-      kind-by : x.integers ≡ false → Stop WrongKind ≡ turn_of t (leg_by x m i)
-      unfolding leg_by
-      kind-by h = simp (e₁, e₂, h)
-
-      module _ (e₃ : x.integers ≡ true) where
-        amount-by : x.one ≡ false → Stop BadList ≡ turn_of t (leg_by x m i)
-        unfolding leg_by
-        amount-by h = simp (e₁, e₂, e₃, h)
-
-        module _ (e₄ : x.one ≡ true) where
-          outside-by : x.small ≡ false → Stop BadMark ≡ turn_of t (leg_by x m i)
-          unfolding leg_by
-          outside-by h = simp (e₁, e₂, e₃, e₄, h)
-
-          marked_by : x.small ≡ true → Next (counted t (marked m)) ≡ turn_of t (leg_by x m i)
-          unfolding leg_by
-          marked_by h = simp (e₁, e₂, e₃, e₄, h)
-
--- ---- each answer of a step
-
-module _ (area : List ℕ) (k : ℕ) (s : Slot) (t : Tally) where
-  by : turn_of t (leg_by (tests_of area s) (mark_in area s) k) ≡ turn_of t (leg_of area k s)
-  by = ap (turn_of t) (sym (leg-by area k s))
-
-  pub not_set : eqb s.kind kind_unset ≡ true → Next (counted t unset) ≡ turn_of t (leg_of area k s)
-  not_set e = unset-by t (tests_of area s) (mark_in area s) k e ∙ by
-
-  module _ (e₁ : eqb s.kind kind_unset ≡ false) where
-    pub bad-slot : is_inside s (length area) ≡ false → Stop BadSlot ≡ turn_of t (leg_of area k s)
-    bad-slot e = slot-by t (tests_of area s) (mark_in area s) k e₁ e ∙ by
-
-    module _ (e₂ : is_inside s (length area) ≡ true) where
-      pub wrong-kind : is_integers s.kind ≡ false → Stop WrongKind ≡ turn_of t (leg_of area k s)
-      wrong-kind e = kind-by t (tests_of area s) (mark_in area s) k e₁ e₂ e ∙ by
-
-      module _ (e₃ : is_integers s.kind ≡ true) where
-        pub wrong-amount : eqb s.len 1 ≡ false → Stop BadList ≡ turn_of t (leg_of area k s)
-        wrong-amount e = amount-by t (tests_of area s) (mark_in area s) k e₁ e₂ e₃ e ∙ by
-
-        module _ (e₄ : eqb s.len 1 ≡ true) where
-          -- the one integer stands at the slot's start
-          mark-at : mark_in area s ≡ number_at integer_size area s.start
-          unfolding mark_in shown big_endian_in pieces number_at
-          mark-at = simp (integers-kind s.kind e₃, eqb-true s.len 1 e₄)
-
-          pub mark-inside : s.start + integer_size ≤ length area
-          mark-inside =
-              let e : item_size s.kind ≡ 8 = simp (integers-kind s.kind e₃) in
-              let one : s.len ≡ 1 = eqb-true s.len 1 e₄ in
-              let h : s.start + s.len * item_size s.kind ≤ length area = leb-true _ _ (and-true (leb s.kind max_kind) (leb (value_end s) (length area)) e₂).1 in
-              let i : s.start + 1 * 8 ≤ length area = rw (e, one) at h in
-              omega arith
-
-          module _ {m : ℕ} (is : m ≡ number_at integer_size area s.start) where
-            mark-is : m ≡ mark_in area s
-            mark-is = is ∙ sym mark-at
-
-            pub out_of_range : leb m max_mark ≡ false → Stop BadMark ≡ turn_of t (leg_of area k s)
-            out_of_range e = outside-by t (tests_of area s) (mark_in area s) k e₁ e₂ e₃ e₄ (rw mark-is at e) ∙ by
-
-            pub in-range : leb m max_mark ≡ true → Next (counted t (marked m)) ≡ turn_of t (leg_of area k s)
-            in-range e = rw mark-is (marked_by t (tests_of area s) (mark_in area s) k e₁ e₂ e₃ e₄ (rw mark-is at e) ∙ by)
+pub mark-at : (area : List ℕ) (s : Slot) → is_integers s.kind ≡ true → eqb s.len 1 ≡ true → mark_in area s ≡ number_at integer_size area s.start
+unfolding mark_in shown big_endian_in pieces number_at
+mark-at area s integers one = simp (integers-kind s.kind integers, eqb-true s.len 1 one)
 
 -- ---- what a step's answer says of the leg
 
-pub turn-next : (t u : Tally) (o : Result Leg) → Next u ≡ turn_of t o → (l : Leg) × (o ≡ ok l) × (u ≡ counted t l)
+pub turn-next : (t u : Tally) (o : Result Leg) → Ok u ≡ turn_of t o → (l : Leg) × (o ≡ ok l) × (u ≡ counted t l)
 turn-next t u (ok l) e = (l, refl, cc)
-turn-next t u (refused why place) e = let z : ◌≡◌ {A = ℕ} 0 1 = cc in absurd (omega arith)
+turn-next t u (refused why place) e = cc
 
-pub turn-stop : (t : Tally) (why : Refusal) (o : Result Leg) → Stop why ≡ turn_of t o → (place : ℕ) × (o ≡ refused why place)
-turn-stop t why (ok l) e = let z : ◌≡◌ {A = ℕ} 0 1 = cc in absurd (omega arith)
-turn-stop t why (refused w place) e = (place, cc)
+pub turn-stop : (t : Tally) (a : Answer) (o : Result Leg) → Err a ≡ turn_of t o → (why : Refusal) × (place : ℕ) × (o ≡ refused why place) × (a ≡ refusal why place)
+turn-stop t a (ok l) e = cc
+turn-stop t a (refused why place) e = (why, place, refl, cc)
 
 -- two answers are the same but for the place
 abbrev pub Alike : Result Leg → Result Leg → Type 0
@@ -163,21 +94,6 @@ pub leg-alike : (area : List ℕ) (i j : ℕ) (s : Slot) → Alike (leg_of area 
 leg-alike area i j s =
     let x = tests_of area s in
     rw (leg-by area i s, leg-by area j s) (alike-by x.blank x.inside x.integers x.one x.small (mark_in area s) i j)
-
-place-by : (a b c d e : Bool) (m i : ℕ) (why : Refusal) (place : ℕ) → leg_by (tests a b c d e) m i ≡ refused why place → place ≡ i
-unfolding leg_by
-place-by true b c d e m i why place h = let z : ◌≡◌ {A = ℕ} 0 1 = cc in absurd (omega arith)
-place-by false false c d e m i why place h = cc
-place-by false true false d e m i why place h = cc
-place-by false true true false e m i why place h = cc
-place-by false true true true false m i why place h = cc
-place-by false true true true true m i why place h = let z : ◌≡◌ {A = ℕ} 0 1 = cc in absurd (omega arith)
-
--- a refusal's place is the slot's number
-pub leg-place : (area : List ℕ) (i : ℕ) (s : Slot) (why : Refusal) (place : ℕ) → leg_of area i s ≡ refused why place → place ≡ i
-leg-place area i s why place h =
-    let x = tests_of area s in
-    place-by x.blank x.inside x.integers x.one x.small (mark_in area s) i why place (sym (leg-by area i s) ∙ h)
 
 -- a leg that is accepted is in range
 abbrev pub InRange : Leg → Type 0

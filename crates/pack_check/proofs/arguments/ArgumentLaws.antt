@@ -7,12 +7,12 @@ use mathlib.Core.Bool.{Bool, true, false, ◌&&◌, not}
 use mathlib.Core.List.{List, ◌∷◌}
 use borrow.Author.Tests.{leb-true}
 use lib.Dec.{eqb, leb}
-use lib.ListN.{length, take, drop, length-take}
-use lib.Seq.{take-take, take_all}
+use lib.ListN.{length, take, drop}
+use lib.Seq.{take_all}
 use Rattle.layout.specs.declared.Shape.{Shape}
-use Rattle.layout.specs.declared.Shape.TheVariants.{Digits, Reals}
+use Rattle.layout.specs.declared.Shape.TheVariants.{Reals}
 use Rattle.layout.specs.declared.Count.{Count}
-use Rattle.layout.specs.declared.Refusal.TheVariants.{NotSet, BadSlot, WrongKind, BadList, BadDigit, BadReal}
+use Rattle.layout.specs.declared.Refusal.TheVariants.{NotSet, BadSlot, WrongKind, BadList, BadDigit}
 use Rattle.layout.specs.Refusals.{ok}
 use Rattle.layout.proofs.Laws.{demanded}
 use Rattle.record.specs.Bytes.{part, pieces, number, ordered, big_endian_in}
@@ -22,47 +22,9 @@ use Rattle.record.specs.Table.{max_kind, real, shown, item_size, integer_size, i
 use Rattle.record.proofs.NumberLaws.{length-big_endian_in}
 use Rattle.record.specs.Geometry.{amount}
 use Rattle.record.proofs.Tables.{reals-kind}
-use Rattle.record.specs.Packing.{kind_fits, amount_fits, digits_fit, all_digits, reals_fit, no_na_n, argument_fits}
+use Rattle.record.specs.Packing.{kind_fits, amount_fits, digits_fit, reals_fit, no_nan, argument_fits}
 use Rattle.record.specs.inside.Slots.{inside_area}
 use Rattle.record.proofs.Fields.{split}
-use Rattle.pack_check.specs.inside.arguments.{verdict_of}
-use Rattle.pack_check.specs.declared.arguments.Verdict.TheVariants.{Fits, Refused}
-
--- ---- each answer of the check
-
-module _ (area : List ℕ) (s : Shape) (n : Count) (k : ℕ) (a : Slot) where
-  pub not_set : eqb a.kind 0 ≡ true → Refused NotSet k ≡ verdict_of (argument_fits area s n k a)
-  unfolding argument_fits
-  not_set e = simp e
-
-  module _ (e₁ : eqb a.kind 0 ≡ false) where
-    pub bad-slot : (leb a.kind max_kind && inside_area area a) ≡ false → Refused BadSlot k ≡ verdict_of (argument_fits area s n k a)
-    unfolding argument_fits
-    bad-slot e = simp (e₁, e)
-
-    module _ (e₂ : (leb a.kind max_kind && inside_area area a) ≡ true) where
-      pub wrong-kind : kind_fits s a.kind ≡ false → Refused WrongKind k ≡ verdict_of (argument_fits area s n k a)
-      unfolding argument_fits
-      wrong-kind e = simp (e₁, e₂, e)
-
-      module _ (e₃ : kind_fits s a.kind ≡ true) where
-        pub wrong-amount : amount_fits s n a.len ≡ false → Refused BadList k ≡ verdict_of (argument_fits area s n k a)
-        unfolding argument_fits
-        wrong-amount e = simp (e₁, e₂, e₃, e)
-
-        module _ (e₄ : amount_fits s n a.len ≡ true) where
-          pub bad-digit : digits_fit s (amount n a.len) (shown area a).items ≡ false → Refused BadDigit k ≡ verdict_of (argument_fits area s n k a)
-          unfolding argument_fits
-          bad-digit e = simp (e₁, e₂, e₃, e₄, e)
-
-          module _ (e₅ : digits_fit s (amount n a.len) (shown area a).items ≡ true) where
-            pub bad-real : reals_fit s (amount n a.len) (shown area a).items ≡ false → Refused BadReal k ≡ verdict_of (argument_fits area s n k a)
-            unfolding argument_fits
-            bad-real e = simp (e₁, e₂, e₃, e₄, e₅, e)
-
-            pub all-fits : reals_fit s (amount n a.len) (shown area a).items ≡ true → Fits ≡ verdict_of (argument_fits area s n k a)
-            unfolding argument_fits
-            all-fits e = simp (e₁, e₂, e₃, e₄, e₅, e)
 
 -- what a field can rely on whose argument was checked
 pub record Checked (area : List ℕ) (s : Shape) (n : Count) (a : Slot) : Type 0 where
@@ -98,21 +60,9 @@ module _ (area : List ℕ) (a : Slot) (inside : inside_area area a ≡ true) whe
   pub integers-inside : eqb a.kind 1 ≡ false → a.start + a.len * 8 ≤ length area
   integers-inside e = inside-by 8 (simp e)
 
-take_part : (n len : ℕ) (l : List ℕ) → take n (take len l) ≡ take (min n len) l
-take_part n len l =
-    split n len
-    (λ h. let e : min n len ≡ n = omega arith in take-take n len l h ∙ ap (λ (m : ℕ). take m l) (sym e))
-    (λ h. let e : min n len ≡ len = omega arith in take_all n (take len l) (omega (arith, length-take len l)) ∙ ap (λ (m : ℕ). take m l) (sym e))
-
 pub shown-string : (area : List ℕ) (a : Slot) → eqb a.kind 1 ≡ true → (shown area a).items ≡ part area a.start a.len
 unfolding shown
 shown-string area a e = simp e
-
--- only the digits up to the count are looked at
-pub digits-part : (area : List ℕ) (hex high : Bool) (n : ℕ) (a : Slot) → eqb a.kind 1 ≡ true
-    → all_digits hex (part area a.start (min n a.len)) ≡ digits_fit (Digits hex high) n (shown area a).items
-unfolding digits_fit
-digits-part area hex high n a e = rw (shown-string area a e) (ap (all_digits hex) (sym (take_part n a.len (drop a.start area))))
 
 pub take-integers : (n len : ℕ) (l : List ℕ) → n ≤ len → take n (integers_in len l) ≡ integers_in n l
 unfolding big_endian_in pieces
@@ -133,6 +83,6 @@ shown-integers area a e = simp e
 
 -- only the reals up to the count are looked at
 pub reals-part : (area : List ℕ) (big : Bool) (n : ℕ) (a : Slot) → eqb a.kind real ≡ true
-    → no_na_n (integers_in (min n a.len) (drop a.start area)) ≡ reals_fit (Reals true big) n (shown area a).items
+    → no_nan (integers_in (min n a.len) (drop a.start area)) ≡ reals_fit (Reals true big) n (shown area a).items
 unfolding reals_fit
-reals-part area big n a e = rw (shown-integers area a (reals-kind a.kind e)) (ap no_na_n (sym (first-integers n a.len (drop a.start area))))
+reals-part area big n a e = rw (shown-integers area a (reals-kind a.kind e)) (ap no_nan (sym (first-integers n a.len (drop a.start area))))

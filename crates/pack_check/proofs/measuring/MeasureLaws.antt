@@ -19,51 +19,30 @@ use Rattle.layout.specs.declared.Refusal.TheVariants.{NotSet, BadSlot, WrongKind
 use Rattle.layout.specs.Refusals.{Result, ok, refused, ◌>>=◌, demand}
 use Rattle.layout.specs.Layout.{slot_count, takes_slot, to_nat, slots_taken}
 use Rattle.layout.specs.Codes.{last_data, count_from, field_of, flag_unit, count_unit}
-use Rattle.layout.specs.inside.Parsing.{shape_numbered, decoded, FieldOf, FitRole}
+use Rattle.layout.specs.inside.Parsing.{shape_numbered, decoded, FieldOf, FitRole, FitCount}
 use Rattle.layout.proofs.Laws.{bound, ok-inj}
 use Rattle.layout.proofs.Decoded.{code_shape, code-count, next_field, no_field}
 use Rattle.record.specs.declared.Cursor.{Cursor}
 use Rattle.record.specs.declared.slots.Slot.{Slot}
-use Rattle.record.specs.Table.{max_kind, shown, slots_of, slot_width}
-use Rattle.record.specs.Geometry.{amount, bytes_for}
-use Rattle.record.specs.inside.Bounds.{items_limit}
+use Rattle.record.specs.Table.{max_kind, shown, slots_of, slot_width, number_limit}
+use Rattle.record.specs.Geometry.{amount}
 use Rattle.record.specs.Packing.{kind_fits, amount_fits, digits_fit, reals_fit, argument_fits, next_slot}
 use Rattle.record.specs.inside.Slots.{inside_area}
-use Rattle.pack_check.specs.declared.arguments.Verdict.TheVariants.{Fits, Refused}
-use Rattle.pack_check.specs.declared.measuring.Stepped.TheVariants.{Next, Stop}
-use Rattle.pack_check.specs.declared.measuring.Measured.TheVariants.{Length}
-use Rattle.pack_check.specs.declared.measuring.Measured.TheVariants as measured
+use Rattle.std.specs.declared.option.Option.{Option}
+use Rattle.std.specs.declared.option.Option.TheVariants.{Some}
+use Rattle.std.specs.declared.result.Result.TheVariants.{Ok, Err}
+use Rattle.layout.specs.declared.Refused.{Refused}
 use Rattle.record.specs.Slots.{slot_at}
-use Rattle.pack_check.specs.inside.arguments.{verdict_of}
-use Rattle.pack_check.specs.declared.quick_check.Quick.{Quick}
-use Rattle.pack_check.specs.declared.quick_check.Quick.TheVariants.{Bytes}
+use Rattle.pack_check.specs.inside.arguments.{answer_of}
 use Rattle.pack_check.specs.inside.quick_check.{Sound}
 use Rattle.record.specs.inside.Cursor.{origin, past}
-use Rattle.pack_check.specs.inside.measuring.{advance, field_checked, arguments_checked, Prepared, StepReady, stepped_of, measured_of, Measures}
+use Rattle.pack_check.specs.inside.measuring.{advance, field_checked, arguments_checked, Prepared, StepReady, measured_of, Measures}
 use Rattle.record.proofs.SlotLaws.{next-slot}
 use Rattle.record.proofs.Bounds.{bytes_small}
+use Rattle.record.proofs.Moves.{amount-small}
 use Rattle.pack_check.proofs.measuring.Bounds.{advance-within, advance-small}
 
 -- ---- one field
-
-module _ (area : List ℕ) (k : ℕ) (t : Slot) (c : Cursor) (s : Shape) (n : Count) where
-  stop-by : (o : Result (Unit {0})) (why : Refusal) (place : ℕ) → Refused why place ≡ verdict_of o
-      → Stop why place ≡ stepped_of (o >>= (λ _. ok (advance c (Data s) n t.len)))
-  stop-by (ok u) why place e = let z : ◌≡◌ {A = ℕ} 0 1 = cc in absurd (omega arith)
-  stop-by (refused w p) why place e = cc
-
-  next-by : (o : Result (Unit {0})) → Fits ≡ verdict_of o
-      → Next (advance c (Data s) n t.len) ≡ stepped_of (o >>= (λ _. ok (advance c (Data s) n t.len)))
-  next-by (ok u) e = refl
-  next-by (refused w p) e = let z : ◌≡◌ {A = ℕ} 0 1 = cc in absurd (omega arith)
-
-  pub step-stop : (why : Refusal) (place : ℕ) → Refused why place ≡ verdict_of (argument_fits area s n k t) → Stop why place ≡ stepped_of (field_checked area k t c (Data s) n)
-  unfolding field_checked
-  step-stop why place e = stop-by (argument_fits area s n k t) why place e
-
-  pub step-next : Fits ≡ verdict_of (argument_fits area s n k t) → Next (past c (bytes_for s (amount n t.len))) ≡ stepped_of (field_checked area k t c (Data s) n)
-  unfolding field_checked
-  step-next e = next-by (argument_fits area s n k t) e
 
 -- a code's field by the number of its type
 
@@ -73,26 +52,24 @@ module _ (ns : List ℕ) (k w : ℕ) (c : Cursor) where
 
   -- an argument that passes the quick test is refused by no line, and its field takes the bytes that the test tells
   pub quick-next : (area : List ℕ) → w % flag_unit ≤ last_data → (a : Slot) → a ≡ slot_at ns k → (n : Count) → n ≡ count_from (w / count_unit)
-      → (q : Quick) → Sound q area (shape_numbered (w % flag_unit)) n a → (bytes : ℕ) → q ≡ Bytes bytes → (r : Cursor) → r ≡ past c bytes
-      → Next r ≡ stepped_of (field_checked area k (slot_at ns k) c (field_of w).role (field_of w).count)
-  quick-next area h a same n e q s bytes p r x =
-      let f = s.fits bytes p in
-      rw (code_shape w h, code-count w, ← e, ← same)
-      (ap Next (x ∙ ap (past c) f.0) ∙ step-next area k a c (shape_numbered (w % flag_unit)) n (sym (ap verdict_of (f.1 k))))
+      → (q : Option ℕ) → Sound q area (shape_numbered (w % flag_unit)) n a → (bytes : ℕ) → q ≡ Some bytes
+      → Ok (past c bytes) ≡ answer_of (field_checked area k (slot_at ns k) c (field_of w).role (field_of w).count)
+  unfolding field_checked
+  quick-next area h a same n e q s bytes p = let f = s.fits bytes p in rw (code_shape w h, code-count w, ← e, ← same, f.1 k, f.0)
 
 -- the bytes that the quick test tells are few
-pub quick-few : (area : List ℕ) (s : Shape) (n : Count) (a : Slot) (q : Quick) → Sound q area s n a → (bytes : ℕ) → q ≡ Bytes bytes → FitRole (Data s)
-    → (items : ℕ) → items ≡ amount n a.len → items < items_limit → bytes < 68719476736
-quick-few area s n a q h bytes p f items i l = omega (arith, (h.fits bytes p).0, bytes_small s (amount n a.len) f)
+pub quick-few : (area : List ℕ) (s : Shape) (n : Count) (a : Slot) (q : Option ℕ) → Sound q area s n a → (bytes : ℕ) → q ≡ Some bytes → FitRole (Data s) → FitCount n → a.len < number_limit
+    → bytes < 68719476736
+quick-few area s n a q h bytes p f m l = omega (arith, (h.fits bytes p).0, amount-small n a.len m, bytes_small s (amount n a.len) f)
 
 -- what an answer says of the step
-pub turn-next : (o : Result Cursor) (d : Cursor) → Next d ≡ stepped_of o → o ≡ ok d
+pub turn-next : {A : Type 0} (o : Result A) (d : A) → Ok d ≡ answer_of o → o ≡ ok d
 turn-next (ok x) d e = cc
 turn-next (refused w p) d e = let z : ◌≡◌ {A = ℕ} 0 1 = cc in absurd (omega arith)
 
-pub turn-stop : (o : Result Cursor) (why : Refusal) (place : ℕ) → Stop why place ≡ stepped_of o → o ≡ refused why place
-turn-stop (ok x) why place e = let z : ◌≡◌ {A = ℕ} 0 1 = cc in absurd (omega arith)
-turn-stop (refused w p) why place e = cc
+pub turn-stop : {A : Type 0} (o : Result A) (x : Refused) → Err x ≡ answer_of o → o ≡ refused x.why x.place
+turn-stop (ok c) x e = let z : ◌≡◌ {A = ℕ} 0 1 = cc in absurd (omega arith)
+turn-stop (refused w p) x e = let same : x ≡ record { why = w; place = p } = cc in rw same refl
 
 pub stepped-advance : (area : List ℕ) (k : ℕ) (t : Slot) (c : Cursor) (role : Role) (n : Count) (d : Cursor) → field_checked area k t c role n ≡ ok d → d ≡ advance c role n t.len
 unfolding field_checked
@@ -132,12 +109,12 @@ stepped-place area k t c (Move m) n why place e = let z : ◌≡◌ {A = ℕ} 0 
 
 -- ---- where a loop stands: in front of field i and slot k
 
-pub record Standing (n : ℕ) (ws ns : List ℕ) (i k : ℕ) : Type 0 where
-  pub few : i ≤ n
-  pub slots : k + slot_count (drop i (decoded n ws)) ≡ length ns / slot_width
+pub record Standing (ws ns : List ℕ) (i k : ℕ) : Type 0 where
+  pub few : i ≤ length ws
+  pub slots : k + slot_count (drop i (decoded (length ws) ws)) ≡ length ns / slot_width
 
-pub standing-none : (n : ℕ) (ws ns : List ℕ) → Prepared n ws ns → Standing n ws ns 0 0
-standing-none n ws ns s = record { few = omega arith; slots = zero-add (slot_count (decoded n ws)) ∙ s.slots }
+pub standing-none : (ws ns : List ℕ) → Prepared ws ns → Standing ws ns 0 0
+standing-none ws ns s = record { few = omega arith; slots = zero-add (slot_count (decoded (length ws) ws)) ∙ s.slots }
 
 slots-step : (f : Field) (fs : List Field) → slot_count (f ∷ fs) ≡ slots_taken f + slot_count fs
 unfolding slot_count
@@ -154,13 +131,13 @@ unfolding field_checked
 slot-here area ns k c (Data s) n h = rw (next-slot ns k (omega arith))
 slot-here area ns k c (Move m) n h = refl
 
-module _ (n : ℕ) (ws ns : List ℕ) (i k : ℕ) (served : Prepared n ws ns) (at : Standing n ws ns i k) (l : i < n) (f : Field) (e : f ≡ field_of (get_or ws i 0)) where
-  pub field-here : drop i (decoded n ws) ≡ f ∷ drop (i + 1) (decoded n ws)
-  field-here = next_field n ws served.few i l ∙ ap (λ (g : Field). g ∷ drop (i + 1) (decoded n ws)) (sym e)
+module _ (ws ns : List ℕ) (i k : ℕ) (served : Prepared ws ns) (at : Standing ws ns i k) (l : i < length ws) (f : Field) (e : f ≡ field_of (get_or ws i 0)) where
+  pub field-here : drop i (decoded (length ws) ws) ≡ f ∷ drop (i + 1) (decoded (length ws) ws)
+  field-here = next_field (length ws) ws (omega arith) i l ∙ ap (λ (g : Field). g ∷ drop (i + 1) (decoded (length ws) ws)) (sym e)
 
-  pub standing-next : Standing n ws ns (i + 1) (k + slots_taken f)
+  pub standing-next : Standing ws ns (i + 1) (k + slots_taken f)
   standing-next =
-      let s : slot_count (drop i (decoded n ws)) ≡ slots_taken f + slot_count (drop (i + 1) (decoded n ws)) = ap slot_count field-here ∙ slots-step f (drop (i + 1) (decoded n ws)) in
+      let s : slot_count (drop i (decoded (length ws) ws)) ≡ slots_taken f + slot_count (drop (i + 1) (decoded (length ws) ws)) = ap slot_count field-here ∙ slots-step f (drop (i + 1) (decoded (length ws) ws)) in
       record { few = omega arith; slots = omega (arith, at.slots) }
 
   pub standing-slot : slot_width * (k + slots_taken f) ≤ length ns
@@ -168,49 +145,48 @@ module _ (n : ℕ) (ws ns : List ℕ) (i k : ℕ) (served : Prepared n ws ns) (a
 
 -- ---- the loop
 
-pub record Measuring (area : List ℕ) (n : ℕ) (ws ns : List ℕ) (i k : ℕ) (c : Cursor) : Type 0 where
-  pub standing : Standing n ws ns i k
+pub record Measuring (area ws ns : List ℕ) (i k : ℕ) (c : Cursor) : Type 0 where
+  pub standing : Standing ws ns i k
   pub within : c.at ≤ c.end
   pub near : c.end ≤ i * 68719476736
-  pub same : arguments_checked area k (drop k (slots_of ns)) (drop i (decoded n ws)) c ≡ arguments_checked area 0 (slots_of ns) (decoded n ws) origin
+  pub same : arguments_checked area k (drop k (slots_of ns)) (drop i (decoded (length ws) ws)) c ≡ arguments_checked area 0 (slots_of ns) (decoded (length ws) ws) origin
 
-module _ (area : List ℕ) (n : ℕ) (ws ns : List ℕ) (served : Prepared n ws ns) where
-  pub measuring-none : Measuring area n ws ns 0 0 origin
-  measuring-none = record { standing = standing-none n ws ns served; within = omega arith; near = omega arith; same = refl }
+module _ (area ws ns : List ℕ) (served : Prepared ws ns) where
+  pub measuring-none : Measuring area ws ns 0 0 origin
+  measuring-none = record { standing = standing-none ws ns served; within = omega arith; near = omega arith; same = refl }
 
-  module _ (i k : ℕ) (c : Cursor) (m : Measuring area n ws ns i k c) where
-    pub measuring-done : n ≤ i → Measures (arguments_checked area 0 (slots_of ns) (decoded n ws) origin) (Length c.end)
+  module _ (i k : ℕ) (c : Cursor) (m : Measuring area ws ns i k c) where
+    pub measuring-done : length ws ≤ i → Measures (arguments_checked area 0 (slots_of ns) (decoded (length ws) ws) origin) (Ok c.end)
     unfolding arguments_checked
     measuring-done l =
-        let e : ok c ≡ arguments_checked area 0 (slots_of ns) (decoded n ws) origin = rw (no_field n ws served.few i l) at m.same in
+        let e : ok c ≡ arguments_checked area 0 (slots_of ns) (decoded (length ws) ws) origin = rw (no_field (length ws) ws (omega arith) i l) at m.same in
         record { same = ap measured_of e; small = tt }
 
-    module _ (l : i < n) (f : Field) (e : FieldOf (get_or ws i 0) f) where
+    module _ (l : i < length ws) (f : Field) (e : FieldOf (get_or ws i 0) f) where
       pub measuring-ready : StepReady ns k c f.role f.count
       measuring-ready =
           record {
             role_fits = e.role;
             count_fits = e.count;
-            slot = standing-slot n ws ns i k served m.standing l f e.same;
-            near = omega (arith, m.within, m.near, served.few, served.room);
+            slot = standing-slot ws ns i k served m.standing l f e.same;
+            near = omega (arith, m.within, m.near, served.room);
           }
 
-      onward : (field_checked area k (slot_at ns k) c f.role f.count >>= arguments_checked area (k + slots_taken f) (drop (k + slots_taken f) (slots_of ns)) (drop (i + 1) (decoded n ws)))
-          ≡ arguments_checked area 0 (slots_of ns) (decoded n ws) origin
+      onward : (field_checked area k (slot_at ns k) c f.role f.count >>= arguments_checked area (k + slots_taken f) (drop (k + slots_taken f) (slots_of ns)) (drop (i + 1) (decoded (length ws) ws)))
+          ≡ arguments_checked area 0 (slots_of ns) (decoded (length ws) ws) origin
       unfolding arguments_checked
       onward =
           let s = slot-here area ns k c f.role f.count measuring-ready.slot in
-          rw (← drop-drop (slots_taken f) k (slots_of ns), ← s) (rw (field-here n ws ns i k served m.standing l f e.same) at m.same)
+          rw (← drop-drop (slots_taken f) k (slots_of ns), ← s) (rw (field-here ws ns i k served m.standing l f e.same) at m.same)
 
-      pub measuring-stop : (why : Refusal) (place : ℕ) → Stop why place ≡ stepped_of (field_checked area k (slot_at ns k) c f.role f.count)
-          → Measures (arguments_checked area 0 (slots_of ns) (decoded n ws) origin) (measured.Refused why place)
-      measuring-stop why place q =
-          let o = turn-stop _ why place q in
-          let p : place ≡ k = stepped-place area k (slot_at ns k) c f.role f.count why place o in
+      pub measuring-stop : (x : Refused) → Err x ≡ answer_of (field_checked area k (slot_at ns k) c f.role f.count) → Measures (arguments_checked area 0 (slots_of ns) (decoded (length ws) ws) origin) (Err x)
+      measuring-stop x q =
+          let o = turn-stop _ x q in
+          let p : x.place ≡ k = stepped-place area k (slot_at ns k) c f.role f.count x.why x.place o in
           record { same = ap measured_of (rw o at onward); small = omega (arith, measuring-ready.slot, served.limit) }
 
-      pub measuring-next : (d : Cursor) → Next d ≡ stepped_of (field_checked area k (slot_at ns k) c f.role f.count) → ((j : ℕ) → get_or ns j 0 < 4294967296)
-          → (taken : ℕ) → taken ≡ slots_taken f → Measuring area n ws ns (i + 1) (k + taken) d
+      pub measuring-next : (d : Cursor) → Ok d ≡ answer_of (field_checked area k (slot_at ns k) c f.role f.count) → ((j : ℕ) → get_or ns j 0 < 4294967296)
+          → (taken : ℕ) → taken ≡ slots_taken f → Measuring area ws ns (i + 1) (k + taken) d
       unfolding slot_at
       measuring-next d q small taken t =
           let o = turn-next _ d q in
@@ -218,7 +194,7 @@ module _ (area : List ℕ) (n : ℕ) (ws ns : List ℕ) (served : Prepared n ws 
           let b = advance-small c f.role f.count (slot_at ns k).len m.within e.role e.count (small (slot_width * k + 2)) in
           rw (t, a)
           (record {
-            standing = standing-next n ws ns i k served m.standing l f e.same;
+            standing = standing-next ws ns i k served m.standing l f e.same;
             within = advance-within c f.role f.count (slot_at ns k).len m.within;
             near = omega (arith, b, m.near);
             same = rw (← a) (rw o at onward);

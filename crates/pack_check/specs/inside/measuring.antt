@@ -4,6 +4,9 @@ use Rattle.layout.specs.declared.Role.{Role}
 use Rattle.layout.specs.declared.Role.TheVariants.{Data, Move}
 use Rattle.layout.specs.declared.Count.{Count}
 use Rattle.layout.specs.declared.Field.{Field}
+use Rattle.std.specs.declared.result.Result as Std
+use Rattle.std.specs.declared.result.Result.TheVariants.{Ok, Err}
+use Rattle.layout.specs.declared.Refused.{Refused}
 use Rattle.layout.specs.Refusals.{Result, ok, refused, ◌>>=◌}
 use Rattle.layout.specs.inside.Parsing.{decoded, FitRole, FitCount}
 use Rattle.layout.specs.Layout.{slots_taken, max_layout, slot_count, takes_slot, to_nat}
@@ -13,10 +16,6 @@ use Rattle.record.specs.Table.{slot_width, max_slots}
 use Rattle.record.specs.Geometry.{amount, bytes_for}
 use Rattle.record.specs.inside.Cursor.{past, moved}
 use Rattle.record.specs.Packing.{argument_fits, next_slot}
-use Rattle.pack_check.specs.declared.measuring.Stepped.{Stepped}
-use Rattle.pack_check.specs.declared.measuring.Stepped.TheVariants.{Next, Stop}
-use Rattle.pack_check.specs.declared.measuring.Measured.{Measured}
-use Rattle.pack_check.specs.declared.measuring.Measured.TheVariants.{Length, Refused}
 
 -- the cursor past one field, whose argument has `have` items
 abbrev pub advance : Cursor → Role → Count → ℕ → Cursor
@@ -44,11 +43,10 @@ HasRoom (refused why place) size = ⊥
 
 -- ---- what the code relies on
 
--- the codes hold n fields, and there is a slot for each that takes one (number 5 is not given)
-pub record Prepared (n : ℕ) (ws ns : List ℕ) : Type 0 where
-  pub few : n ≤ length ws
+-- there is a slot for each field of the codes that takes one (number 5 is not given)
+pub record Prepared (ws ns : List ℕ) : Type 0 where
   pub room : length ws ≤ max_layout
-  pub slots : slot_count (decoded n ws) ≡ length ns / slot_width
+  pub slots : slot_count (decoded (length ws) ws) ≡ length ns / slot_width
   pub limit : length ns ≤ slot_width * max_slots
 
 -- one field can be taken: its slot is there, and the cursor is far from wrapping
@@ -60,19 +58,15 @@ pub record StepReady (ns : List ℕ) (k : ℕ) (c : Cursor) (role : Role) (n : C
 
 -- ---- the code's answers
 
-abbrev pub stepped_of : Result Cursor → Stepped
-stepped_of (ok c) = Next c
-stepped_of (refused why place) = Stop why place
-
-abbrev pub measured_of : Result Cursor → Measured
-measured_of (ok c) = Length c.end
-measured_of (refused why place) = Refused why place
+abbrev pub measured_of : Result Cursor → Std.Result ℕ Refused
+measured_of (ok c) = Ok c.end
+measured_of (refused why place) = Err (record { why = why; place = place })
 
 -- the slot number of a refusal is one of a table, so it fits the answer; a length is bounded where the output is lent
-abbrev pub PlaceFits : Measured → Type 0
-PlaceFits (Length n) = Unit {0}
-PlaceFits (Refused why place) = place ≤ max_slots
+abbrev pub PlaceFits : Std.Result ℕ Refused → Type 0
+PlaceFits (Ok n) = Unit {0}
+PlaceFits (Err e) = e.place ≤ max_slots
 
-pub record Measures (o : Result Cursor) (r : Measured) : Type 0 where
+pub record Measures (o : Result Cursor) (r : Std.Result ℕ Refused) : Type 0 where
   pub same : r ≡ measured_of o
   pub small : PlaceFits r

@@ -7,15 +7,15 @@ use mathlib.Core.List.{List, [], ◌∷◌, map}
 use borrow.Author.Tests.{eqb-true, leb-true}
 use lib.Dec.{eqb, T}
 use lib.ListN.{length, take, drop}
+use Rattle.std.proofs.lemmas.List.{take-map}
 use Rattle.layout.specs.declared.Shape.{Shape}
 use Rattle.layout.specs.declared.Shape.TheVariants.{Text, Digits, Integers, Reals}
 use Rattle.layout.specs.declared.Count.{Count}
 use Rattle.layout.specs.declared.Count.TheVariants.{Absent, Star, Times}
-use Rattle.layout.specs.Layout.{real_size}
 use Rattle.real.specs.Narrowing.{single_of}
 use Rattle.record.specs.Bytes.{part, ceil_div}
 use Rattle.record.specs.declared.slots.Slot.{Slot}
-use Rattle.record.specs.Table.{max_area, shown, integer_size, integers_in, max_record}
+use Rattle.record.specs.Table.{max_area, shown, integer_size, integers_in}
 use Rattle.record.specs.Geometry.{amount, per_byte}
 use Rattle.record.specs.Packing.{stored, low_bytes, patterns, enough, amount_fits, all_digits, digits_fit}
 use Rattle.record.specs.inside.Slots.{inside_area}
@@ -25,12 +25,7 @@ use Rattle.record.proofs.Tables.{integers-kind, reals-kind}
 use Rattle.record.proofs.Stores.{length_part}
 use Rattle.pack_store.specs.inside.stores.{Enough, Storable}
 use Rattle.record.proofs.Bounds.{few-digits}
-use Rattle.pack_check.proofs.arguments.ArgumentLaws.{string-inside, integers-inside, shown-string, shown-integers, take-integers, Checked}
-
-pub take-map : (f : ℕ → ℕ) (n : ℕ) (xs : List ℕ) → take n (map f xs) ≡ map f (take n xs)
-take-map f zero xs = refl
-take-map f (suc n) [] = refl
-take-map f (suc n) (x ∷ xs) = ap (λ (r : List ℕ). f x ∷ r) (take-map f n xs)
+use Rattle.pack_check.proofs.arguments.ArgumentLaws.{string-inside, shown-string, shown-integers, take-integers, Checked}
 
 pub take-patterns : (single : Bool) (n : ℕ) (xs : List ℕ) → take n (patterns single xs) ≡ patterns single (take n xs)
 take-patterns true n xs = take-map single_of n xs
@@ -73,32 +68,21 @@ served area (Digits hex high) n a c = subst T (sym c.digits) tt
 served area (Integers w big) n a c = rw (length-shown area a c.inside) (enough-items n a.len c.amounts)
 served area (Reals single big) n a c = rw (length-shown area a c.inside) (enough-items n a.len c.amounts)
 
--- ---- what each leaf loop asks, and that it stores the slot's value
+-- ---- what each leaf loop stores is the slot's value
 
 module _ (area : List ℕ) (n : ℕ) (a : Slot) (at size : ℕ) where
   module _ (pad : ℕ) (s : Storable area (Text pad) n a at size) where
-    pub text-asks : (n ≤ max_record) × (at + n ≤ size) × (a.start + a.len ≤ length area)
-    text-asks = (omega (arith, s.room, s.limit), s.room, string-inside area a s.inside s.kind)
-
     pub text-value : stored (Text pad) n (part area a.start a.len) ≡ stored (Text pad) n (shown area a).items
     text-value = ap (stored (Text pad) n) (sym (shown-string area a s.kind))
 
   module _ (hex high : Bool) (s : Storable area (Digits hex high) n a at size) where
-    pub digits-asks : (n ≤ max_area) × (a.start + a.len ≤ length area) × (at + ceil_div n (per_byte hex) ≤ size) × (all_digits hex (take n (part area a.start a.len)) ≡ true)
+    pub digits-asks : (n ≤ max_area) × (at + ceil_div n (per_byte hex) ≤ size) × (all_digits hex (take n (shown area a).items) ≡ true)
     unfolding digits_fit
-    digits-asks =
-        let few : n ≤ size * 8 = few-digits hex n size (omega (arith, s.room)) in
-        (omega (arith, s.limit), string-inside area a s.inside s.kind, s.room, rw (shown-string area a s.kind) at s.digits)
-
-    pub digits_value : stored (Digits hex high) n (part area a.start a.len) ≡ stored (Digits hex high) n (shown area a).items
-    digits_value = ap (stored (Digits hex high) n) (sym (shown-string area a s.kind))
+    digits-asks = let few : n ≤ size * 8 = few-digits hex n size (omega (arith, s.room)) in (omega (arith, s.limit), s.room, s.digits)
 
   module _ (w : ℕ) (big : Bool) (s : Storable area (Integers w big) n a at size) where
     integers : eqb a.kind 1 ≡ false
     integers = integers-kind a.kind s.kind
-
-    pub integers-asks : (w ≤ 8) × (at + n * w ≤ size) × (a.start + n * 8 ≤ length area)
-    integers-asks = (s.role.1, s.room, omega (arith, s.amounts, integers-inside area a s.inside integers))
 
     pub integers-value : stored (Integers w big) n (integers_in n (drop a.start area)) ≡ stored (Integers w big) n (shown area a).items
     integers-value = stored-integers w big n a.len (drop a.start area) s.amounts ∙ ap (stored (Integers w big) n) (sym (shown-integers area a integers))
@@ -106,9 +90,6 @@ module _ (area : List ℕ) (n : ℕ) (a : Slot) (at size : ℕ) where
   module _ (single big : Bool) (s : Storable area (Reals single big) n a at size) where
     reals : eqb a.kind 1 ≡ false
     reals = reals-kind a.kind s.kind
-
-    pub reals-asks : (at + n * real_size single ≤ size) × (a.start + n * 8 ≤ length area)
-    reals-asks = (s.room, omega (arith, s.amounts, integers-inside area a s.inside reals))
 
     pub reals-value : stored (Reals single big) n (integers_in n (drop a.start area)) ≡ stored (Reals single big) n (shown area a).items
     reals-value = stored-reals single big n a.len (drop a.start area) s.amounts ∙ ap (stored (Reals single big) n) (sym (shown-integers area a reals))

@@ -48,14 +48,6 @@ no_value w f s e h q =
     let one : slots_taken f ≡ 1 = rw q in
     omega arith
 
--- where the next slot is, by the number of the code's type
-module _ (w k k' : ℕ) where
-  pub slot-taken : w % flag_unit ≤ last_data → k' ≡ k + 1 → k' ≡ k + slots_taken (field_of w)
-  slot-taken h e = rw (code_shape w h) e
-
-  pub slot_kept : last_data < w % flag_unit → k' ≡ k → k' ≡ k + slots_taken (field_of w)
-  slot_kept h e = omega (arith, code-slotless w h)
-
 module _ (area ns : List ℕ) (k : ℕ) (c : Cursor) (n : Count) (size : ℕ) where
   module _ (s : Shape) (p : Puttable area ns k c (Data s) n size) where
     storable-slot : Storable area s (amount n (slot_at ns k).len) (slot_at ns k) c.at size
@@ -94,12 +86,12 @@ module _ (area ns : List ℕ) (k : ℕ) (c : Cursor) (n : Count) (size : ℕ) wh
 
 -- ---- the loop
 
-pub record Writing (area : List ℕ) (n : ℕ) (ws ns lent out : List ℕ) (i k : ℕ) (c : Cursor) : Type 0 where
-  pub standing : Standing n ws ns i k
+pub record Writing (area ws ns lent out : List ℕ) (i k : ℕ) (c : Cursor) : Type 0 where
+  pub standing : Standing ws ns i k
   pub within : c.at ≤ c.end
   pub long : length out ≡ length lent
-  pub room : HasRoom (arguments_checked area k (drop k (slots_of ns)) (drop i (decoded n ws)) c) (length lent)
-  pub same : written area (drop k (slots_of ns)) (drop i (decoded n ws)) c out ≡ written area (slots_of ns) (decoded n ws) origin lent
+  pub room : HasRoom (arguments_checked area k (drop k (slots_of ns)) (drop i (decoded (length ws) ws)) c) (length lent)
+  pub same : written area (drop k (slots_of ns)) (drop i (decoded (length ws) ws)) c out ≡ written area (slots_of ns) (decoded (length ws) ws) origin lent
 
 put-here : (area ns out : List ℕ) (k : ℕ) (c : Cursor) (role : Role) (n : Count) → slot_width * (k + to_nat (takes_slot role)) ≤ length ns
     → (advance c role n (next_slot (drop k (slots_of ns))).len ≡ advance c role n (slot_at ns k).len)
@@ -108,37 +100,37 @@ unfolding put
 put-here area ns out k c (Data s) n h = let e = next-slot ns k (omega arith) in (rw e, rw e)
 put-here area ns out k c (Move m) n h = (refl, refl)
 
-module _ (area : List ℕ) (n : ℕ) (ws ns lent : List ℕ) (fine : Writable area n ws ns (length lent)) where
-  pub writing-none : Writing area n ws ns lent lent 0 0 origin
-  writing-none = record { standing = standing-none n ws ns fine.prepared; within = omega arith; long = refl; room = fine.room; same = refl }
+module _ (area ws ns lent : List ℕ) (fine : Writable area ws ns (length lent)) where
+  pub writing-none : Writing area ws ns lent lent 0 0 origin
+  writing-none = record { standing = standing-none ws ns fine.prepared; within = omega arith; long = refl; room = fine.room; same = refl }
 
-  module _ (out : List ℕ) (i k : ℕ) (c : Cursor) (w : Writing area n ws ns lent out i k c) where
-    pub writing-done : n ≤ i → out ≡ written area (slots_of ns) (decoded n ws) origin lent
+  module _ (out : List ℕ) (i k : ℕ) (c : Cursor) (w : Writing area ws ns lent out i k c) where
+    pub writing-done : length ws ≤ i → out ≡ written area (slots_of ns) (decoded (length ws) ws) origin lent
     unfolding written
-    writing-done l = rw (no_field n ws fine.prepared.few i l) at w.same
+    writing-done l = rw (no_field (length ws) ws (omega arith) i l) at w.same
 
-    module _ (l : i < n) (f : Field) (e : FieldOf (get_or ws i 0) f) where
+    module _ (l : i < length ws) (f : Field) (e : FieldOf (get_or ws i 0) f) where
       slot : slot_width * (k + slots_taken f) ≤ length ns
-      slot = standing-slot n ws ns i k fine.prepared w.standing l f e.same
+      slot = standing-slot ws ns i k fine.prepared w.standing l f e.same
 
-      here : drop i (decoded n ws) ≡ f ∷ drop (i + 1) (decoded n ws)
-      here = field-here n ws ns i k fine.prepared w.standing l f e.same
+      here : drop i (decoded (length ws) ws) ≡ f ∷ drop (i + 1) (decoded (length ws) ws)
+      here = field-here ws ns i k fine.prepared w.standing l f e.same
 
       -- the step that the field takes, and the room after it
       stepping : (d : Cursor) × (field_checked area k (slot_at ns k) c f.role f.count ≡ ok d)
-          × HasRoom (arguments_checked area (k + slots_taken f) (drop (k + slots_taken f) (slots_of ns)) (drop (i + 1) (decoded n ws)) d) (length lent)
+          × HasRoom (arguments_checked area (k + slots_taken f) (drop (k + slots_taken f) (slots_of ns)) (drop (i + 1) (decoded (length ws) ws)) d) (length lent)
       unfolding arguments_checked
       stepping =
           let s = slot-here area ns k c f.role f.count slot in
           room-step (field_checked area k (slot_at ns k) c f.role f.count) (arguments_checked area (k + slots_taken f)
-          (drop (k + slots_taken f) (slots_of ns)) (drop (i + 1) (decoded n ws))) (length lent)
+          (drop (k + slots_taken f) (slots_of ns)) (drop (i + 1) (decoded (length ws) ws))) (length lent)
           (rw (← drop-drop (slots_taken f) k (slots_of ns), ← s) (rw here at w.room))
 
       pub writing-ready : Puttable area ns k c f.role f.count (length out)
       writing-ready =
           let (d, q, r) = stepping in
-          let end : d.end ≤ length lent = room-end area (drop (i + 1) (decoded n ws)) (k + slots_taken f) (drop (k + slots_taken f) (slots_of ns)) d (length lent) r in
-          let now : c.end ≤ length lent = room-end area (drop i (decoded n ws)) k (drop k (slots_of ns)) c (length lent) w.room in
+          let end : d.end ≤ length lent = room-end area (drop (i + 1) (decoded (length ws) ws)) (k + slots_taken f) (drop (k + slots_taken f) (slots_of ns)) d (length lent) r in
+          let now : c.end ≤ length lent = room-end area (drop i (decoded (length ws) ws)) k (drop k (slots_of ns)) c (length lent) w.room in
           record {
             ready = record { role_fits = e.role; count_fits = e.count; slot = slot; near = omega (arith, w.within, fine.limit) };
             within = w.within;
@@ -147,19 +139,19 @@ module _ (area : List ℕ) (n : ℕ) (ws ns lent : List ℕ) (fine : Writable ar
           }
 
       pub writing-next : (d : Cursor) (out' : List ℕ) → (d ≡ advance c f.role f.count (slot_at ns k).len) × (out' ≡ put area (slot_at ns k) out c f.role f.count)
-          → length out' ≡ length out → (k' : ℕ) → k' ≡ k + slots_taken f → Writing area n ws ns lent out' (i + 1) k' d
+          → length out' ≡ length out → (taken : ℕ) → taken ≡ slots_taken f → Writing area ws ns lent out' (i + 1) (k + taken) d
       unfolding written
-      writing-next d out' p long k' t =
+      writing-next d out' p long taken t =
           let (d', q, r) = stepping in
           let a : d' ≡ d = stepped-advance area k (slot_at ns k) c f.role f.count d' q ∙ sym p.0 in
           let h = put-here area ns out k c f.role f.count slot in
-          let s : written area (drop (slots_taken f) (drop k (slots_of ns))) (drop (i + 1) (decoded n ws))
+          let s : written area (drop (slots_taken f) (drop k (slots_of ns))) (drop (i + 1) (decoded (length ws) ws))
           (advance c f.role f.count (next_slot (drop k (slots_of ns))).len)
           (put area (next_slot (drop k (slots_of ns))) out c f.role f.count)
-          ≡ written area (slots_of ns) (decoded n ws) origin lent = rw here at w.same in
+          ≡ written area (slots_of ns) (decoded (length ws) ws) origin lent = rw here at w.same in
           rw t
           (record {
-            standing = standing-next n ws ns i k fine.prepared w.standing l f e.same;
+            standing = standing-next ws ns i k fine.prepared w.standing l f e.same;
             within = rw p.0 (advance-within c f.role f.count (slot_at ns k).len w.within);
             long = long ∙ w.long;
             room = rw (← a) r;

@@ -1,5 +1,5 @@
 -- The writing pass: the fields put into the lent buffer one after the other.
-use Rattle.std.specs.Prelude.{ℕ, ◌-◌, ◌≤◌, ◌≡◌, List, [], ◌∷◌, drop, replicate}
+use Rattle.std.specs.Prelude.{ℕ, ◌-◌, ◌≤◌, ◌≡◌, List, [], ◌∷◌, drop, length, replicate}
 use Rattle.layout.specs.declared.Role.{Role}
 use Rattle.layout.specs.declared.Role.TheVariants.{Data, Move}
 use Rattle.layout.specs.declared.Motion.{Motion}
@@ -58,8 +58,8 @@ pub record Puttable (area ns : List ℕ) (k : ℕ) (c : Cursor) (role : Role) (n
   pub room : HasRoom (field_checked area k (slot_at ns k) c role n) size
   pub limit : size ≤ max_record
 
--- all fields in the first n codes have room in a buffer of `size` bytes
-pub record Writable (area : List ℕ) (n : ℕ) (ws ns : List ℕ) (size : ℕ) : Type 0 where
-  pub prepared : Prepared n ws ns
-  pub room : HasRoom (arguments_checked area 0 (slots_of ns) (decoded n ws) origin) size
+-- all fields of the codes have room in a buffer of `size` bytes
+pub record Writable (area ws ns : List ℕ) (size : ℕ) : Type 0 where
+  pub prepared : Prepared ws ns
+  pub room : HasRoom (arguments_checked area 0 (slots_of ns) (decoded (length ws) ws) origin) size
   pub limit : size ≤ max_record

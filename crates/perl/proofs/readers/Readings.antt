@@ -1,17 +1,18 @@
 -- The readers of a template, one step at a time: where a reading ends, and what stands at a place.
+use Rattle.std.specs.declared.option.Option.{Option}
+use Rattle.std.specs.declared.option.Option.TheVariants.{Some, None}
 use Rattle.std.specs.Prelude.{if◌then◌else◌}
 use Prim.Native.Nat.{ℕ, zero, suc, ◌+◌, ◌-◌, ◌≤◌, ◌<◌, min}
 use native.Mathlib.Nat.{add-zero}
 use native.Mathlib.Omega.{arith}
 use mathlib.Core.Path.{◌≡◌, refl, ap, ◌∙◌, subst}
-use mathlib.Core.Bool.{Bool, true, false, ◌&&◌, ◌||◌}
+use mathlib.Core.Bool.{Bool, true, false, ◌&&◌, ◌||◌, and-false}
 use mathlib.Core.List.{List, [], ◌∷◌}
 use borrow.Author.Tests.{eq-eqb, ne_eqb, eqb-true, lt-ltb, le-ltb}
 use lib.Dec.{eqb, ltb}
 use lib.ListN.{length, get_or, drop, length-drop, drop_of_length-le}
 use lib.Seq.{drop-cons, drop-drop}
 use Rattle.perl.specs.declared.tokens.Letter.{Letter}
-use Rattle.perl.specs.declared.tokens.Letter.TheVariants.{Taken, Unknown}
 use Rattle.perl.specs.Tokens.{max_template_count, max_depth, max_repeat, letter_of, number_in, digits_in, repeat_of}
 use Rattle.perl.specs.Template.{Template, Item, done, group, ReadTo, read, stray, letter_at, group_at, item_at, Piece, space, close, item, bad, piece_from, piece_at, piece_extra, is_item, and_then, piece_then, sequence}
 use Rattle.perl.specs.inside.Readers.{items_from, item_from}
@@ -33,10 +34,10 @@ StepEnds at end close = Unit {0}
 StepEnds at end (item i e) = (at < e) × (e ≤ end)
 StepEnds at end (bad p) = (at ≤ p) × (p ≤ end)
 
-letter-ends : (at : ℕ) (l : Letter) (cs : List ℕ) → ItemEnds at (suc at + length cs) (letter_at at l cs)
+letter-ends : (at : ℕ) (l : Option Letter) (cs : List ℕ) → ItemEnds at (suc at + length cs) (letter_at at l cs)
 unfolding letter_at
-letter-ends at (Taken b u) cs = (omega arith, omega (arith, digits-within max_template_count 0 cs))
-letter-ends at Unknown cs = (omega arith, omega arith)
+letter-ends at (Some l) cs = (omega arith, omega (arith, digits-within max_template_count 0 cs))
+letter-ends at None cs = (omega arith, omega arith)
 
 group-ends : (depth at : ℕ) (cs : List ℕ) (r : ReadTo Template) → Ends (suc depth) (suc at) (suc at + length cs) r → ItemEnds at (suc at + length cs) (group_at at cs r)
 unfolding group_at
@@ -186,11 +187,13 @@ module _ (depth : ℕ) (text : List ℕ) where
           pub from-close : (depth ≡ 0 → ⊥) → filled ≡ true → items_from depth filled text at ≡ read done at
           from-close d f = at_byte close (here-close ∙ (rw (lt-ltb 0 depth (omega arith), f)))
 
-          pub from-unopened : depth ≡ 0 → items_from depth filled text at ≡ stray at
-          from-unopened d = at_byte (bad at) (here-close ∙ (rw (le-ltb 0 depth (omega arith))))
-
-          pub from_empty : (depth ≡ 0 → ⊥) → filled ≡ false → items_from depth filled text at ≡ stray at
-          from_empty d f = at_byte (bad at) (here-close ∙ (rw (lt-ltb 0 depth (omega arith), f)))
+          pub from-bare : (0 < depth → filled ≡ true → ⊥) → items_from depth filled text at ≡ stray at
+          from-bare h = at_byte (bad at) (here-close ∙ go depth filled h)
+            where
+              go : (n : ℕ) (b : Bool) → (0 < n → b ≡ true → ⊥) → (if ltb 0 n && b then close else bad at) ≡ bad at
+              go zero b h = refl
+              go (suc n) false h = rw and-false
+              go (suc n) true h = absurd (h (omega arith) refl)
 
         module _ (no-close : get_or text at 0 ≡ 41 → ⊥) where
           here-item : here ≡ piece_from (item_from depth text at)

@@ -10,7 +10,6 @@ use lib.Dec.{ltb, leb}
 use lib.ListN.{length, get_or, drop, drop_of_length-le}
 use lib.Seq.{drop-cons}
 use Rattle.layout.specs.Layout.{is_decimal}
-use Rattle.layout.proofs.Steps.{is-decimal}
 use Rattle.perl.specs.Tokens.{max_repeat, with_digit, continues, number_in, digits_in, repeat_of}
 
 -- ---- whether a digit continues a number
@@ -20,10 +19,10 @@ module _ (limit v c : ℕ) where
   unfolding continues
   no_digit e = rw e
 
-  module _ (low : 48 ≤ c) (high : c ≤ 57) where
+  module _ (digit : is_decimal c ≡ true) where
     pub makes-zero : with_digit v c ≡ 0 → continues limit v c ≡ false
     unfolding continues
-    makes-zero e = rw (is-decimal c low high, le-ltb 0 (with_digit v c) (omega arith))
+    makes-zero e = rw (digit, le-ltb 0 (with_digit v c) (omega arith))
 
     pub too_large : limit < with_digit v c → continues limit v c ≡ false
     unfolding continues
@@ -31,7 +30,7 @@ module _ (limit v c : ℕ) where
 
     pub goes_on : (with_digit v c ≡ 0 → ⊥) → with_digit v c ≤ limit → continues limit v c ≡ true
     unfolding continues
-    goes_on e h = rw (is-decimal c low high, lt-ltb 0 (with_digit v c) (omega arith), le-leb (with_digit v c) limit h)
+    goes_on e h = rw (digit, lt-ltb 0 (with_digit v c) (omega arith), le-leb (with_digit v c) limit h)
 
 -- ---- the number from the place i on
 
@@ -59,10 +58,6 @@ digits-within limit v (c ∷ cs) = step (continues limit v c) (digits-within lim
     step : (t : Bool) → digits_in limit (with_digit v c) cs ≤ length cs → (if t then suc (digits_in limit (with_digit v c) cs) else 0) ≤ suc (length cs)
     step true h = omega arith
     step false h = omega arith
-
-pub repeat-given : (v : ℕ) → (v ≡ 0 → ⊥) → v ≡ repeat_of v
-repeat-given zero h = absurd (h refl)
-repeat-given (suc v) h = refl
 
 pub number-limit : (limit v : ℕ) (cs : List ℕ) → v ≤ limit → number_in limit v cs ≤ limit
 unfolding number_in continues

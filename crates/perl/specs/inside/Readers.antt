@@ -1,10 +1,13 @@
 -- What the readers of the code promise: the definitions' readings at a place, and their layout text in a block of as
 -- many bytes as a layout may have.
-use Rattle.std.specs.Prelude.{ℕ, suc, ◌+◌, ◌≤◌, min, ◌≡◌, Bool, false, List, length, drop, get_or}
+use Rattle.std.specs.declared.option.Option.{Option}
+use Rattle.std.specs.declared.option.Option.TheVariants.{Some, None}
+use Rattle.std.specs.declared.result.Result as Std
+use Rattle.std.specs.declared.result.Result.TheVariants.{Ok, Err}
+use Rattle.std.specs.Prelude.{ℕ, suc, ◌+◌, ◌≤◌, ◌≡◌, Bool, false, List, length, drop, get_or, leb, if◌then◌else◌}
 use Rattle.layout.specs.Layout.{max_layout}
 use Rattle.record.specs.Bytes.{store_at}
 use Rattle.perl.specs.declared.items.Span.{Span}
-use Rattle.perl.specs.declared.items.Span.TheVariants.{Read, Stray}
 use Rattle.perl.specs.Template.{Template, Item, ReadTo, read, stray, item_at, sequence}
 use Rattle.perl.specs.Writing.{repeated, written_out, written_out_item, text_of}
 
@@ -28,25 +31,39 @@ unfoldable pub item_text : Item → List ℕ
 unfolding text_of written_out
 item_text i = text_of (written_out_item i)
 
--- The text s was put over the block `old` from the place `to` on, and the next one goes to the place `end`. Where s
--- does not fit, the end is held at one byte more than the block has, and the block may hold anything.
-pub record Stored (s : List ℕ) (to : ℕ) (old : List ℕ) (end : ℕ) (new : List ℕ) : Type 0 where
-  pub place : end ≡ min (suc max_layout) (to + length s)
-  pub long : length new ≡ length old
-  pub bytes : to + length s ≤ max_layout → new ≡ store_at old to s
+-- where text that would go on to the place n ends in the block: at no place where it runs over
+abbrev pub placed : ℕ → Option ℕ
+placed n = if leb n max_layout then Some n else None
 
--- whatever text was stored up to the place `end` is now stored `times` times, up to the place `all`
-abbrev pub Again : ℕ → ℕ → List ℕ → ℕ → ℕ → List ℕ → Type 0
+-- the end of a text as a number, one past the block where it has run over
+abbrev pub held : Option ℕ → ℕ
+held (Some n) = n
+held None = suc max_layout
+
+abbrev pub Inside : Option ℕ → Type 0
+Inside (Some n) = n ≤ max_layout
+Inside None = Unit {0}
+
+-- The text s was put over the block `old` from the end `to` on, and the next one goes to `end`. Where s does not fit,
+-- that is no place, and the block may hold anything.
+pub record Stored (s : List ℕ) (to : Option ℕ) (old : List ℕ) (end : Option ℕ) (new : List ℕ) : Type 0 where
+  pub place : end ≡ placed (held to + length s)
+  pub long : length new ≡ length old
+  pub bytes : held to + length s ≤ max_layout → new ≡ store_at old (held to) s
+
+-- whatever text was stored up to `end` is now stored `times` times, up to `all`
+abbrev pub Again : Option ℕ → Option ℕ → List ℕ → ℕ → Option ℕ → List ℕ → Type 0
 Again to end old times all new = (s d : List ℕ) → Stored s to d end old → Stored (repeated times s) to d all new
 
 -- what a reader says that has put the text of what it read into the block from `to` on, or found a stray byte
-unfoldable pub span_from : {A : Type 0} → (A → List ℕ) → ℕ → ReadTo A → Span
-span_from text to (read a next) = Read next (min (suc max_layout) (to + length (text a)))
-span_from text to (stray p) = Stray p
+unfoldable pub span_from : {A : Type 0} → (A → List ℕ) → Option ℕ → ReadTo A → Std.Result Span ℕ
+span_from text to (read a next) = Ok (record { next = next; end = placed (held to + length (text a)) })
+span_from text to (stray p) = Err p
 
 -- what a reader says as r, and what it leaves in the block: the text of what it read, where that has room
-pub record Written {A : Type 0} (text : A → List ℕ) (o : ReadTo A) (to : ℕ) (old : List ℕ) (r : Span) (new : List ℕ) :
-    Type 0 where
+pub record Written {A : Type 0} (text : A → List ℕ) (o : ReadTo A) (to : Option ℕ) (old : List ℕ)
+    (r : Std.Result Span ℕ) (new : List ℕ) : Type 0 where
   pub says : r ≡ span_from text to o
   pub long : length new ≡ length old
-  pub bytes : (a : A) (next : ℕ) → o ≡ read a next → to + length (text a) ≤ max_layout → new ≡ store_at old to (text a)
+  pub bytes : (a : A) (next : ℕ) → o ≡ read a next → held to + length (text a) ≤ max_layout
+      → new ≡ store_at old (held to) (text a)

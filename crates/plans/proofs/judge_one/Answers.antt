@@ -6,6 +6,7 @@ use Rattle.layout.specs.Codes.{flag_unit}
 use Rattle.layout.proofs.Numbered.{meaning-data}
 use Rattle.plans.specs.Plans.{is_type}
 use Rattle.plans.proofs.Fields.{type-data, type-spare, type-gap, type-past, type-move, judged-type, judged-over, judged-misused, judged-good}
+use Rattle.plans.proofs.judge_one.Goals.{then-d-lt-SKIP-via-then-d-lt-SKIP, then-d-lt-SKIP-via-else-d-lt-SKIP+then-d-gt-LAST_TYPE}
 use Rattle.plans.proofs.judge_one.Goals as goal
 
 pub returns-then-d-eq-SPARE : goal.returns-then-d-eq-SPARE
@@ -18,10 +19,11 @@ pub returns-then-d-le-LAST_DATA : goal.returns-then-d-le-LAST_DATA
 returns-then-d-le-LAST_DATA c = judged-good _ _ (type-data _ c.if-d-le-LAST_DATA.true c.if-d-eq-SPARE.false) c.if-w-ge-END_COUNT.false (sym (meaning-data _ _ _ c.if-d-le-LAST_DATA.true))
 
 pub returns-then-d-lt-SKIP : goal.returns-then-d-lt-SKIP
-returns-then-d-lt-SKIP c = judged-type _ _ (type-gap _ c.if-d-le-LAST_DATA.false c.if-d-lt-SKIP.true)
-
-pub returns-then-d-gt-LAST_TYPE : goal.returns-then-d-gt-LAST_TYPE
-returns-then-d-gt-LAST_TYPE c = judged-type _ _ (type-past _ c.if-d-le-LAST_DATA.false c.if-d-gt-LAST_TYPE.true)
+returns-then-d-lt-SKIP c =
+    elim c.then-d-lt-SKIP.branch [
+      | then-d-lt-SKIP-via-then-d-lt-SKIP w ↦ judged-type _ _ (type-gap _ c.if-d-le-LAST_DATA.false w.if-d-lt-SKIP.true)
+      | then-d-lt-SKIP-via-else-d-lt-SKIP+then-d-gt-LAST_TYPE w ↦ judged-type _ _ (type-past _ c.if-d-le-LAST_DATA.false w.if-d-gt-LAST_TYPE.true)
+    ]
 
 pub returns-then-w-ge-END_COUNT-2 : goal.returns-then-w-ge-END_COUNT-2
 returns-then-w-ge-END_COUNT-2 c =

@@ -1,62 +1,72 @@
 -- The place of the first field that differs, then of the first that is not plain, of the first that takes a slot too
 -- many and of the first that ends too far; and where there is none of them, the fields are counted.
-use mathlib.Core.Path.{◌≡◌, sym}
 use native.Mathlib.Omega.{arith}
-use Prim.Native.Nat.{◌≤◌, ◌<◌}
+use mathlib.Core.Path.{sym, subst}
 use lib.ListN.{length}
-use Rattle.layout.specs.inside.Parsing.{decoded}
 use Rattle.layout.proofs.Decoded.{decoded-length}
+use Rattle.promises.specs.Promises.{is_plain, in_table, in_record}
+use Rattle.promises.specs.inside.Walk.{Short, BreaksAt}
 use Rattle.promises.proofs.Calls.{grown-differs, grown-breaks, grown-slots, grown-room, grown-told, grown-few}
 use Rattle.promises.proofs.grown.Goals as goal
 
-pub returns-then-k-m : goal.returns-then-k-m
-returns-then-k-m c =
-    let long : length (decoded c.args.m c.args.old.now) ≡ c.args.m = decoded-length c.args.m c.args.old.now c.requires.0 in
-    let fewer : c.same_front-k.result < length (decoded c.args.m c.args.old.now) = omega (arith, long, c.if-k-m.true) in
-    rw c.refused.ensures
-    (grown-differs _ _ _ c.requires.2 _ _ c.same_front-k.ensures _ (fewer) c.place_of.ensures)
+pub returns-then-k-old : goal.returns-then-k-old
+returns-then-k-old c =
+    let long = decoded-length (length c.args.old.now) c.args.old.now (omega arith) in
+    rw (c.refused.ensures, c.at.ensures)
+    (grown-differs _ _ c.requires.1 _ _ c.same_front-k.ensures _ (omega (arith, long, c.if-k-old.true)) c.place_of.ensures)
 
-pub returns-then-plain : goal.returns-then-plain
-returns-then-plain c =
-    let long : length (decoded c.args.m c.args.old.now) ≡ c.args.m = decoded-length c.args.m c.args.old.now c.requires.0 in
-    let enough : length (decoded c.args.m c.args.old.now) ≤ c.same_front-k.result = omega (arith, long, c.if-k-m.false) in
-    rw c.refused-then-plain.ensures
-    (grown-breaks _ _ _ c.requires.2 _ _ c.same_front-k.ensures
-    (enough) _ c.first_break-plain.ensures c.if-plain.true)
+pub refused-requires-in-Some : goal.refused-requires-in-Some
+refused-requires-in-Some c =
+    let plain : BreaksAt c.args.text.now is_plain c.first_break.result = c.first_break.ensures is_plain (λ r f b e. e.2) in
+    rw c.at-in-Some.ensures (subst Short c.in-Some.is plain.short)
 
-pub returns-then-slots : goal.returns-then-slots
-returns-then-slots c =
-    let long : length (decoded c.args.m c.args.old.now) ≡ c.args.m = decoded-length c.args.m c.args.old.now c.requires.0 in
-    let enough : length (decoded c.args.m c.args.old.now) ≤ c.same_front-k.result = omega (arith, long, c.if-k-m.false) in
-    rw c.refused-then-slots.ensures
-    (grown-slots _ _ _ c.requires.2 _ _ c.same_front-k.ensures
-    (enough) _ c.first_break-plain.ensures c.if-plain.false
-    _ c.first_break-slots.ensures c.if-slots.true)
+pub returns-in-Some : goal.returns-in-Some
+returns-in-Some c =
+    let long = decoded-length (length c.args.old.now) c.args.old.now (omega arith) in
+    let plain : BreaksAt c.args.text.now is_plain c.first_break.result = c.first_break.ensures is_plain (λ r f b e. e.2) in
+    rw (c.refused-in-Some.ensures, c.at-in-Some.ensures)
+    (grown-breaks _ _ c.requires.1 _ _ c.same_front-k.ensures (omega (arith, long, c.if-k-old.false)) plain _ c.in-Some.is (subst Short c.in-Some.is plain.short))
 
-pub returns-then-room : goal.returns-then-room
-returns-then-room c =
-    let long : length (decoded c.args.m c.args.old.now) ≡ c.args.m = decoded-length c.args.m c.args.old.now c.requires.0 in
-    let enough : length (decoded c.args.m c.args.old.now) ≤ c.same_front-k.result = omega (arith, long, c.if-k-m.false) in
-    rw c.refused-then-room.ensures
-    (grown-room _ _ _ c.requires.2 _ _ c.same_front-k.ensures
-    (enough) _ c.first_break-plain.ensures c.if-plain.false
-    _ c.first_break-slots.ensures c.if-slots.false _ c.first_break-room.ensures c.if-room.true)
+pub refused-requires-in-Some-first_break : goal.refused-requires-in-Some-first_break
+refused-requires-in-Some-first_break c =
+    let table : BreaksAt c.args.text.now in_table c.first_break-2.result = c.first_break-2.ensures in_table (λ r f b e. e.2) in
+    rw c.at-in-Some-first_break.ensures (subst Short c.in-Some-first_break.is table.short)
 
-pub overflow_sub-n : goal.overflow_sub-n
-overflow_sub-n c =
-    let long : length (decoded c.args.m c.args.old.now) ≡ c.args.m = decoded-length c.args.m c.args.old.now c.requires.0 in
-    let long : length (decoded c.args.m c.args.old.now) ≡ c.args.m = decoded-length c.args.m c.args.old.now c.requires.0 in
-    let enough : length (decoded c.args.m c.args.old.now) ≤ c.same_front-k.result = omega (arith, long, c.if-k-m.false) in
-    let few = enough in
-    omega (arith, long, grown-few _ _ _ c.requires.2 _ _ c.same_front-k.ensures few)
+pub returns-in-Some-first_break : goal.returns-in-Some-first_break
+returns-in-Some-first_break c =
+    let long = decoded-length (length c.args.old.now) c.args.old.now (omega arith) in
+    let plain : BreaksAt c.args.text.now is_plain c.first_break.result = c.first_break.ensures is_plain (λ r f b e. e.2) in
+    let table : BreaksAt c.args.text.now in_table c.first_break-2.result = c.first_break-2.ensures in_table (λ r f b e. e.2) in
+    rw (c.refused-in-Some-first_break.ensures, c.at-in-Some-first_break.ensures)
+    (grown-slots _ _ c.requires.1 _ _ c.same_front-k.ensures (omega (arith, long, c.if-k-old.false)) plain c.in_default.is table _
+    c.in-Some-first_break.is (subst Short c.in-Some-first_break.is table.short))
+
+pub refused-requires-in-Some-first_break-2 : goal.refused-requires-in-Some-first_break-2
+refused-requires-in-Some-first_break-2 c =
+    let room : BreaksAt c.args.text.now in_record c.first_break-3.result = c.first_break-3.ensures in_record (λ r f b e. e.2) in
+    rw c.at-in-Some-first_break-2.ensures (subst Short c.in-Some-first_break-2.is room.short)
+
+pub returns-in-Some-first_break-2 : goal.returns-in-Some-first_break-2
+returns-in-Some-first_break-2 c =
+    let long = decoded-length (length c.args.old.now) c.args.old.now (omega arith) in
+    let plain : BreaksAt c.args.text.now is_plain c.first_break.result = c.first_break.ensures is_plain (λ r f b e. e.2) in
+    let table : BreaksAt c.args.text.now in_table c.first_break-2.result = c.first_break-2.ensures in_table (λ r f b e. e.2) in
+    let room : BreaksAt c.args.text.now in_record c.first_break-3.result = c.first_break-3.ensures in_record (λ r f b e. e.2) in
+    rw (c.refused-in-Some-first_break-2.ensures, c.at-in-Some-first_break-2.ensures)
+    (grown-room _ _ c.requires.1 _ _ c.same_front-k.ensures (omega (arith, long, c.if-k-old.false)) plain c.in_default.is table
+    c.in_default-first_break.is room _ c.in-Some-first_break-2.is (subst Short c.in-Some-first_break-2.is room.short))
+
+pub overflow_sub-new : goal.overflow_sub-new
+overflow_sub-new c =
+    let long = decoded-length (length c.args.old.now) c.args.old.now (omega arith) in
+    omega (arith, long, grown-few _ _ c.requires.1 _ _ c.same_front-k.ensures (omega (arith, long, c.if-k-old.false)))
 
 pub returns : goal.returns
 returns c =
-    let long : length (decoded c.args.m c.args.old.now) ≡ c.args.m = decoded-length c.args.m c.args.old.now c.requires.0 in
-    let long : length (decoded c.args.m c.args.old.now) ≡ c.args.m = decoded-length c.args.m c.args.old.now c.requires.0 in
-    let enough : length (decoded c.args.m c.args.old.now) ≤ c.same_front-k.result = omega (arith, long, c.if-k-m.false) in
+    let long = decoded-length (length c.args.old.now) c.args.old.now (omega arith) in
+    let plain : BreaksAt c.args.text.now is_plain c.first_break.result = c.first_break.ensures is_plain (λ r f b e. e.2) in
+    let table : BreaksAt c.args.text.now in_table c.first_break-2.result = c.first_break-2.ensures in_table (λ r f b e. e.2) in
+    let room : BreaksAt c.args.text.now in_record c.first_break-3.result = c.first_break-3.ensures in_record (λ r f b e. e.2) in
     rw c.accepted.ensures
-    (grown-told _ _ _ c.requires.2 _ _ c.same_front-k.ensures
-    (enough) _ c.first_break-plain.ensures c.if-plain.false
-    _ c.first_break-slots.ensures c.if-slots.false
-    _ c.first_break-room.ensures c.if-room.false _ (sym (long)))
+    (grown-told _ _ c.requires.1 _ _ c.same_front-k.ensures (omega (arith, long, c.if-k-old.false)) plain c.in_default.is table
+    c.in_default-first_break.is room c.in_default-first_break-2.is _ (sym long))

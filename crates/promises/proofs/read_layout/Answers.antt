@@ -3,7 +3,7 @@ use Rattle.promises.proofs.Calls.{read-long, read_short}
 use Rattle.promises.proofs.read_layout.Goals as goal
 
 pub returns-then-text-gt-MAX_LAYOUT : goal.returns-then-text-gt-MAX_LAYOUT
-returns-then-text-gt-MAX_LAYOUT c = read-long _ c.if-text-gt-MAX_LAYOUT.true
+returns-then-text-gt-MAX_LAYOUT c = rw c.at.ensures (read-long _ c.if-text-gt-MAX_LAYOUT.true)
 
 pub returns : goal.returns
 returns c = read_short _ _ _ c.if-text-gt-MAX_LAYOUT.false c.parse.ensures

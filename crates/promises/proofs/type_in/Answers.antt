@@ -1,20 +1,22 @@
 -- Each way out is the law of a range of numbers.
-use Rattle.layout.specs.Codes.{field_of}
+use Prim.Native.Nat.{◌%◌}
+use native.Mathlib.Omega.{arith}
+use Rattle.layout.specs.Codes.{flag_unit, field_of}
 use Rattle.promises.proofs.Same.{type-low, type-skip, type-goto, type-rest}
 use Rattle.promises.proofs.type_in.Goals as goal
 
-pub returns-then-d-le-LAST_DATA : goal.returns-then-d-le-LAST_DATA
+pub returns-in-0-to-17 : goal.returns-in-0-to-17
 unfolding field_of
-returns-then-d-le-LAST_DATA c = type-low _ c.if-d-le-LAST_DATA.true
+returns-in-0-to-17 c = type-low _ (omega arith)
 
-pub returns-then-d-eq-SKIP : goal.returns-then-d-eq-SKIP
+pub returns-in-24 : goal.returns-in-24
 unfolding field_of
-returns-then-d-eq-SKIP c = type-skip _ c.if-d-eq-SKIP.true
+returns-in-24 c = type-skip _ (omega arith)
 
-pub returns-then-d-eq-GOTO : goal.returns-then-d-eq-GOTO
+pub returns-in-26 : goal.returns-in-26
 unfolding field_of
-returns-then-d-eq-GOTO c = type-goto _ c.if-d-eq-GOTO.true
+returns-in-26 c = type-goto _ (omega arith)
 
-pub returns : goal.returns
+pub returns-in_default : goal.returns-in_default
 unfolding field_of
-returns c = type-rest _ c.if-d-le-LAST_DATA.false c.if-d-eq-SKIP.false c.if-d-eq-GOTO.false
+returns-in_default c = type-rest (c.args.code % flag_unit) (omega arith) (λ e. omega arith) (λ e. omega arith)

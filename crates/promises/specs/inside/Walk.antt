@@ -1,26 +1,33 @@
 -- What the functions inside the two calls compute: numbers of fields at the front of a layout, and the place of one.
-use Rattle.std.specs.Prelude.{ℕ, suc, ◌+◌, ◌*◌, ◌/◌, ◌^◌, ◌≤◌, ◌<◌, ◌≡◌, true, List, [], ◌∷◌, length, leb, if◌then◌else◌}
+use Rattle.std.specs.Prelude.{ℕ, suc, ◌+◌, ◌*◌, ◌/◌, ◌^◌, ◌≤◌, ◌<◌, ◌≡◌, Bool, true, List, [], ◌∷◌, length, take, leb, if◌then◌else◌}
 use Rattle.layout.specs.declared.Role.{Role}
 use Rattle.layout.specs.declared.Role.TheVariants.{Data, Move}
 use Rattle.layout.specs.declared.Motion.TheVariants.{Skip, Back, Goto}
 use Rattle.layout.specs.declared.Shape.TheVariants.{Text, Digits, Integers, Reals}
 use Rattle.layout.specs.declared.Field.{Field}
-use Rattle.layout.specs.declared.Parsed.{Parsed}
-use Rattle.layout.specs.declared.Parsed.TheVariants.{Fields, Refused}
+use Rattle.layout.specs.declared.Fields.{Fields}
+use Rattle.layout.specs.declared.Refused.{Refused}
+use Rattle.std.specs.declared.option.Option.{Option}
+use Rattle.std.specs.declared.option.Option.TheVariants.{Some, None}
+use Rattle.std.specs.declared.result.Result as Std
+use Rattle.std.specs.declared.result.Result.TheVariants.{Ok, Err}
 use Rattle.layout.specs.Refusals.{ok, refused}
 use Rattle.layout.specs.Layout.{max_layout, to_nat, fields_of}
 use Rattle.layout.specs.Codes.{skip_number, back_number, goto_number}
 use Rattle.layout.specs.inside.Parsing.{decoded}
-use Rattle.promises.specs.declared.Promise.{Promise}
 use Rattle.promises.specs.declared.Reach.{Reach}
 use Rattle.promises.specs.declared.Told.{Told}
 use Rattle.promises.specs.Placed.{Placed, placed_fields, place_of}
-use Rattle.promises.specs.Promises.{reach_with, kept_by, first_break, same_field, in_layout, layout_fields, grown}
+use Rattle.promises.specs.Promises.{Promise, reach_with, nowhere, first_break, same_field, in_layout, layout_fields, grown}
+
+-- a test whose answers are those of the promise q
+abbrev pub Judges : (Reach → Field → Bool → Type 0) → Promise → Type 0
+Judges told q = (r : Reach) (f : Field) (b : Bool) → told r f b → b ≡ q r f
 
 -- how many fields at the front keep a promise, where the fields before have come as far as r
 unfoldable pub kept_front : Promise → Reach → List Field → ℕ
 kept_front q r [] = 0
-kept_front q r (f ∷ fs) = if kept_by q (reach_with r f) f then suc (kept_front q (reach_with r f) fs) else 0
+kept_front q r (f ∷ fs) = if q (reach_with r f) f then suc (kept_front q (reach_with r f) fs) else 0
 
 -- the most bytes that the field of a code can fill, since its count is below 2 ^ 23 (`FitCount` in
 -- crates/layout/specs/inside/Parsing.antt), and those of a layout: far below what a number of 64 bits holds
@@ -52,21 +59,31 @@ pub record PlaceOf (text : List ℕ) (k r : ℕ) : Type 0 where
   pub within : r ≤ length text
   pub same : (ps : List Placed) → placed_fields text ≡ ok ps → r ≡ place_of (length text) ps k
 
--- the codes hold n fields, which are those of the text
-pub record Holds (text : List ℕ) (n : ℕ) (ws : List ℕ) : Type 0 where
-  pub few : n ≤ length ws
+-- the codes are the fields of the text
+pub record Holds (text : List ℕ) (ws : List ℕ) : Type 0 where
   pub room : length ws ≤ max_layout
   pub short : length text ≤ max_layout
-  pub fields : fields_of true text ≡ ok (decoded n ws)
+  pub fields : fields_of true text ≡ ok (decoded (length ws) ws)
 
 -- what is read of a layout: its refusal, or the codes of its fields
-abbrev pub ReadAs : List ℕ → Parsed → List ℕ → Type 0
-ReadAs text (Refused why place) ws = (layout_fields text ≡ refused why place) × (place < max_layout)
-ReadAs text (Fields n slots) ws = Holds text n ws
+abbrev pub ReadAs : List ℕ → Std.Result Fields Refused → List ℕ → Type 0
+ReadAs text (Err e) ws = (layout_fields text ≡ refused e.why e.place) × (e.place < max_layout)
+ReadAs text (Ok f) ws = (f.count ≤ length ws) × Holds text (take f.count ws)
 
--- r is the place of the first field of the text that breaks a promise
-abbrev pub BreaksAt : List ℕ → Promise → ℕ → Type 0
-BreaksAt text q r = (ps : List Placed) → placed_fields text ≡ ok ps → r ≡ first_break q ps
+-- the number that a place has in an answer
+abbrev pub place_number : Option ℕ → ℕ
+place_number (Some p) = p
+place_number None = nowhere
+
+-- a place lies in a layout, or is its end
+abbrev pub Short : Option ℕ → Type 0
+Short (Some p) = p ≤ max_layout
+Short None = Unit {0}
+
+-- r is the place of the first field of the text that breaks a promise, and none where all fields keep it
+pub record BreaksAt (text : List ℕ) (q : Promise) (r : Option ℕ) : Type 0 where
+  pub short : Short r
+  pub same : (ps : List Placed) → placed_fields text ≡ ok ps → place_number r ≡ first_break q ps
 
 -- r is what is answered of the old fields and of the fields of the new text
 abbrev pub GrownAs : List ℕ → List Field → Told → Type 0

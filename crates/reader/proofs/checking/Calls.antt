@@ -1,19 +1,24 @@
 -- What each test of a call says of the reading, and what each way out of the check answers.
 use Prim.Native.Nat.{ℕ, ◌+◌, ◌-◌, ◌*◌, ◌/◌, ◌≤◌, ◌<◌}
 use native.Mathlib.Omega.{arith}
-use mathlib.Core.Path.{◌≡◌, ◌∙◌}
+use native.Mathlib.Nat.{le_refl}
+use mathlib.Core.Path.{◌≡◌, sym, ap, ◌∙◌}
 use mathlib.Core.Bool.{true, false}
 use mathlib.Core.List.{List}
 use borrow.Author.Tests.{leb-true, le-leb, lt-leb, lt-ltb, le-ltb}
 use lib.Dec.{leb}
-use lib.ListN.{length}
+use lib.ListN.{length, take}
+use lib.Seq.{length-take-le}
+use Rattle.std.specs.declared.result.Result as Std
+use Rattle.std.specs.declared.result.Result.TheVariants.{Ok, Err}
 use Rattle.layout.specs.declared.Field.{Field}
 use Rattle.layout.specs.declared.Refusal.{Refusal}
 use Rattle.layout.specs.declared.Refusal.TheVariants.{BadSize, BadSlots, NoRoom}
 use Rattle.layout.specs.Refusals.{Result, ok, refused}
 use Rattle.layout.specs.Layout.{max_layout, fields_of, slot_count}
 use Rattle.layout.specs.inside.Parsing.{decoded}
-use Rattle.layout.proofs.Decoded.{Learnt}
+use Rattle.layout.specs.declared.Refused.{Refused}
+use Rattle.layout.proofs.Decoded.{Learnt, decoded-front}
 use Rattle.record.specs.declared.Answer.{Answer}
 use Rattle.record.proofs.Tables.{length-slots}
 use Rattle.record.proofs.Bytes.{and-true}
@@ -50,30 +55,37 @@ fit {layout} {slots} {bytes} {area} {mark} h =
 
 -- ---- numbers 5 and 11
 
-module _ (slots taken room size : ℕ) {r : Answer} where
-  pub fitting-slots : slots / slot_width < taken → r ≡ refusal BadSlots 0 → r ≡ fitting slots taken room size
-  unfolding fitting
-  fitting-slots h q = rw (lt-ltb _ _ h) q
+same-error : {r : Std.Result (Unit {0}) Refused} {d e : Refused} → r ≡ Err d → r ≡ Err e → d ≡ e
+same-error h k = cc (sym h ∙ k)
 
-  pub fitting-room : {m : ℕ} → taken ≤ slots / slot_width → m ≡ size → room < m → r ≡ refusal NoRoom 0 → r ≡ fitting slots taken room size
-  unfolding fitting
-  fitting-room h e k q = rw (le-ltb _ _ h, ← e, lt-ltb _ _ k) q
+pub not-both : {r : Std.Result (Unit {0}) Refused} {u : Unit {0}} {e : Refused} → r ≡ Ok u → r ≡ Err e → ⊥
+not-both h k = let z : ◌≡◌ {A = ℕ} 0 1 = cc (sym h ∙ k) in absurd (omega arith)
 
-  pub fitting-all : {m : ℕ} → taken ≤ slots / slot_width → m ≡ size → m ≤ room → r ≡ accepted taken 0 → r ≡ fitting slots taken room size
-  unfolding fitting
-  fitting-all h e k q = rw (le-ltb _ _ h, ← e, le-ltb _ _ k) q
+abbrev pub Fits : Type 0
+Fits = Std.Result (Unit {0}) Refused
+
+abbrev pub bad : Refusal → Fits
+bad why = Err (record { why = why; place = 0 })
 
 -- which of the three answers it is
-pub fitting-cases {ℓ} : {X : Type ℓ} (slots taken room size : ℕ) {r : Answer} → r ≡ fitting slots taken room size
-    → (slots / slot_width < taken → r ≡ refusal BadSlots 0 → X)
-    → (taken ≤ slots / slot_width → room < size → r ≡ refusal NoRoom 0 → X)
-    → (taken ≤ slots / slot_width → size ≤ room → r ≡ accepted taken 0 → X)
+pub fitting-cases {ℓ} : {X : Type ℓ} (slots taken room size : ℕ) {r : Fits} → r ≡ fitting slots taken room size
+    → (slots / slot_width < taken → r ≡ bad BadSlots → X)
+    → (taken ≤ slots / slot_width → room < size → r ≡ bad NoRoom → X)
+    → (taken ≤ slots / slot_width → size ≤ room → r ≡ Ok (tt {0}) → X)
     → X
 unfolding fitting
 fitting-cases slots taken room size e few lacks fits =
     split taken (slots / slot_width)
     (λ h. split size room (λ k. fits h k (rw (le-ltb _ _ h, le-ltb _ _ k) at e)) (λ k. lacks h k (rw (le-ltb _ _ h, lt-ltb _ _ k) at e)))
     (λ h. few h (rw (lt-ltb _ _ h) at e))
+
+-- a refusal is at no place
+pub fitting-place : (slots taken room size : ℕ) {r : Fits} {d : Refused} → r ≡ fitting slots taken room size → r ≡ Err d → d.place ≡ 0
+fitting-place slots taken room size e h =
+    fitting-cases slots taken room size e
+    (λ few q. ap (λ (x : Refused). x.place) (same-error h q))
+    (λ few lacks q. ap (λ (x : Refused). x.place) (same-error h q))
+    (λ few fits q. absurd (not-both q h))
 
 -- ---- what each test says of a reading by fields that stand in a run of `size` bytes or numbers
 
@@ -111,15 +123,15 @@ module _ (size : ℕ) (o : Result (List Field)) (bs slots area : List ℕ) (mark
           accepted-all = rw (sizes.test, l.fields, rows, le-leb _ _ inside)
 
       -- either answer of `fits`
-      pub fitted {ℓ} : {X : Type ℓ} {r : Answer} → r ≡ fitting (length slots) taken (length area - mark) (length (value_bytes (values_from bs 0 (decoded n ws))))
-          → ((why : Refusal) → reads_fields size o bs slots area mark ≡ refused why 0 → r ≡ refusal why 0 → 0 < r.number → X)
-          → (reads_fields size o bs slots area mark ≡ ok (values_from bs 0 (decoded n ws)) → r ≡ accepted taken 0 → X)
+      pub fitted {ℓ} : {X : Type ℓ} {r : Fits} → r ≡ fitting (length slots) taken (length area - mark) (length (value_bytes (values_from bs 0 (decoded n ws))))
+          → ((why : Refusal) → reads_fields size o bs slots area mark ≡ refused why 0 → r ≡ bad why → X)
+          → (reads_fields size o bs slots area mark ≡ ok (values_from bs 0 (decoded n ws)) → taken ≤ length slots / slot_width → r ≡ Ok (tt {0}) → X)
           → X
       fitted {r} e refuses accepts =
           fitting-cases (length slots) taken (length area - mark) (length (value_bytes (values_from bs 0 (decoded n ws)))) e
-          (λ few q. refuses BadSlots (slots-refuse few) q (rw q (omega arith)))
-          (λ enough lacks q. refuses NoRoom (room-refuses enough lacks) q (rw q (omega arith)))
-          (λ enough fits q. accepts (accepted-all enough fits) q)
+          (λ few q. refuses BadSlots (slots-refuse few) q)
+          (λ enough lacks q. refuses NoRoom (room-refuses enough lacks) q)
+          (λ enough fits q. accepts (accepted-all enough fits) enough q)
 
 -- ---- what each way out answers, and what each test says of a reading by a layout
 
@@ -142,9 +154,18 @@ module _ (layout bs slots area : List ℕ) (mark : ℕ) where
     unfolding reads
     parse-refuses e = fields-refuse (length layout) (fields_of false layout) bs slots area mark sizes e
 
-    pub check-fits : {n taken : ℕ} {ws : List ℕ} → Learnt (fields_of false layout) n taken ws → {r : Answer}
-        → r ≡ fitting (length slots) taken (length area - mark) (length (value_bytes (values_from bs 0 (decoded n ws))))
-        → r ≡ read_checked layout bs slots area mark
-    unfolding reads
-    check-fits l e =
-        fitted (length layout) (fields_of false layout) bs slots area mark sizes l e (λ why h q z. check-refused h q) (λ h q. check-accepted l h q)
+    module _ {n taken : ℕ} {ws : List ℕ} (l : Learnt (fields_of false layout) n taken ws) {r : Fits}
+        (e : r ≡ fitting (length slots) taken (length area - mark) (length (value_bytes (values_from bs 0 (decoded n ws))))) where
+      pub fits-refuse : {d : Refused} → r ≡ Err d → reads layout bs slots area mark ≡ refused d.why d.place
+      unfolding reads
+      fits-refuse {d} h =
+          fitted (length layout) (fields_of false layout) bs slots area mark sizes l e
+          (λ why k q. let same : d ≡ record { why = why; place = 0 } = same-error h q in rw same k)
+          (λ k few q. absurd (not-both q h))
+
+      pub fits-accept : {u : Unit {0}} → r ≡ Ok u → (reads layout bs slots area mark ≡ ok (values_from bs 0 (decoded n ws))) × (taken ≤ length slots / slot_width)
+      unfolding reads
+      fits-accept h =
+          fitted (length layout) (fields_of false layout) bs slots area mark sizes l e
+          (λ why k q. absurd (not-both h q))
+          (λ k few q. (k, few))

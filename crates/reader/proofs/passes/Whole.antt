@@ -1,7 +1,6 @@
 -- What a whole call leaves, by fields that stand in a run of `size` bytes or numbers: a refusal, or what a reading by
 -- the codes of the fields leaves.
-use Prim.Native.Nat.{ℕ, ◌-◌}
-use native.Mathlib.Omega.{arith}
+use Prim.Native.Nat.{ℕ}
 use mathlib.Core.Path.{◌≡◌, refl, ap, ◌∙◌}
 use mathlib.Core.List.{List}
 use lib.ListN.{length}
@@ -10,22 +9,18 @@ use Rattle.layout.specs.declared.Refusal.{Refusal}
 use Rattle.layout.specs.Refusals.{Result, ok, refused}
 use Rattle.layout.specs.inside.Parsing.{decoded}
 use Rattle.layout.proofs.Decoded.{Learnt}
-use Rattle.record.specs.declared.Answer.{Answer}
-use Rattle.record.specs.Table.{Value, value_bytes}
+use Rattle.record.specs.Table.{Value}
 use Rattle.record.specs.Packing.{refusal}
 use Rattle.record.specs.Reading.{positions_from, steps_from, reads_fields, put_into, ReadAll, with_steps, read_fields}
-use Rattle.reading.specs.inside.Run.{values_of}
 use Rattle.reading.specs.inside.Tables.{put_all}
-use Rattle.reader.specs.inside.Checks.{fitting}
-use Rattle.reader.proofs.checking.Calls.{Fit, fitted}
-use Rattle.reader.specs.inside.passes.{ReadReady, read_codes}
-use Rattle.reader.proofs.passes.Calls.{by-refusal, by-accepted}
+use Rattle.reader.proofs.checking.Calls.{Fit, Fits, fitted}
+use Rattle.reader.specs.inside.passes.{ReadReady, read_fitting, read_codes}
 
 module _ (size : ℕ) (o : Result (List Field)) (bs slots area : List ℕ) (mark : ℕ) where
-  pub fields-refused : {r : Answer} {why : Refusal} {p : ℕ} → reads_fields size o bs slots area mark ≡ refused why p → r ≡ refusal why p
-      → record { answer = record { answer = r; steps = 0 }; slots = slots; area = area } ≡ read_fields size o bs slots area mark
+  pub fields-refused : {why : Refusal} {p : ℕ} → reads_fields size o bs slots area mark ≡ refused why p
+      → record { answer = record { answer = refusal why p; steps = 0 }; slots = slots; area = area } ≡ read_fields size o bs slots area mark
   unfolding read_fields
-  fields-refused e q = rw (e, q)
+  fields-refused e = rw e
 
   fields-put : {e : ReadAll} {vs : List Value} {n taken : ℕ} {ws : List ℕ} → Learnt o n taken ws → reads_fields size o bs slots area mark ≡ ok vs
       → e ≡ with_steps (put_into slots area mark (positions_from (length bs) 0 (decoded n ws)) vs) (steps_from (length bs) 0 (decoded n ws)) → e ≡ read_fields size o bs slots area mark
@@ -37,11 +32,10 @@ module _ (size : ℕ) (o : Result (List Field)) (bs slots area : List ℕ) (mark
     pub fields_read : {e : ReadAll} → e ≡ read_codes n taken ws bs slots area mark → e ≡ read_fields size o bs slots area mark
     unfolding read_codes
     fields_read {e} q =
-        let a : Answer = fitting (length slots) taken (length area - mark) (length (value_bytes (values_of n ws bs))) in
         let all : ReadAll = put_all n ws bs slots area mark in
-        fitted size o bs slots area mark sizes l {r = a} refl
-        (λ why h x z. q ∙ by-refusal a all slots area (λ zero. absurd (omega arith)) ∙ fields-refused h x)
-        (λ h x. fields-put l h (q ∙ by-accepted a all slots area (ap (λ (y : Answer). y.number) x)))
+        fitted size o bs slots area mark sizes l refl
+        (λ why h x. q ∙ ap (λ (a : Fits). read_fitting a all slots area) x ∙ fields-refused h)
+        (λ h few x. fields-put l h (q ∙ ap (λ (a : Fits). read_fitting a all slots area) x))
 
     pub ready : ReadReady n taken ws bs slots area mark
     ready =

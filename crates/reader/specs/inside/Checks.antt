@@ -1,6 +1,9 @@
 -- The checks of a reading, before anything is written: THE EFFECT OF A CALL of `check`.
 use Rattle.std.specs.Prelude.{ℕ, ◌/◌, false, List, ltb, if◌then◌else◌}
+use Rattle.std.specs.declared.result.Result as Std
+use Rattle.std.specs.declared.result.Result.TheVariants.{Ok, Err}
 use Rattle.layout.specs.declared.Field.{Field}
+use Rattle.layout.specs.declared.Refused.{Refused}
 use Rattle.layout.specs.declared.Refusal.TheVariants.{BadSlots, NoRoom}
 use Rattle.layout.specs.Refusals.{Result, ok, refused, ◌>>=◌}
 use Rattle.layout.specs.Layout.{fields_of, slot_count}
@@ -20,8 +23,8 @@ read_checked layout bs slots area mark = check_answer (reads layout bs slots are
 
 -- numbers 5 and 11, where `slots` numbers of slots and `room` bytes of the area are lent, for fields of which `taken`
 -- take a slot and whose values have `size` bytes
-unfoldable pub fitting : ℕ → ℕ → ℕ → ℕ → Answer
+unfoldable pub fitting : ℕ → ℕ → ℕ → ℕ → Std.Result (Unit {0}) Refused
 fitting slots taken room size =
-    if ltb (slots / slot_width) taken then refusal BadSlots 0
-    else if ltb room size then refusal NoRoom 0
-    else accepted taken 0
+    if ltb (slots / slot_width) taken then Err (record { why = BadSlots; place = 0 })
+    else if ltb room size then Err (record { why = NoRoom; place = 0 })
+    else Ok (tt {0})

@@ -1,8 +1,11 @@
 -- A reading by the fields of the codes: once the fields are known.
-use Rattle.std.specs.Prelude.{ℕ, ◌-◌, ◌*◌, ◌/◌, ◌≤◌, ◌≡◌, Bool, ◌&&◌, ◌||◌, List, eqb, leb, length, if◌then◌else◌}
+use Rattle.std.specs.Prelude.{ℕ, ◌-◌, ◌*◌, ◌/◌, ◌≤◌, ◌≡◌, Bool, ◌&&◌, ◌||◌, List, leb, length}
 use Rattle.layout.specs.Layout.{max_layout, slot_count}
 use Rattle.layout.specs.inside.Parsing.{decoded}
-use Rattle.record.specs.declared.Answer.{Answer}
+use Rattle.std.specs.declared.result.Result as Std
+use Rattle.std.specs.declared.result.Result.TheVariants.{Ok, Err}
+use Rattle.layout.specs.declared.Refused.{Refused}
+use Rattle.record.specs.Packing.{refusal}
 use Rattle.record.specs.declared.ReadAnswer.{ReadAnswer}
 use Rattle.record.specs.Table.{slot_width, max_slots, max_record, max_area, value_bytes}
 use Rattle.record.specs.Reading.{ReadAll}
@@ -28,10 +31,11 @@ surely_read n taken codes bytes slots room =
     surely_fits n taken bytes slots room
     || (leb taken (slots / slot_width) && leb (value_bound bytes (decoded n codes)) room)
 
--- what a reading leaves that answers a: the values put in, as `all` has it, if they fit; and else all as lent
-abbrev pub read_fitting : Answer → ReadAll → List ℕ → List ℕ → ReadAll
-read_fitting a all slots area =
-    if eqb a.number 0 then all else record { answer = record { answer = a; steps = 0 }; slots = slots; area = area }
+-- what a reading leaves: the values put in, as `all` has it, if they fit; and else all as lent
+abbrev pub read_fitting : Std.Result (Unit {0}) Refused → ReadAll → List ℕ → List ℕ → ReadAll
+read_fitting (Ok u) all slots area = all
+read_fitting (Err e) all slots area =
+    record { answer = record { answer = refusal e.why e.place; steps = 0 }; slots = slots; area = area }
 
 unfoldable pub read_codes : ℕ → ℕ → List ℕ → List ℕ → List ℕ → List ℕ → ℕ → ReadAll
 unfolding fitting

@@ -2,11 +2,14 @@
 use Prim.Native.Nat.{ℕ, ◌+◌, ◌-◌, ◌*◌, ◌/◌, ◌%◌, ◌≤◌, ◌<◌}
 use native.Mathlib.Nat.{le_refl, le_trans, le-div_iff_mul-le, div-mul-le_self, mul-le-mul}
 use native.Mathlib.Omega.{arith}
-use mathlib.Core.Path.{◌≡◌, refl}
+use mathlib.Core.Path.{◌≡◌, refl, ap, ◌∙◌}
 use mathlib.Core.Bool.{Bool, true, false}
 use mathlib.Core.List.{List, [], ◌∷◌, map}
 use lib.Dec.{leb}
-use lib.ListN.{length, get_or, take, drop}
+use lib.ListN.{length, take}
+use lib.Seq.{take-length}
+use Rattle.std.specs.List.{sum_by}
+use Rattle.std.proofs.lemmas.List.Sums.{sum_by-cons}
 use Rattle.layout.specs.declared.Role.{Role}
 use Rattle.layout.specs.declared.Role.TheVariants.{Data, Move}
 use Rattle.layout.specs.declared.Shape.{Shape}
@@ -17,7 +20,7 @@ use Rattle.layout.specs.declared.Field.{Field}
 use Rattle.layout.specs.Layout.{takes_slot, to_nat}
 use Rattle.layout.specs.Codes.{last_text, last_digits, last_integers, last_data, field_of, count_from, flag_unit, count_unit}
 use Rattle.layout.specs.inside.Parsing.{shape_numbered, decoded, FitRole}
-use Rattle.layout.proofs.Decoded.{code_shape, code-count, code-slotless, next_field, no_field}
+use Rattle.layout.proofs.Decoded.{code_shape, code-count, code-slotless}
 use Rattle.layout.proofs.Numbered.{shape-text, shape-digits, shape-integers, shape-reals}
 use Rattle.record.specs.Bytes.{part, join}
 use Rattle.record.specs.Table.{area_bytes, value_bytes}
@@ -102,11 +105,14 @@ values-bound n ws bs = codes-bound bs 0 (take n ws)
 
 -- ---- the sum over the codes
 
-module _ (bytes n : ℕ) (ws : List ℕ) (few : n ≤ length ws) (i : ℕ) where
-  pub bound-next : i < n → value_bound bytes (drop i (decoded n ws)) ≡ field_bound bytes (field_of (get_or ws i 0)).role (field_of (get_or ws i 0)).count + value_bound bytes (drop (i + 1) (decoded n ws))
-  unfolding value_bound
-  bound-next l = rw (next_field n ws few i l)
+abbrev bound-of : ℕ → ℕ → ℕ
+bound-of bytes w = field_bound bytes (field_of w).role (field_of w).count
 
-  pub bound-end : n ≤ i → value_bound bytes (drop i (decoded n ws)) ≡ 0
-  unfolding value_bound
-  bound-end l = rw (no_field n ws few i l)
+sum-each : (bytes : ℕ) (ws : List ℕ) → sum_by (bound-of bytes) ws ≡ value_bound bytes (map field_of ws)
+unfolding value_bound
+sum-each bytes [] = refl
+sum-each bytes (w ∷ ws) = sum_by-cons (bound-of bytes) w ws ∙ ap (λ n. bound-of bytes w + n) (sum-each bytes ws)
+
+pub sum-bound : (bytes : ℕ) (ws : List ℕ) → sum_by (λ w. field_bound bytes (field_of w).role (field_of w).count) ws ≡ value_bound bytes (decoded (length ws) ws)
+unfolding decoded
+sum-bound bytes ws = rw (take-length ws) (sum-each bytes ws)

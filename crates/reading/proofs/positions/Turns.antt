@@ -1,5 +1,5 @@
 -- Laws of one field of the run, on plain values: sizes, where the cursor comes to, and the values that follow.
-use Prim.Native.Nat.{ℕ, zero, suc, ◌+◌, ◌-◌, ◌*◌, ◌/◌, ◌%◌, ◌≤◌, ◌<◌}
+use Prim.Native.Nat.{ℕ, suc, ◌+◌, ◌-◌, ◌*◌, ◌/◌, ◌%◌, ◌≤◌, ◌<◌}
 use native.Mathlib.Nat.{div-le_self, zero-add, add-zero}
 use native.Mathlib.Omega.{arith}
 use mathlib.Core.Path.{◌≡◌, refl, sym, ap, ◌∙◌}
@@ -16,11 +16,10 @@ use Rattle.layout.specs.declared.Motion.TheVariants.{Skip, Back, Goto}
 use Rattle.layout.specs.declared.Shape.{Shape}
 use Rattle.layout.specs.declared.Shape.TheVariants.{Text, Digits, Integers, Reals}
 use Rattle.layout.specs.declared.Count.{Count}
-use Rattle.layout.specs.declared.Count.TheVariants.{Times}
 use Rattle.layout.specs.declared.Field.{Field}
 use Rattle.layout.specs.Layout.{takes_slot, real_size}
 use Rattle.layout.specs.Codes.{last_data, field_of, count_from, flag_unit, count_unit}
-use Rattle.layout.specs.inside.Parsing.{shape_numbered, decoded, FieldOf}
+use Rattle.layout.specs.inside.Parsing.{shape_numbered, decoded}
 use Rattle.layout.proofs.Decoded.{next_field, no_field}
 use Rattle.record.specs.Table.{max_record, no_position, Value}
 use Rattle.record.specs.declared.Cursor.{Cursor}
@@ -41,12 +40,6 @@ items-in-fit (Reals single big) left = omega (arith, div-le_self left (real_size
 
 pub items-in-small : (s : Shape) (left : ℕ) → left ≤ max_record → items_in s left < 4294967296
 items-in-small s left h = omega (arith, items-in-fit s left)
-
--- a count's number from 2 on
-pub count-times : (n : ℕ) → (n ≡ 0 → ⊥) → (n ≡ 1 → ⊥) → count_from n ≡ Times (n - 2)
-count-times zero h k = absurd (h refl)
-count-times (suc zero) h k = absurd (k refl)
-count-times (suc (suc n)) h k = let e : n ≡ suc (suc n) - 2 = omega arith in ap Times e
 
 -- ---- the values from a field on
 
@@ -106,10 +99,6 @@ within : (k : Role) (n : Count) (c : Cursor) → c.at ≤ c.end → ((moved_by c
 unfolding moved_by
 within (Data s) n c h = (h, refl)
 within (Move m) n c h = (moved-within m n c.end c.at h, refl)
-
--- a move by a code's field is a move by the code
-pub moved_as : {code : ℕ} {r : Cursor} {f : Field} (c : Cursor) → FieldOf code f → r ≡ moved_by c f.role f.count → r ≡ moved_by c (field_of code).role (field_of code).count
-moved_as c f e = rw f.same at e
 
 -- the field of a code whose type takes a slot
 data-field : (w : ℕ) → w % flag_unit ≤ last_data → field_of w ≡ record { role = Data (shape_numbered (w % flag_unit)); unsigned = eqb (w / flag_unit % 2) 1; count = count_from (w / count_unit) }

@@ -1,17 +1,19 @@
 -- Laws of a field's value: how many items it has, and how many bytes of the area it takes.
-use Prim.Native.Nat.{ℕ, ◌+◌, ◌*◌, ◌%◌, ◌≤◌, ◌<◌}
+use Prim.Native.Nat.{ℕ, ◌+◌, ◌*◌, ◌≤◌, ◌<◌, ◌-◌}
 use native.Mathlib.Nat.{mul-le-mul, le_refl}
 use native.Mathlib.Omega.{arith}
 use mathlib.Core.Path.{◌≡◌, refl, sym, ap, ◌∙◌}
 use mathlib.Core.Bool.{Bool, true, false}
 use mathlib.Core.List.{List, map}
 use borrow.Author.Tests.{eq-eqb, ne_eqb}
-use lib.ListN.{length, length-take, length-map}
+use lib.ListN.{length, take, drop, length-take, length-drop, length-map}
+use borrow.Rule.Slice.PartMut.{put_mid}
+use Rattle.byte_runs.proofs.ByteLaws.{put-part}
 use Rattle.layout.specs.declared.Role.TheVariants.{Data}
 use Rattle.layout.specs.declared.Shape.{Shape}
 use Rattle.layout.specs.declared.Shape.TheVariants.{Text, Digits, Integers, Reals}
 use Rattle.record.specs.Bytes.{part, store_at, join, digits, ordered, ceil_div}
-use Rattle.record.specs.Table.{max_area, real, integer_size, integer_bytes, area_bytes, integer_kind}
+use Rattle.record.specs.Table.{real, integer_size, integer_bytes, area_bytes, integer_kind}
 use Rattle.record.specs.Geometry.{base, per_byte, bytes_for}
 use Rattle.record.specs.Reading.{trimmed, loaded, value_at}
 use Rattle.record.proofs.Bytes.{length_digits, length-ordered, length-join, length-pieces}
@@ -130,9 +132,6 @@ items-few (Reals single big) n h = omega (arith, reals-few single big n)
 pub inside-as : {bs : List ℕ} {at n : ℕ} {s t : Shape} → s ≡ t → Inside bs at s n → Inside bs at t n
 inside-as e h = rw e at h
 
-pub digits-limit : {bs : List ℕ} {at n : ℕ} {hex high : Bool} → Inside bs at (Digits hex high) n → n ≤ max_area
-digits-limit {n} {hex} h = omega (arith, digits-few hex n)
-
 below_two : (d : ℕ) → d < 2 → (d ≡ 1 → ⊥) → d ≡ 0
 below_two d h k = omega arith
 
@@ -184,11 +183,24 @@ module _ {bs : List ℕ} {at n : ℕ} where
         let k : to + length (area_bytes (value_at bs at t u n)) ≤ m = rw e at h in
         (inside-as e i, rw ((size-eights x (inside-as e i)).size u) k)
 
-    pub integers-asked : {w : ℕ} {big : Bool} → s ≡ Integers w big → 8 % w ≡ 0 → Inside bs at (Integers w big) n × ((to + n * 8 ≤ m) × (8 % w ≡ 0))
-    integers-asked {w} {big} e whole = let asked = eights-asked (integers-eight w big (inside-as e i).form) e in (asked.0, (asked.1, whole))
+    pub integers-asked : {w : ℕ} {big : Bool} → s ≡ Integers w big → Inside bs at (Integers w big) n × (to + n * 8 ≤ m)
+    integers-asked {w} {big} e = eights-asked (integers-eight w big (inside-as e i).form) e
 
     pub reals-asked : {single big : Bool} → s ≡ Reals single big → Inside bs at (Reals single big) n × (to + n * 8 ≤ m)
     reals-asked {single} {big} e = eights-asked (reals-eight single big) e
+
+  module _ (u : Bool) {to : ℕ} {before : List ℕ} where
+    pub loaded-digits : {hex high : Bool} {b : ℕ} {shown : List ℕ} → Inside bs at (Digits hex high) n → to + n ≤ length before → b ≡ ceil_div n (per_byte hex)
+        → shown ≡ (loaded (Digits hex high) u (length (take (to + n - to) (drop to before))) (take (at + b - at) (drop at bs))).items
+        → LoadedAs (value_at bs at (Digits hex high) u n) before to (record { kind = 1; items = n; size = n }) (put_mid to (to + n - to) before shown)
+    unfolding loaded area_bytes
+    loaded-digits {hex} {high} {b} {shown} h room e q =
+        let z : SizeOf bs at (Digits hex high) n n = size-digits h in
+        let long : length (take (to + n - to) (drop to before)) ≡ n = simp (length-take, length-drop) (omega arith) in
+        let given : at + b - at ≡ ceil_div n (per_byte hex) = omega arith in
+        let is : shown ≡ (value_at bs at (Digits hex high) u n).items = rw (long, given) at q in
+        let all : length shown ≡ to + n - to = omega (arith, ap length is, z.size u) in
+        record { kind = refl; items = z.size u; size = z.size u; few = z.small; area = put-part to (to + n - to) before shown all ∙ ap (store_at before to) is }
 
   module _ (u : Bool) {to : ℕ} {before after : List ℕ} where
     pub loaded-text : {pad r : ℕ} → Inside bs at (Text pad) n → TextOf bs at n pad r → after ≡ store_at before to (part bs at r)
@@ -203,13 +215,6 @@ module _ {bs : List ℕ} {at n : ℕ} where
           few = z.small;
           area = e ∙ ap (store_at before to) (x.items ∙ sym (text-bytes pad u n (part bs at n)));
         }
-
-    pub loaded-digits : {hex high : Bool} → Inside bs at (Digits hex high) n → after ≡ store_at before to (value_at bs at (Digits hex high) u n).items
-        → LoadedAs (value_at bs at (Digits hex high) u n) before to (record { kind = 1; items = n; size = n }) after
-    unfolding loaded area_bytes
-    loaded-digits {hex} {high} h e =
-        let z : SizeOf bs at (Digits hex high) n n = size-digits h in
-        record { kind = refl; items = z.size u; size = z.size u; few = z.small; area = e }
 
     loaded-eights : {s : Shape} {k : ℕ} → Eights s → Inside bs at s n → k ≡ (value_at bs at s u n).kind → after ≡ store_at before to (integer_bytes (value_at bs at s u n).items)
         → LoadedAs (value_at bs at s u n) before to (record { kind = k; items = n; size = n * 8 }) after

@@ -3,11 +3,13 @@ use Rattle.std.specs.Prelude.{ℕ, ◌+◌, ◌*◌, ◌≤◌, ◌≡◌, Bool,
 use Rattle.layout.specs.declared.Role.TheVariants.{Data}
 use Rattle.layout.specs.declared.Shape.{Shape}
 use Rattle.layout.specs.declared.Shape.TheVariants.{Text}
-use Rattle.layout.specs.inside.Parsing.{FitRole}
+use Rattle.layout.specs.Codes.{last_data}
+use Rattle.layout.specs.inside.Parsing.{FitRole, shape_numbered}
 use Rattle.record.specs.Bytes.{part, store_at}
 use Rattle.record.specs.Table.{max_record, Value, area_bytes}
 use Rattle.record.specs.Geometry.{bytes_for}
 use Rattle.record.specs.Reading.{loaded, value_at}
+use Rattle.reading.specs.declared.positions.Found.{Found}
 use Rattle.reading.specs.declared.value.Loaded.{Loaded}
 
 -- the bytes of n items of a field lie in the record, which keeps to its size
@@ -15,6 +17,14 @@ pub record Inside (bs : List ℕ) (at : ℕ) (s : Shape) (n : ℕ) : Type 0 wher
   pub form : FitRole (Data s)
   pub within : at + bytes_for s n ≤ length bs
   pub limit : length bs ≤ max_record
+
+-- so of a field that was found
+abbrev pub InRecord : List ℕ → Found → Type 0
+InRecord bs f = (f.number ≤ last_data) × Inside bs f.at (shape_numbered f.number) f.items
+
+-- and its value
+abbrev pub value_of : List ℕ → Found → Value
+value_of bs f = value_at bs f.at (shape_numbered f.number) f.unsigned f.items
 
 -- the first r of a text's n bytes are its value
 pub record TextOf (bs : List ℕ) (at n pad r : ℕ) : Type 0 where

@@ -6,4 +6,4 @@ use Rattle.real.proofs.narrow_body.Goals as goal
 
 pub returns : goal.returns
 returns c =
-    c.smaller.ensures ∙ narrow-steps c.args.p c.less-i.result _ _ _ c.less-i.ensures (omega arith) c.rounded-r.ensures.0 c.less-2.ensures
+    c.min.ensures ∙ narrow-steps c.args.p c.saturating_sub-i.result _ _ _ c.saturating_sub-i.ensures (omega arith) c.rounded-r.ensures.0 c.saturating_sub-2.ensures

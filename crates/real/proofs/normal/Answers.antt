@@ -1,32 +1,24 @@
 -- Shifted up, a significand stays below 2^53.
-use Prim.Native.Nat.{◌*◌, ◌^◌, ◌≤◌, ◌<◌}
-use mathlib.Core.Path.{refl}
+use Prim.Native.Nat.{◌+◌, ◌*◌, ◌^◌, ◌%◌, ◌≤◌, ◌<◌}
+use mathlib.Core.Path.{◌≡◌, refl}
+use native.Mathlib.Nat.{mod-eq_of_lt}
 use native.Mathlib.Omega.{arith}
 use Rattle.real.specs.Widening.{normal}
 use Rattle.real.proofs.WidenLaws.{normal-fits}
 use Rattle.real.proofs.normal.Goals as goal
 
-zeros-fit : (c : goal.After-zeros-z) → c.zeros-z.result ≤ 23
-zeros-fit c = (normal-fits c.args.n c.requires.1 c.requires.2 _ _ c.zeros-z.ensures refl).0
+fits : (c : goal.After-zeros-z) → (c.zeros-z.result ≤ 23) × (c.args.n * 2 ^ (29 + c.zeros-z.result) < 2 ^ 53)
+fits c = normal-fits c.args.n c.requires.1 c.requires.2 _ _ c.zeros-z.ensures refl
 
-power-fits : (c : goal.After-power) → c.args.n * c.power.result < 2 ^ 53
-power-fits c = (normal-fits c.args.n c.requires.1 c.requires.2 _ _ c.zeros-z.ensures c.power.ensures).1
+shifted : (c : goal.After-zeros-z) → c.args.n * 2 ^ (29 + c.zeros-z.result) % 2 ^ 64 ≡ c.args.n * 2 ^ (29 + c.zeros-z.result)
+shifted c = mod-eq_of_lt (omega (arith, fits c))
 
 pub overflow_sub-result : goal.overflow_sub-result
-overflow_sub-result c = omega (arith, zeros-fit c)
+overflow_sub-result c = omega (arith, fits c)
 
-pub overflow_add-z : goal.overflow_add-z
-overflow_add-z c = omega (arith, zeros-fit c)
-
-pub power-requires : goal.power-requires
-power-requires c = omega (arith, zeros-fit c)
-
-pub overflow_mul-result-2 : goal.overflow_mul-result-2
-overflow_mul-result-2 c = omega (arith, power-fits c)
-
-pub overflow_add-result-2 : goal.overflow_add-result-2
-overflow_add-result-2 c = omega (arith, power-fits c)
+pub overflow_add-result-3 : goal.overflow_add-result-3
+overflow_add-result-3 c = omega (arith, shifted c, fits c)
 
 pub returns : goal.returns
 unfolding normal
-returns c = rw (c.power.ensures, c.zeros-z.ensures)
+returns c = rw (shifted c, c.zeros-z.ensures)

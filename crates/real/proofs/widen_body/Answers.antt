@@ -12,4 +12,4 @@ returns-then-p-eq0 c = zero-body _ c.if-p-eq0.true
 
 pub returns : goal.returns
 returns c =
-    c.normal.ensures ∙ normal-body c.args.p c.less-i.result (omega arith) c.if-p-ge2139095040.false c.less-i.ensures
+    c.normal.ensures ∙ normal-body c.args.p c.saturating_sub-i.result (omega arith) c.if-p-ge2139095040.false c.saturating_sub-i.ensures

@@ -4,7 +4,7 @@ use native.Mathlib.Nat.{mod-eq_of_lt}
 use native.Mathlib.Omega.{arith}
 use mathlib.Core.Path.{◌≡◌, refl, sym, ap, ◌∙◌}
 use mathlib.Core.Bool.{Bool, true, false}
-use mathlib.Core.List.{List, map, map-map, reverse, reverse-reverse}
+use mathlib.Core.List.{List, map, map-map, reverse}
 use lib.ListN.{length, drop}
 use Rattle.layout.specs.declared.Shape.TheVariants.{Integers, Reals}
 use Rattle.real.specs.Widening.{double_of}
@@ -20,17 +20,8 @@ use Rattle.reals.specs.inside.load.{double_bytes}
 -- ---- one real
 
 -- a number below 2^32 by its four bytes
-by-four : (r : ℕ) (ds : List ℕ) → r < 4294967296 → digits 256 4 r ≡ ds → r ≡ number 256 ds
+pub by-four : (r : ℕ) (ds : List ℕ) → r < 4294967296 → digits 256 4 r ≡ ds → r ≡ number 256 ds
 by-four r ds below e = sym (mod-eq_of_lt below) ∙ sym (number_digits 256 4 r (omega arith)) ∙ ap (number 256) e
-
--- the bytes in the lowest places first are a little-endian single; turned round they are a big-endian one
-pub single-low : (p : List ℕ) (big : Bool) (s : ℕ) → s < 4294967296 → digits 256 4 s ≡ ordered false p → big ≡ false → s ≡ number 256 (ordered big p)
-single-low p big s below e little = rw little (by-four s p below e)
-
-pub single-turned : (p : List ℕ) (big : Bool) (s r : ℕ) → digits 256 4 s ≡ ordered false p
-    → number_bytes 4 r ≡ ordered false (digits 256 4 s) → r < 4294967296 → big ≡ true → r ≡ number 256 (ordered big p)
-unfolding number_bytes
-single-turned p big s r e er below first = rw first (by-four r (reverse p) below (sym (reverse-reverse (digits 256 4 r)) ∙ ap reverse (er ∙ e)))
 
 pub length-double_bytes : (big : Bool) (bs : List ℕ) → length (double_bytes big bs) ≡ 8
 unfolding double_bytes

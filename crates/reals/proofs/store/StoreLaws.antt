@@ -8,7 +8,7 @@ use lib.ListN.{length, drop, length-map}
 use lib.Seq.{take_all}
 use Rattle.layout.specs.declared.Shape.TheVariants.{Integers, Reals}
 use Rattle.real.specs.Narrowing.{single_of}
-use Rattle.record.specs.Bytes.{pieces, join, digits, number, ordered, number_bytes, number_at, big_endian_in}
+use Rattle.record.specs.Bytes.{pieces, join, digits, number, ordered, number_at, big_endian_in}
 use Rattle.record.specs.Table.{integers_in}
 use Rattle.record.specs.Packing.{stored, low_bytes}
 use Rattle.record.proofs.Bytes.{length-pieces, length_digits, length-ordered}
@@ -21,10 +21,6 @@ use Rattle.reals.specs.inside.store.{single_bytes}
 pub length-single_bytes : (big : Bool) (d : ℕ) → length (single_bytes big d) ≡ 4
 unfolding single_bytes
 length-single_bytes big d = length-ordered big (digits 256 4 (single_of d)) ∙ length_digits 256 4 (single_of d)
-
-pub stored-single : (big : Bool) (d s r : ℕ) → s ≡ single_of d → number_bytes 4 r ≡ ordered big (digits 256 4 s) → number_bytes 4 r ≡ single_bytes big d
-unfolding single_bytes
-stored-single big d s r e h = rw (← e) h
 
 -- ---- n reals
 

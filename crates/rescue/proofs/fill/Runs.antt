@@ -17,8 +17,9 @@ use Rattle.record.proofs.Stores.{store-none}
 use Rattle.record.proofs.Tables.{length-slots}
 use Rattle.sheet_read.specs.declared.check.SheetExtent.{SheetExtent}
 use Rattle.sheet.specs.Entries.{Entry, entry_values, entries_in}
-use Rattle.sheet.specs.Sheet.{header_size, width_in, entries_at, entries_numbers, put_entries}
-use Rattle.sheet.specs.inside.Steps.{sheet_lent_fits}
+use Rattle.sheet.specs.declared.lengths.Version.{Version}
+use Rattle.sheet.specs.Sheet.{header_size, width_of, version_of, width_in, entries_at, entries_numbers, put_entries}
+use Rattle.sheet.specs.inside.Steps.{byte_of, width, sheet_lent_fits}
 use Rattle.sheet_read.specs.inside.check.{front_of, ExtentOf}
 use Rattle.sheet_read.proofs.check.Walks.{found-there, found_front}
 use Rattle.sheet_read.specs.inside.fill.{Room}
@@ -73,17 +74,20 @@ module _ {sheet : List ℕ} {legs : ℕ} {slots area : List ℕ} {mark : ℕ} (o
         let answer : r ≡ saved 0 (legs - 0) (dropped_of (width_in sheet) sheet []) = a ∙ rw (all-dropped, none) in
         same_outcome answer table values ∙ ap (keeping sheet legs slots area mark) (sym none_kept) ∙ done
 
-  -- ---- a header; w is the width that the code has
+  -- ---- a header; v is the version that the code has
 
-  module _ {w : ℕ} (same : w ≡ width_in sheet) {x : SheetExtent} (front : ExtentOf w (front_of w legs sheet) sheet x) where
+  module _ (v : Version) (same-version : byte_of v ≡ version_of sheet) {x : SheetExtent} (front : ExtentOf (width v) (front_of (width v) legs sheet) sheet x) where
+    same : width v ≡ width_in sheet
+    same = ap width_of same-version
+
     m : ExtentOf (width_in sheet) (front_of (width_in sheet) legs sheet) sheet x
     m = subst (λ (n : ℕ). ExtentOf n (front_of n legs sheet) sheet x) same front
 
     -- the second pass takes as many as the first has found
-    found : front_of w x.entries sheet ≡ front_of (width_in sheet) legs sheet
+    found : front_of (width v) x.entries sheet ≡ front_of (width_in sheet) legs sheet
     found = found_front legs front ∙ ap (λ (n : ℕ). front_of n legs sheet) same
 
-    pub all_found : x.entries ≤ length (entries_at w sheet)
+    pub all_found : x.entries ≤ length (entries_at (width v) sheet)
     all_found = found-there legs front
 
     pub kept-few : x.entries ≤ legs
@@ -94,7 +98,7 @@ module _ {sheet : List ℕ} {legs : ℕ} {slots area : List ℕ} {mark : ℕ} (o
     no_room h = rescue-room sheet legs slots area mark o.sizes o.versions o.rows (omega (arith, m.values, bounds.start))
 
     module _ (fits : x.values ≤ length area - mark) where
-      pub has_room : Room (front_of w x.entries sheet) slots area mark
+      pub has_room : Room (front_of (width v) x.entries sheet) slots area mark
       has_room =
           subst (λ (es : List Entry). Room es slots area mark) (sym found)
           (record {
@@ -104,7 +108,7 @@ module _ {sheet : List ℕ} {legs : ℕ} {slots area : List ℕ} {mark : ℕ} (o
             limit = bounds.lengths.limit;
           })
 
-      module _ {a : Answer} {slots₁ area₁ : List ℕ} (g : record { answer = a; slots = slots₁; area = area₁ } ≡ put_entries slots area mark (front_of w x.entries sheet)) where
+      module _ {a : Answer} {slots₁ area₁ : List ℕ} (g : record { answer = a; slots = slots₁; area = area₁ } ≡ put_entries slots area mark (front_of (width v) x.entries sheet)) where
         f : record { answer = a; slots = slots₁; area = area₁ } ≡ put_entries slots area mark (front_of (width_in sheet) legs sheet)
         f = g ∙ ap (put_entries slots area mark) found
 
@@ -116,7 +120,7 @@ module _ {sheet : List ℕ} {legs : ℕ} {slots area : List ℕ} {mark : ℕ} (o
             let long : length slots₁ ≡ length slots = ap length filled ∙ put-length slots area mark legs (front_of (width_in sheet) legs sheet) (rw (← m.entries) kept-few) there in
             record { there = omega (arith, kept-few, there); table = omega (arith, bounds.lengths.table) }
 
-        pub all_done : {r : Rescued} {slots₂ : List ℕ} → header_size w ≤ length sheet → slots₂ ≡ store_at slots₁ (slot_width * x.entries) (cleared_numbers (legs - x.entries))
+        pub all_done : {r : Rescued} {slots₂ : List ℕ} → header_size (width v) ≤ length sheet → slots₂ ≡ store_at slots₁ (slot_width * x.entries) (cleared_numbers (legs - x.entries))
             → r ≡ saved x.entries (legs - x.entries) (length sheet - x.end) → record { answer = r; slots = slots₂; area = area₁ } ≡ rescue sheet legs slots area mark
         unfolding kept_in dropped_of
         all_done {r} {slots₂} header q a =

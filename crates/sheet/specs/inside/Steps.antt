@@ -2,7 +2,19 @@
 use Rattle.std.specs.Prelude.{ℕ, ◌≡◌, Bool, true, ◌&&◌, List, length, leb}
 use Rattle.record.specs.Table.{slots_of}
 use Rattle.sheet.specs.Entries.{body_bytes}
-use Rattle.sheet.specs.Sheet.{width_of, sheet_bytes, version_for, sheet_sizes_fit, entries_of, version_of, version_known, width_in, header_fits}
+use Rattle.sheet.specs.declared.lengths.Version.{Version}
+use Rattle.sheet.specs.declared.lengths.Version.TheVariants.{One, Two}
+use Rattle.sheet.specs.Sheet.{version1, version2, width_of, sheet_bytes, version_for, sheet_sizes_fit, entries_of, version_of, version_known, width_in, header_fits}
+
+-- ---- versions
+
+-- the byte that names a version, and how many bytes its lengths have
+abbrev pub byte_of : Version → ℕ
+byte_of One = version1
+byte_of Two = version2
+
+abbrev pub width : Version → ℕ
+width v = width_of (byte_of v)
 
 -- ---- writing
 

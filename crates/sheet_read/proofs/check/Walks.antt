@@ -4,18 +4,15 @@ use Prim.Native.Nat.{ℕ, zero, suc, ◌+◌, ◌-◌, ◌≤◌, ◌<◌}
 use native.Mathlib.Nat.{zero-add}
 use native.Mathlib.Omega.{arith}
 use mathlib.Core.Path.{◌≡◌, refl, sym, ap, ◌∙◌}
-use mathlib.Core.Bool.{Bool, true, false, ◌&&◌}
+use mathlib.Core.Bool.{Bool, true, false}
 use mathlib.Core.List.{List, [], ◌∷◌, ◌++◌, append_assoc, append-nil}
-use borrow.Author.Tests.{ltb-true, ltb-false}
-use lib.Dec.{ltb}
-use lib.ListN.{length, take, drop, get_or, length-append, length-take, length-drop}
-use lib.Seq.{take-nil, take-append-add, drop-drop, get_or-drop}
-use Rattle.record.specs.Bytes.{part, join, number_at}
-use Rattle.record.proofs.Bytes.{and-true}
+use lib.ListN.{length, take, drop, length-append, length-take, length-drop}
+use lib.Seq.{take-nil, take-append-add, drop-drop}
+use Rattle.record.specs.Bytes.{join, number_at}
 use Rattle.sheet_read.specs.declared.check.SheetExtent.{SheetExtent}
 use Rattle.sheet.specs.Entries.{Entry, entry_bytes, body_bytes, entry_values, begins_entry, entry_in, entries_in}
 use Rattle.sheet.specs.Sheet.{header_size, entries_end, entries_at}
-use Rattle.sheet_read.specs.inside.check.{front_of, entry_due, ExtentOf}
+use Rattle.sheet_read.specs.inside.check.{front_of, ExtentOf}
 use Rattle.sheet.proofs.Entries.{begins, length-entry, entries_none, entries-more}
 use Rattle.sheet.proofs.Tables.{values-append}
 
@@ -38,8 +35,6 @@ pub record There (w : ℕ) (sheet : List ℕ) (at : ℕ) (e : Entry) : Type 0 wh
   pub some : 1 ≤ number_at w (drop at sheet) 0
   pub inside : at + (w + number_at w (drop at sheet) 0) ≤ length sheet
   pub long : length e.value ≡ number_at w (drop at sheet) 0 - 1
-  pub kind : e.kind ≡ get_or sheet (at + w) 0
-  pub value : e.value ≡ part sheet (at + suc w) (number_at w (drop at sheet) 0 - 1)
 
 pub there : (w : ℕ) (sheet : List ℕ) (at : ℕ) → at ≤ length sheet → begins_entry w (drop at sheet) ≡ true → There w sheet at (entry_in w (drop at sheet))
 unfolding entry_in
@@ -49,8 +44,6 @@ there w sheet at l h =
       some = b.some;
       inside = omega (arith, b.within, length-drop at sheet);
       long = b.long;
-      kind = get_or-drop at sheet w 0;
-      value = ap (λ (r : List ℕ). part r 0 (number_at w (drop at sheet) 0 - 1)) (drop-drop (suc w) at sheet);
     }
 
 -- ---- the run over the entries
@@ -72,12 +65,15 @@ module _ {w : ℕ} {sheet : List ℕ} {at : ℕ} {es : List Entry} (k : Walked w
       let sum : length es + (most - length es) ≡ most = omega arith in
       sym (take-append-add es (entries_in w (drop at sheet)) (most - length es)) ∙ rw (sum, k.same)
 
-  pub walked-done : (most : ℕ) → length es ≤ most → entry_due w sheet at (length es) most ≡ false → es ≡ front_of w most sheet
-  walked-done most few h = sym (append-nil es) ∙ ap (λ (r : List Entry). es ++ r) (sym (go (ltb (length es) most) refl h)) ∙ walked-within most few
-    where
-      go : (t : Bool) → ltb (length es) most ≡ t → t && begins_entry w (drop at sheet) ≡ false → take (most - length es) (entries_in w (drop at sheet)) ≡ []
-      go true q f = rw (entries_none w (drop at sheet) f) (take-nil (most - length es))
-      go false q f = let none : most - length es ≡ 0 = omega (arith, ltb-false (length es) most q) in rw none
+  -- and all of them where no more are due, or the next one is not whole
+  pub walked-full : (most : ℕ) → length es ≡ most → es ≡ front_of w most sheet
+  walked-full most full =
+      let none : most - length es ≡ 0 = omega arith in
+      sym (append-nil es) ∙ rw (← walked-within most (omega arith), none)
+
+  pub walked-broken : (most : ℕ) → length es ≤ most → begins_entry w (drop at sheet) ≡ false → es ≡ front_of w most sheet
+  walked-broken most few broken =
+      sym (append-nil es) ∙ rw (← walked-within most few, entries_none w (drop at sheet) broken, take-nil (most - length es))
 
   -- and where there are more, the next one stands here
   pub walked-begins : length es < length (entries_at w sheet) → begins_entry w (drop at sheet) ≡ true
@@ -104,14 +100,6 @@ module _ {w : ℕ} {sheet : List ℕ} {at : ℕ} {es : List Entry} (k : Walked w
           same = append_assoc es (e ∷ []) (entries_in w (drop (at + (w + n)) sheet)) ∙ ap (λ (r : List Entry). es ++ r) (sym first) ∙ k.same;
         }
 
--- one more is due, and whole
-module _ (w : ℕ) (sheet : List ℕ) (at done most : ℕ) (h : entry_due w sheet at done most ≡ true) where
-  pub due-more : done < most
-  due-more = ltb-true done most (and-true (ltb done most) (begins_entry w (drop at sheet)) h).0
-
-  pub due-begins : begins_entry w (drop at sheet) ≡ true
-  due-begins = (and-true (ltb done most) (begins_entry w (drop at sheet)) h).1
-
 -- ---- the first pass
 
 pub record Measuring (w : ℕ) (sheet : List ℕ) (most at entries values : ℕ) : Type 0 where
@@ -127,37 +115,39 @@ unfolding entry_values join
 measuring-start w sheet most h = record { es = []; walk = walked_start w sheet h; count = refl; few = omega arith; size = refl; small = omega arith }
 
 module _ {w : ℕ} {sheet : List ℕ} {most at entries values : ℕ} (m : Measuring w sheet most at entries values) where
-  pub measuring-there : entry_due w sheet at entries most ≡ true → There w sheet at (entry_in w (drop at sheet))
-  measuring-there due = walked-there m.walk (due-begins w sheet at entries most due)
-
-  pub measuring-more : (n : ℕ) → entry_due w sheet at entries most ≡ true → n ≡ number_at w (drop at sheet) 0 → Measuring w sheet most (at + (w + n)) (entries + 1) (values + (n - 1))
-  measuring-more n due q =
-      let h = due-begins w sheet at entries most due in
+  pub measuring-more : entries < most → begins_entry w (drop at sheet) ≡ true → (size : ℕ) → number_at w (drop at sheet) 0 ≡ size + 1
+      → Measuring w sheet most (at + (suc w + size)) (entries + 1) (values + size)
+  measuring-more due h size q =
       let e : Entry = entry_in w (drop at sheet) in
-      let t = measuring-there due in
+      let t = walked-there m.walk h in
+      let next : w + number_at w (drop at sheet) 0 ≡ suc w + size = omega arith in
       let one : length (m.es ++ (e ∷ [])) ≡ length m.es + 1 = length-append m.es (e ∷ []) in
       let grown : length (entry_values (m.es ++ (e ∷ []))) ≡ length (entry_values m.es) + length e.value = ap length (values-more m.es e) ∙ length-append (entry_values m.es) e.value in
       record {
         es = m.es ++ (e ∷ []);
-        walk = walked_more m.walk h n q;
+        walk = rw next at (walked_more m.walk h (number_at w (drop at sheet) 0) refl);
         count = omega (arith, one, m.count);
-        few = omega (arith, due-more w sheet at entries most due);
+        few = omega (arith, due);
         size = omega (arith, grown, m.size, t.long, q);
-        small = omega (arith, m.small, t.some, q);
+        small = omega (arith, m.small);
       }
 
-  pub measuring-done : {r : SheetExtent} → entry_due w sheet at entries most ≡ false → r ≡ record { entries = entries; values = values; end = at } → ExtentOf w (front_of w most sheet) sheet r
+  measured : (n : ℕ) → n ≡ entries → m.es ≡ front_of w most sheet → ExtentOf w (front_of w most sheet) sheet (record { entries = n; values = values; end = at })
   unfolding entries_end
-  measuring-done {r} h e =
-      let all : m.es ≡ front_of w most sheet = walked-done m.walk most (rw (← m.count) m.few) (rw (← m.count) h) in
-      rw e
-      (record {
-        entries = m.count ∙ ap length all;
+  measured n same all =
+      record {
+        entries = same ∙ m.count ∙ ap length all;
         values = m.size ∙ ap (λ (x : List Entry). length (entry_values x)) all;
         end = m.walk.end ∙ ap (λ (x : List Entry). header_size w + length (body_bytes w x)) all;
         within = m.walk.within;
-        small = m.small;
-      })
+        small = omega (arith, m.small);
+      }
+
+  pub measured-full : most ≤ entries → ExtentOf w (front_of w most sheet) sheet (record { entries = most; values = values; end = at })
+  measured-full h = measured most (omega (arith, m.few)) (walked-full m.walk most (omega (arith, m.count, m.few)))
+
+  pub measured-broken : begins_entry w (drop at sheet) ≡ false → ExtentOf w (front_of w most sheet) sheet (record { entries = entries; values = values; end = at })
+  measured-broken h = measured entries refl (walked-broken m.walk most (omega (arith, m.count, m.few)) h)
 
 -- ---- what the first pass answers
 

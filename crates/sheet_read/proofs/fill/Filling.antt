@@ -1,23 +1,20 @@
 -- What the pass that writes keeps: the entries so far, and the table and area that hold them.
-use Rattle.std.specs.Prelude.{if◌then◌else◌}
-use Prim.Native.Nat.{ℕ, suc, ◌+◌, ◌-◌, ◌*◌, ◌/◌, ◌≤◌, ◌<◌}
-use native.Mathlib.Nat.{add_assoc, add-zero, zero-add, div-le_self}
+use Prim.Native.Nat.{ℕ, suc, ◌+◌, ◌*◌, ◌≤◌, ◌<◌}
+use native.Mathlib.Nat.{add_assoc, add-zero, zero-add}
 use native.Mathlib.Omega.{arith}
 use mathlib.Core.Path.{◌≡◌, refl, sym, ap, ◌∙◌}
-use mathlib.Core.Bool.{Bool, true, false}
+use mathlib.Core.Bool.{true}
 use mathlib.Core.List.{List, [], ◌∷◌, ◌++◌}
-use borrow.Author.Tests.{le-ltb}
-use lib.Dec.{eqb}
-use lib.ListN.{length, drop, get_or, length-append}
+use lib.ListN.{length, drop, length-append}
 use Rattle.record.specs.declared.Answer.{Answer}
-use Rattle.record.specs.Bytes.{part, store_at, join, number_at}
-use Rattle.record.specs.Table.{slot_width, no_position, max_slots, max_area, item_size}
+use Rattle.record.specs.Bytes.{store_at, join, number_at}
+use Rattle.record.specs.Table.{slot_width, max_slots, max_area}
 use Rattle.record.specs.Packing.{accepted}
 use Rattle.record.proofs.Stores.{length-store_at, store-none}
 use Rattle.sheet.specs.Entries.{Entry, entry_values, begins_entry, entry_in}
 use Rattle.sheet.specs.Sheet.{header_size, entries_at, entry_numbers, entries_numbers, put_entries}
 use Rattle.sheet_read.specs.inside.check.{front_of}
-use Rattle.sheet_read.proofs.check.Walks.{values-more, There, Walked, walked_start, walked-within, walked-done, walked-there, walked-begins, walked_more}
+use Rattle.sheet_read.proofs.check.Walks.{values-more, Walked, walked_start, walked-within, walked-full, walked-there, walked-begins, walked_more}
 use Rattle.sheet_read.specs.inside.fill.{Room, PutRoom, PutAs}
 use Rattle.sheet.proofs.Tables.{length-slot-numbers, store-next, front-few}
 
@@ -29,33 +26,6 @@ numbers_more start [] e = rw add-zero
 numbers_more start (d ∷ es) e =
     let place : start + length d.value + length (entry_values es) ≡ start + length (d.value ++ entry_values es) = rw length-append (add_assoc start (length d.value) (length (entry_values es))) in
     ap (λ (r : List ℕ). entry_numbers start d ++ r) (numbers_more (start + length d.value) es e ∙ ap (λ (n : ℕ). entries_numbers (start + length d.value) es ++ entry_numbers n e) place)
-
--- ---- the entry at a place
-
-pub start_small : (kind to m : ℕ) → to ≤ m → (if eqb kind 0 then 0 else to) ≤ m
-start_small kind to m h = go (eqb kind 0)
-  where
-    go : (t : Bool) → (if t then 0 else to) ≤ m
-    go true = omega arith
-    go false = h
-
-pub items-small : (kind size : ℕ) → size / item_size kind ≤ size
-items-small kind size = div-le_self size (item_size kind)
-
--- slot and area after one entry
-pub put_as : {w : ℕ} {sheet slots slots' area area' : List ℕ} {at k to size kind start items : ℕ} {e : Entry} → There w sheet at e
-    → kind ≡ get_or sheet (at + w) 0 → size ≡ number_at w (drop at sheet) 0 - 1 → start ≡ (if eqb kind 0 then 0 else to) → items ≡ size / item_size kind
-    → slots' ≡ store_at slots (slot_width * k) (kind ∷ start ∷ items ∷ no_position ∷ []) → area' ≡ store_at area to (part sheet (at + suc w) size)
-    → PutAs e slots k area to size slots' area'
-put_as {w} {sheet} {slots} {area} {at} {k} {to} {size} {kind} {start} {items} {e} t q s p i table values =
-    let same : kind ≡ e.kind = q ∙ sym t.kind in
-    let long : size ≡ length e.value = s ∙ sym t.long in
-    let numbers : kind ∷ start ∷ items ∷ no_position ∷ [] ≡ entry_numbers to e = rw (p, i, same, long) in
-    record {
-      size = long;
-      table = table ∙ ap (store_at slots (slot_width * k)) numbers;
-      values = values ∙ ap (store_at area to) (ap (part sheet (at + suc w)) s ∙ sym t.value);
-    }
 
 -- ---- the second pass
 
@@ -92,11 +62,12 @@ module _ {w : ℕ} {sheet : List ℕ} {most : ℕ} {slots₀ area₀ : List ℕ}
       let few = front-few f.es _ (front_of w most sheet) (walked-within f.walk most (rw (← f.count) f.few)) in
       (omega (arith, few.0, all.rows, all.table, f.count), omega (arith, few.1, all.room, all.limit, f.next))
 
-  pub filling-done : {r : Answer} → most ≤ set → r ≡ accepted set place → record { answer = r; slots = slots; area = area } ≡ put_entries slots₀ area₀ mark (front_of w most sheet)
+  pub filling-done : {r : Answer} → most ≤ set → r ≡ accepted most place → record { answer = r; slots = slots; area = area } ≡ put_entries slots₀ area₀ mark (front_of w most sheet)
   unfolding put_entries
   filling-done {r} h q =
-      let e : f.es ≡ front_of w most sheet = walked-done f.walk most (rw (← f.count) f.few) (rw (le-ltb (length f.es) most (rw (← f.count) h))) in
-      let a : r ≡ accepted (length (front_of w most sheet)) (mark + length (entry_values (front_of w most sheet))) = q ∙ rw (f.count, f.next, e) in
+      let e : f.es ≡ front_of w most sheet = walked-full f.walk most (omega (arith, f.count, f.few)) in
+      let all_set : most ≡ length (front_of w most sheet) = omega (arith, f.count, f.few, ap length e) in
+      let a : r ≡ accepted (length (front_of w most sheet)) (mark + length (entry_values (front_of w most sheet))) = q ∙ ap (λ n. accepted n place) all_set ∙ rw (f.next, e) in
       let t : slots ≡ entries_numbers mark (front_of w most sheet) ++ drop (slot_width * length (front_of w most sheet)) slots₀ = f.table ∙ rw (e, length-slot-numbers, zero-add) in
       let v : area ≡ store_at area₀ mark (entry_values (front_of w most sheet)) = f.values ∙ rw e in
       rw (a, t, v)

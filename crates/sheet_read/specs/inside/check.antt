@@ -1,6 +1,6 @@
 -- What the functions of this crate promise.
-use Rattle.std.specs.Prelude.{ℕ, ◌+◌, ◌*◌, ◌^◌, ◌≤◌, ◌≡◌, Bool, not, ◌&&◌, ◌||◌, List, length, take, drop, eqb, ltb}
-use Rattle.sheet.specs.Entries.{Entry, entry_values, begins_entry}
+use Rattle.std.specs.Prelude.{ℕ, ◌+◌, ◌*◌, ◌^◌, ◌≤◌, ◌≡◌, Bool, not, ◌||◌, List, length, take, eqb, ltb}
+use Rattle.sheet.specs.Entries.{Entry, entry_values}
 use Rattle.sheet.specs.Sheet.{version1, width_of, header_size, entries_at, entries_end}
 use Rattle.sheet_read.specs.declared.check.SheetExtent.{SheetExtent}
 
@@ -12,10 +12,6 @@ needed_by v entries values =
 -- the first of the whole entries after a sheet's header, at most `most`
 abbrev pub front_of : ℕ → ℕ → List ℕ → List Entry
 front_of w most sheet = take most (entries_at w sheet)
-
--- one entry more is due after `done`, and stands whole at the place `at`
-abbrev pub entry_due : ℕ → List ℕ → ℕ → ℕ → ℕ → Bool
-entry_due w sheet at done most = ltb done most && begins_entry w (drop at sheet)
 
 -- r says how many the entries es are, the bytes of their values, and where they end in the sheet
 pub record ExtentOf (w : ℕ) (es : List Entry) (sheet : List ℕ) (r : SheetExtent) : Type 0 where

@@ -6,7 +6,7 @@ use native.Mathlib.Omega.{arith}
 use mathlib.Core.Path.{◌≡◌, refl, sym, ap, ◌∙◌, subst}
 use mathlib.Core.Bool.{Bool, true, false}
 use mathlib.Core.List.{List, [], ◌∷◌, ◌++◌, append_assoc, append-nil}
-use borrow.Author.Tests.{ne_eqb, eq-eqb}
+use borrow.Author.Tests.{eq-eqb}
 use lib.Dec.{eqb}
 use lib.ListN.{length, drop, set, length-append, drop_of_length-le}
 use lib.Seq.{sets-eq}
@@ -16,25 +16,20 @@ use Rattle.layout.proofs.Laws.{demanded}
 use Rattle.record.specs.Bytes.{store_at, join, number_bytes}
 use Rattle.record.specs.declared.slots.Slot.{Slot}
 use Rattle.record.specs.Slots.{slot_at}
-use Rattle.record.specs.inside.Slots.{SlotAt}
-use Rattle.record.specs.Table.{slots_of, slot_width, max_slots, max_area, number_limit, item_size}
+use Rattle.record.specs.Table.{slots_of, slot_width, max_area, number_limit, item_size}
 use Rattle.record.proofs.Stores.{length-store_at, store-none, runs, Wrote, wrote_none, wrote-next, add-run}
 use Rattle.record.proofs.SlotLaws.{slot-here}
 use Rattle.record.proofs.Tables.{length-slots}
 use Rattle.record.proofs.NumberLaws.{length-number_bytes}
-use Rattle.sheet_write.specs.declared.store.SheetMeasured.TheVariants.{Length, Bad}
+use Rattle.std.specs.Prelude.{Ok, Err}
+use Rattle.record.specs.declared.Answer.{Answer}
+use Rattle.record.specs.Packing.{refusal}
 use Rattle.sheet.specs.Entries.{entry_bytes, body_bytes}
-use Rattle.sheet.specs.Sheet.{header_size, sheet_bytes, value_size, entry_of, entries_of, slot_writable, slots_writable, entries_end}
+use Rattle.sheet.specs.Sheet.{header_size, sheet_bytes, value_size, entry_of, entries_of, slot_writable, slots_writable}
 use Rattle.sheet.specs.inside.Steps.{sheet_for, body_for}
 use Rattle.sheet_write.specs.inside.store.{MeasuredAs, EntryRoom, BodyRoom}
 use Rattle.sheet.proofs.Entries.{length-entry}
 use Rattle.sheet.proofs.Tables.{slot-inside, length-value, store-next}
-use Rattle.sheet.proofs.Sheets.{length-sheet}
-
--- a sheet is its header and its body
-pub sheet-long : (v w : ℕ) (ns area : List ℕ) → length (sheet_for v w ns area) ≡ header_size w + length (body_for w ns area)
-unfolding entries_end
-sheet-long v w ns area = length-sheet v w (entries_of area (slots_of ns))
 
 -- ---- one entry
 
@@ -44,9 +39,6 @@ unfolding entry_of
 value_none out area at s h = rw (eq-eqb s.kind 0 h) (sym (store-none out at))
 
 module _ (area : List ℕ) (s : Slot) (fits : slot_writable (length area) s ≡ true) where
-  pub value-inside : (s.kind ≡ 0 → ⊥) → s.start + value_size s ≤ length area
-  value-inside h = let e : eqb s.kind 0 ≡ false = ne_eqb s.kind 0 h in rw e (slot-inside area s fits e)
-
   -- a value is no longer than the area
   pub size_small : value_size s ≤ length area
   size_small = go (eqb s.kind 0) (slot-inside area s fits)
@@ -136,21 +128,21 @@ module _ (w : ℕ) (area ns : List ℕ) where
   unfolding runs
   sizing-none = record { within = omega arith; fits = refl; is = omega arith; small = omega arith }
 
-  pub sizing-done : (k size : ℕ) → Sizing k size → length ns / slot_width ≤ k → size < number_limit → MeasuredAs w ns area (Length size)
+  pub sizing-done : (k size : ℕ) → Sizing k size → length ns / slot_width ≤ k → size < number_limit → MeasuredAs w ns area (Ok size)
   sizing-done k size s h small =
       let all : runs k (entry_at w area ns) ≡ body_for w ns area = runs-all k s.within h in
       (s.fits ∙ fits-done k h, s.is ∙ rw all, small)
 
-  module _ (k size : ℕ) (s : Sizing k size) (l : k < length ns / slot_width) (a : Slot) (e : SlotAt ns k a) where
+  module _ (k size : ℕ) (s : Sizing k size) (l : k < length ns / slot_width) (a : Slot) (e : a ≡ slot_at ns k) where
     inside : slot_width * k + slot_width ≤ length ns
     inside = omega arith
 
-    pub sizing-bad : length ns ≤ slot_width * max_slots → slot_writable (length area) a ≡ false → MeasuredAs w ns area (Bad k)
-    sizing-bad few h = (s.fits ∙ fits_not k inside (subst (λ (t : Slot). slot_writable (length area) t ≡ false) e.same h), omega arith)
+    pub sizing-bad : slot_writable (length area) a ≡ false → {r : Answer} → r ≡ refusal BadSlot k → MeasuredAs w ns area (Err r)
+    sizing-bad h q = (k, s.fits ∙ fits_not k inside (subst (λ (t : Slot). slot_writable (length area) t ≡ false) e h), q)
 
     module _ (h : slot_writable (length area) a ≡ true) (limit : length area ≤ max_area) where
       fit : slot_writable (length area) (slot_at ns k) ≡ true
-      fit = subst (λ (t : Slot). slot_writable (length area) t ≡ true) e.same h
+      fit = subst (λ (t : Slot). slot_writable (length area) t ≡ true) e h
 
       sizing-small : (n : ℕ) → n ≡ value_size a → n ≤ max_area
       sizing-small n q = omega (arith, q, size_small area a h, limit)
@@ -159,7 +151,7 @@ module _ (w : ℕ) (area ns : List ℕ) where
       unfolding runs
       sizing-more n q =
           let long : length (entry_of area a).value ≡ n = length-value area a h ∙ sym q in
-          let value : length (entry_of area (slot_at ns k)).value ≡ n = rw (← e.same) long in
+          let value : length (entry_of area (slot_at ns k)).value ≡ n = rw (← e) long in
           let size : length (entry_at w area ns k) ≡ w + suc (length (entry_of area (slot_at ns k)).value) = length-entry w (entry_of area (slot_at ns k)) in
           let entry : length (entry_at w area ns k) ≡ suc w + n = omega arith in
           let grown : length (runs (suc k) (entry_at w area ns)) ≡ length (runs k (entry_at w area ns)) + (suc w + n) = length-append (runs k (entry_at w area ns)) (entry_at w area ns k) ∙ rw entry in
@@ -187,7 +179,7 @@ module _ (w : ℕ) (area ns : List ℕ) where
   pub storing-done : (lent out : List ℕ) (k at : ℕ) → Storing lent out k at → length ns / slot_width ≤ k → out ≡ store_at lent (header_size w) (body_for w ns area)
   storing-done lent out k at s h = s.wrote.is ∙ ap (store_at lent (header_size w)) (runs-all k s.within h)
 
-  module _ (lent out : List ℕ) (k at : ℕ) (room : BodyRoom w ns area (length lent)) (s : Storing lent out k at) (l : k < length ns / slot_width) (a : Slot) (e : SlotAt ns k a) where
+  module _ (lent out : List ℕ) (k at : ℕ) (room : BodyRoom w ns area (length lent)) (s : Storing lent out k at) (l : k < length ns / slot_width) (a : Slot) (e : a ≡ slot_at ns k) where
     storing-inside : slot_width * k + slot_width ≤ length ns
     storing-inside = omega arith
 
@@ -203,7 +195,7 @@ module _ (w : ℕ) (area ns : List ℕ) where
     pub storing-room : EntryRoom w area a at (length out)
     storing-room =
         let size : length (entry_at w area ns k) ≡ w + suc (length (entry_of area (slot_at ns k)).value) = length-entry w (entry_of area (slot_at ns k)) in
-        subst (λ (t : Slot). EntryRoom w area t at (length out)) (sym e.same)
+        subst (λ (t : Slot). EntryRoom w area t at (length out)) (sym e)
         (record { fits = storing-fits; room = omega (arith, storing-entry, s.wrote.long, size); small = omega (arith, s.wrote.long, room.small) })
 
     pub storing-more : (out' : List ℕ) (at' : ℕ)
@@ -212,7 +204,7 @@ module _ (w : ℕ) (area ns : List ℕ) where
     unfolding runs
     storing-more out' at' p =
         let q : (out' ≡ store_at out at (entry_at w area ns k)) × (at' ≡ at + length (entry_at w area ns k)) =
-        subst (λ (t : Slot). (out' ≡ store_at out at (entry_bytes w (entry_of area t))) × (at' ≡ at + length (entry_bytes w (entry_of area t)))) e.same p in
+        subst (λ (t : Slot). (out' ≡ store_at out at (entry_bytes w (entry_of area t))) × (at' ≡ at + length (entry_bytes w (entry_of area t)))) e p in
         let grown : length (runs (suc k) (entry_at w area ns)) ≡ length (runs k (entry_at w area ns)) + length (entry_at w area ns k) = length-append (runs k (entry_at w area ns)) (entry_at w area ns k) in
         let more : Wrote lent (header_size w) (entry_at w area ns) out' (suc k) = rw add-one at (wrote-next {to = at} s.wrote s.place storing-entry q.0) in
         rw add-one

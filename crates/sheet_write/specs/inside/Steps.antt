@@ -1,13 +1,12 @@
 -- What the functions of this crate promise each other.
-use Rattle.std.specs.Prelude.{ℕ, ◌+◌, ◌*◌, ◌^◌, ◌≡◌, true, List, length, eqb, ltb, if◌then◌else◌}
+use Rattle.std.specs.Prelude.{ℕ, ◌+◌, ◌*◌, ◌^◌, ◌≡◌, true, List, length, eqb, ltb, Ok, if◌then◌else◌}
 use Rattle.sheet.specs.Sheet.{version1, version2, width_of, header_size, sheet_sizes_fit}
-use Rattle.sheet_write.specs.declared.store.SheetMeasured.TheVariants.{Length}
 use Rattle.sheet_write.specs.inside.store.{MeasuredAs}
 
 -- the sizes keep and all slots fit; header and entries take n bytes in version 1
 pub record Checked (slots area buffer : List ℕ) (n : ℕ) : Type 0 where
   pub sizes : sheet_sizes_fit (length slots) (length area) (length buffer) ≡ true
-  pub measured : MeasuredAs (width_of version1) slots area (Length n)
+  pub measured : MeasuredAs (width_of version1) slots area (Ok n)
 
 -- the version for a sheet that takes n bytes in version 1; and the bytes that it takes in the version v, with `entries`
 -- entries

@@ -6,5 +6,5 @@ pub returns : goal.returns
 returns c =
     let a = c.args in
     store-padded a.out.now a.at a.area.now a.start a.len a.n a.pad
-    c.least-kept.result c.requires.1 c.requires.2 c.least-kept.ensures
-    c.copy_block.ensures c.fill.ensures
+    c.min-kept.result c.requires.1 c.requires.2 c.min-kept.ensures
+    c.copy.ensures c.fill.ensures

@@ -1,39 +1,45 @@
 // Lists of examples: a letter, a layout, a bar and what follows. `p` and the arguments to pack; the number of slots and
 // the record to read; `k` or `w` and nothing, to pack or read and show all that is lent; or a letter of a call over
 // other slots, outputs or marks, and what is lent.
-use super::super::lists;
-use super::super::lists::Show;
 use super::{packing, readings};
+use record::SLOT_WIDTH;
 use std::io;
+use tour_text::lists;
 
-fn packed(rt: &impl Print, kind: u8, layout: &[u8], rest: &[u8]) -> io::Result<()> {
+fn example(
+    rt: &(impl Print + AllocGlobal),
+    kind: u8,
+    layout: &[u8],
+    rest: &[u8],
+) -> io::Result<()> {
     match kind {
+        b'1' => readings::example(rt, layout, rest, &mut [0; SLOT_WIDTH]),
+        b'2' => readings::example(rt, layout, rest, &mut [0; 2 * SLOT_WIDTH]),
+        b'8' => readings::eight(rt, layout, rest),
+        b'w' => readings::whole(rt, layout),
         b'k' => packing::whole(rt, layout),
         b's' => packing::placed(rt, layout, rest),
-        b'q' => packing::position(rt, layout, rest),
-        b'f' => packing::far(rt, layout, rest),
+        b'q' => packing::slot(rt, layout, rest, [1, 1, 1, 4294967295]),
+        b'f' => packing::slot(rt, layout, rest, [1, 4294967295, 1, 0]),
         b'u' => packing::unsigned(rt, layout, rest),
-        b'o' => packing::two(rt, layout, rest),
-        b'l' => packing::at_limit(rt, layout, rest),
-        b'a' => packing::above_limit(rt, layout, rest),
+        b'o' => packing::output(rt, layout, rest, 2),
+        b'l' => packing::output(rt, layout, rest, 32768),
+        b'a' => packing::output(rt, layout, rest, 32769),
         _ => packing::example(rt, layout, rest),
     }
 }
 
-pub fn example(rt: &impl Print, kind: u8, layout: &[u8], rest: &[u8]) -> io::Result<()> {
-    match kind {
-        b'1' => readings::one(rt, layout, rest),
-        b'2' => readings::two(rt, layout, rest),
-        b'8' => readings::eight(rt, layout, rest),
-        b'w' => readings::whole(rt, layout),
-        _ => packed(rt, kind, layout, rest),
-    }
-}
-
-pub fn packings(rt: &impl Print) -> io::Result<()> {
+fn run(rt: &(impl Print + AllocGlobal), list: &[u8]) -> io::Result<()> {
     lists::run(
         rt,
-        Show::Records,
+        list,
+        |kind, layout, rest| example(rt, kind, layout, rest),
+    )
+}
+
+pub fn packings(rt: &(impl Print + AllocGlobal)) -> io::Result<()> {
+    run(
+        rt,
         b"
 h |Packing: layout, arguments -> number, first, second: bytes of the result
 
@@ -119,10 +125,9 @@ s c|slot 2 0 1, area of 2 bytes
     )
 }
 
-pub fn outputs_and_readings(rt: &impl Print) -> io::Result<()> {
-    lists::run(
+pub fn outputs_and_readings(rt: &(impl Print + AllocGlobal)) -> io::Result<()> {
+    run(
         rt,
-        Show::Records,
         b"
 
 Outputs as long as can be, one above, as long as the result, and shorter; an unsigned integer.
@@ -210,10 +215,9 @@ h |Reading: a table that holds an earlier reading
     )
 }
 
-pub fn places_and_refusals(rt: &impl Print) -> io::Result<()> {
-    lists::run(
+pub fn places_and_refusals(rt: &(impl Print + AllocGlobal)) -> io::Result<()> {
+    run(
         rt,
-        Show::Records,
         b"
 h |
 h |Reading: where each field began
@@ -233,10 +237,9 @@ h |Reading: refusals and limits
     )
 }
 
-pub fn marks(rt: &impl Print) -> io::Result<()> {
-    lists::run(
+pub fn marks(rt: &(impl Print + AllocGlobal)) -> io::Result<()> {
+    run(
         rt,
-        Show::Records,
         b"
 
 Marks: numbers 11 and 1.

@@ -2,8 +2,8 @@
 // result.
 use record::{MAX_AREA, MAX_NUMBERS, SLOT_WIDTH};
 use std::io;
-use tour_text::print::Style;
-use tour_text::{notation, print};
+use tour_text::notation::Arguments;
+use tour_text::print::{Answered, Hex, Lent, Short, Stored};
 
 // Packs, and prints the line; `told` names what is lent.
 fn show(
@@ -12,108 +12,89 @@ fn show(
     told: &[u8],
     slots: &[u32],
     area: &[u8],
-    record: &mut [u8],
+    output: &mut [u8],
 ) -> io::Result<()> {
-    let a = packer::pack(layout, slots, area, record);
-    print::call(rt, b"pack", layout)?;
-    print::lent(rt, told)?;
-    print::answer(rt, a.number, a.first, a.second)?;
-    print::result(rt, a.number, a.first as usize, record)?;
-    print::text(rt, b"\n")
+    let a = packer::pack(layout, slots, area, output);
+    println!(rt;
+        "pack '{}'{}{}{}",
+        Short(layout),
+        Lent(told),
+        Answered(a),
+        Stored(a, output)
+    )
 }
 
 // Packs into eight bytes aa, and prints all that they then hold.
 pub fn whole(rt: &impl Print, layout: &[u8]) -> io::Result<()> {
-    let mut output = [0xaau8; 8];
+    let mut output = [0xaa; 8];
     let a = packer::pack(layout, &[1, 0, 2, 0], b"xy", &mut output);
-    print::call(rt, b"pack", layout)?;
-    print::lent(rt, b"slot 1 0 2, output of eight bytes aa")?;
-    print::answer(rt, a.number, a.first, a.second)?;
-    print::text(rt, b"; output")?;
-    print::bytes(rt, &output, Style::Hex)?;
-    print::text(rt, b"\n")
+    println!(rt;
+        "pack '{}' slot 1 0 2, output of eight bytes aa{}; output{}",
+        Short(layout),
+        Answered(a),
+        Hex(&output)
+    )
 }
 
 // Packs into 4096 bytes.
-fn long(
-    rt: &impl Print,
-    layout: &[u8],
-    told: &[u8],
-    slots: &[u32],
-    area: &[u8],
-    record: &mut [u8; 4096],
-) -> io::Result<()> {
-    show(rt, layout, told, slots, area, record)
-}
-
 fn fresh(
-    rt: &impl Print,
+    rt: &(impl Print + AllocGlobal),
     layout: &[u8],
     told: &[u8],
     slots: &[u32],
     area: &[u8],
 ) -> io::Result<()> {
-    long(rt, layout, told, slots, area, &mut [0; 4096])
+    let mut output = vec![in rt.alloc(); 0; 4096]?;
+    show(rt, layout, told, slots, area, &mut output)
 }
 
 // Packs the arguments that a text names.
-pub fn example(rt: &impl Print, layout: &[u8], told: &[u8]) -> io::Result<()> {
-    let mut slots = [0u32; MAX_NUMBERS];
-    let mut area = [0u8; 256];
-    let used = notation::parse(told, &mut slots, &mut area);
-    fresh(
-        rt,
-        layout,
-        told,
-        notation::slots(&slots, used),
-        notation::area(&area, used),
-    )
+pub fn example(rt: &(impl Print + AllocGlobal), layout: &[u8], told: &[u8]) -> io::Result<()> {
+    let all = Arguments::parse(told);
+    fresh(rt, layout, told, all.slots(), all.area())
 }
 
 // A digit of a text: the low half of its byte.
-pub fn digit(text: &[u8], at: usize) -> u32 {
-    if text.len() <= at {
-        return 0;
-    }
-    (text[at] % 16) as u32
+pub fn digit(text: &[u8], at: usize) -> u8 {
+    text.get(at).map_or(0, |b| b % 16)
 }
 
-// Packs the slot whose three digits a text names, over an area of two bytes.
-pub fn placed(rt: &impl Print, layout: &[u8], told: &[u8]) -> io::Result<()> {
-    fresh(
-        rt,
-        layout,
-        told,
-        &[digit(told, 5), digit(told, 7), digit(told, 9), 0],
-        b"xy",
-    )
+// Packs a slot over an area of two bytes.
+pub fn slot(
+    rt: &(impl Print + AllocGlobal),
+    layout: &[u8],
+    told: &[u8],
+    slot: [u32; SLOT_WIDTH],
+) -> io::Result<()> {
+    fresh(rt, layout, told, &slot, b"xy")
 }
 
-// The position in a slot is not looked at.
-pub fn position(rt: &impl Print, layout: &[u8], told: &[u8]) -> io::Result<()> {
-    fresh(rt, layout, told, &[1, 1, 1, 4294967295], b"xy")
+// Packs the slot whose three digits a text names.
+pub fn placed(rt: &(impl Print + AllocGlobal), layout: &[u8], told: &[u8]) -> io::Result<()> {
+    let [kind, start, length] = [5, 7, 9].map(|at| u32::from(digit(told, at)));
+    slot(rt, layout, told, [kind, start, length, 0])
 }
 
-pub fn far(rt: &impl Print, layout: &[u8], told: &[u8]) -> io::Result<()> {
-    fresh(rt, layout, told, &[1, 4294967295, 1, 0], b"xy")
+pub fn unsigned(rt: &(impl Print + AllocGlobal), layout: &[u8], told: &[u8]) -> io::Result<()> {
+    fresh(rt, layout, told, &[3, 0, 1, 0], &510u64.to_be_bytes())
 }
 
-pub fn unsigned(rt: &impl Print, layout: &[u8], told: &[u8]) -> io::Result<()> {
-    fresh(
-        rt,
-        layout,
-        told,
-        &[3, 0, 1, 0],
-        b"\x00\x00\x00\x00\x00\x00\x01\xfe",
-    )
+// Packs a string of as many bytes as a text names, into an output of a size.
+pub fn output(
+    rt: &(impl Print + AllocGlobal),
+    layout: &[u8],
+    told: &[u8],
+    size: usize,
+) -> io::Result<()> {
+    let slot = [1, 0, u32::from(digit(told, 9)), 0];
+    let mut output = vec![in rt.alloc(); 0; size]?;
+    show(rt, layout, told, &slot, b"xy", &mut output)
 }
 
-fn layouts(rt: &impl Print) -> io::Result<()> {
-    fresh(rt, &[b'x'; 256], b"layout of 256 bytes", &[0; 0], b"")?;
-    fresh(rt, &[b'x'; 257], b"layout of 257 bytes", &[0; 0], b"")
-}
-
-fn tables(rt: &impl Print) -> io::Result<()> {
+// Number 1: layouts, slots and areas at their limits and one above.
+pub fn sizes(rt: &(impl Print + AllocGlobal)) -> io::Result<()> {
+    fresh(rt, &[b'x'; 256], b"layout of 256 bytes", &[], b"")?;
+    fresh(rt, &[b'x'; 257], b"layout of 257 bytes", &[], b"")?;
     fresh(
         rt,
         &[b'a'; 64],
@@ -127,55 +108,23 @@ fn tables(rt: &impl Print) -> io::Result<()> {
         b"65 slots 1 1 1 1",
         &[1; MAX_NUMBERS + SLOT_WIDTH],
         b"xy",
-    )
-}
-
-// Packs the last byte of an area.
-fn last(rt: &impl Print, told: &[u8], area: &[u8]) -> io::Result<()> {
-    fresh(rt, b"a", told, &[1, 524287, 1, 0], area)
-}
-
-// A long array is lent as an array, and only its borrower takes it for a slice: where an array is made, the prover
-// counts a slice of it byte by byte.
-fn longest(rt: &impl Print, area: &[u8; MAX_AREA]) -> io::Result<()> {
-    last(rt, b"slot 1 524287 1, area of 524288 bytes", area)
-}
-
-fn longer(rt: &impl Print, area: &[u8; MAX_AREA + 1]) -> io::Result<()> {
-    last(rt, b"slot 1 524287 1, area of 524289 bytes", area)
-}
-
-// Number 1: layouts, slots and areas at their limits and one above.
-pub fn sizes(rt: &impl Print) -> io::Result<()> {
-    layouts(rt)?;
-    tables(rt)?;
+    )?;
     fresh(rt, b"a", b"five numbers", &[1; 5], b"xy")?;
-    longest(rt, &[b'z'; MAX_AREA])?;
-    longer(rt, &[b'z'; MAX_AREA + 1])
-}
-
-// Packs a string of as many bytes as a text names, into an output that is lent.
-fn output(rt: &impl Print, layout: &[u8], told: &[u8], record: &mut [u8]) -> io::Result<()> {
-    show(rt, layout, told, &[1, 0, digit(told, 9), 0], b"xy", record)
-}
-
-pub fn two(rt: &impl Print, layout: &[u8], told: &[u8]) -> io::Result<()> {
-    output(rt, layout, told, &mut [0; 2])
-}
-
-// An output as long as can be, and one above.
-fn limit(rt: &impl Print, layout: &[u8], told: &[u8], record: &mut [u8; 32768]) -> io::Result<()> {
-    output(rt, layout, told, record)
-}
-
-pub fn at_limit(rt: &impl Print, layout: &[u8], told: &[u8]) -> io::Result<()> {
-    limit(rt, layout, told, &mut [0; 32768])
-}
-
-fn above(rt: &impl Print, layout: &[u8], told: &[u8], record: &mut [u8; 32769]) -> io::Result<()> {
-    output(rt, layout, told, record)
-}
-
-pub fn above_limit(rt: &impl Print, layout: &[u8], told: &[u8]) -> io::Result<()> {
-    above(rt, layout, told, &mut [0; 32769])
+    let last = [1, 524287, 1, 0];
+    let area = vec![in rt.alloc(); b'z'; MAX_AREA]?;
+    fresh(
+        rt,
+        b"a",
+        b"slot 1 524287 1, area of 524288 bytes",
+        &last,
+        &area,
+    )?;
+    let area = vec![in rt.alloc(); b'z'; MAX_AREA + 1]?;
+    fresh(
+        rt,
+        b"a",
+        b"slot 1 524287 1, area of 524289 bytes",
+        &last,
+        &area,
+    )
 }

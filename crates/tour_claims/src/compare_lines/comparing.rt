@@ -1,42 +1,35 @@
 // Calls on two tables and areas.
 use record::{MAX_AREA, MAX_RECORD, SLOT_WIDTH};
 use std::io;
-use tour_text::print::Style;
-use tour_text::{print, values};
+use tour_text::print::{Answered, Hex, Lent, Numbers, Short};
+use tour_text::values::{Table, Whole};
 
-// The layout, both records, and what is lent besides.
-fn lent(
-    rt: &impl Print,
-    layout: &[u8],
-    first: &[u8],
-    second: &[u8],
-    told: &[u8],
-) -> io::Result<()> {
-    print::call(rt, b"compare", layout)?;
-    print::shortened(rt, first, Style::Hex)?;
-    print::text(rt, b" with")?;
-    print::shortened(rt, second, Style::Hex)?;
-    print::lent(rt, told)
+// What a call is lent for the values of one of the two records.
+#[derive(Drop)]
+struct Room<'a> {
+    slots: &'a mut [u32],
+    area: &'a mut [u8],
 }
 
-fn report_told(rt: &impl Print, report: &[u32]) -> io::Result<()> {
-    print::text(rt, b"; report")?;
-    print::numbers(rt, report)
-}
-
-// Compares, and prints the line; `told` names what is lent besides.
+// Compares, and prints a line but for its end; `told` names what is lent besides.
 fn show(
     rt: &impl Print,
     layout: &[u8],
     first: &[u8],
     second: &[u8],
     told: &[u8],
-    first_slots: &mut [u32],
-    first_area: &mut [u8],
-    second_slots: &mut [u32],
-    second_area: &mut [u8],
+    one: Room,
+    other: Room,
     report: &mut [u32],
 ) -> io::Result<()> {
+    let Room {
+        slots: first_slots,
+        area: first_area,
+    } = one;
+    let Room {
+        slots: second_slots,
+        area: second_area,
+    } = other;
     let a = compare::compare(
         layout,
         first,
@@ -47,9 +40,15 @@ fn show(
         second_area,
         report,
     );
-    lent(rt, layout, first, second, told)?;
-    print::answer(rt, a.number, a.first, a.second)?;
-    report_told(rt, report)
+    print!(rt;
+        "compare '{}'{} with{}{}{}; report{}",
+        Short(layout),
+        Hex(first),
+        Hex(second),
+        Lent(told),
+        Answered(a),
+        Numbers(report)
+    )
 }
 
 // Compares into tables and areas of its own: three value fields at most.
@@ -67,160 +66,112 @@ pub fn own(
         first,
         second,
         told,
-        &mut [0; 3 * SLOT_WIDTH],
-        &mut [0; 64],
-        &mut [0; 3 * SLOT_WIDTH],
-        &mut [0; 64],
+        Room {
+            slots: &mut [0; 3 * SLOT_WIDTH],
+            area: &mut [0; 64],
+        },
+        Room {
+            slots: &mut [0; 3 * SLOT_WIDTH],
+            area: &mut [0; 64],
+        },
         report,
     )?;
-    print::text(rt, b"\n")
+    println!(rt; "")
 }
 
 // Compares a record of two value fields with itself.
-fn same(
-    rt: &impl Print,
-    told: &[u8],
-    first_slots: &mut [u32],
-    first_area: &mut [u8],
-    second_slots: &mut [u32],
-    second_area: &mut [u8],
-) -> io::Result<()> {
+fn same(rt: &impl Print, told: &[u8], one: Room, other: Room) -> io::Result<()> {
     show(
         rt,
         b"a2c",
         b"xy\x07",
         b"xy\x07",
         told,
-        first_slots,
-        first_area,
-        second_slots,
-        second_area,
+        one,
+        other,
         &mut [9; 6],
     )?;
-    print::text(rt, b"\n")
+    println!(rt; "")
 }
 
-fn table(rt: &impl Print, told: &[u8], first: &mut [u32], second: &mut [u32]) -> io::Result<()> {
-    same(rt, told, first, &mut [0; 64], second, &mut [0; 64])
+fn tables(rt: &impl Print, told: &[u8], first: &mut [u32], second: &mut [u32]) -> io::Result<()> {
+    let one = Room {
+        slots: first,
+        area: &mut [0; 64],
+    };
+    let other = Room {
+        slots: second,
+        area: &mut [0; 64],
+    };
+    same(rt, told, one, other)
 }
 
 // Number 5, of either table.
 pub fn short_tables(rt: &impl Print) -> io::Result<()> {
-    table(
-        rt,
-        b"two slots each",
-        &mut [0; 2 * SLOT_WIDTH],
-        &mut [0; 2 * SLOT_WIDTH],
-    )?;
-    table(
-        rt,
-        b"one slot first",
-        &mut [0; SLOT_WIDTH],
-        &mut [0; 2 * SLOT_WIDTH],
-    )?;
-    table(
-        rt,
-        b"one slot second",
-        &mut [0; 2 * SLOT_WIDTH],
-        &mut [0; SLOT_WIDTH],
-    )
+    tables(rt, b"two slots each", &mut [0; 8], &mut [0; 8])?;
+    tables(rt, b"one slot first", &mut [0; 4], &mut [0; 8])?;
+    tables(rt, b"one slot second", &mut [0; 8], &mut [0; 4])
 }
 
 // Number 1, of either table; of the second after number 5 of the first.
 pub fn ragged_tables(rt: &impl Print) -> io::Result<()> {
-    table(
-        rt,
-        b"a number more first",
-        &mut [0; 2 * SLOT_WIDTH + 1],
-        &mut [0; 2 * SLOT_WIDTH],
-    )?;
-    table(
-        rt,
-        b"a number more second",
-        &mut [0; 2 * SLOT_WIDTH],
-        &mut [0; 2 * SLOT_WIDTH + 1],
-    )?;
-    table(
+    tables(rt, b"a number more first", &mut [0; 9], &mut [0; 8])?;
+    tables(rt, b"a number more second", &mut [0; 8], &mut [0; 9])?;
+    tables(
         rt,
         b"one slot first, a number more second",
-        &mut [0; SLOT_WIDTH],
-        &mut [0; SLOT_WIDTH + 1],
+        &mut [0; 4],
+        &mut [0; 5],
     )
 }
 
-fn area(rt: &impl Print, told: &[u8], first: &mut [u8], second: &mut [u8]) -> io::Result<()> {
-    same(
-        rt,
-        told,
-        &mut [0; 2 * SLOT_WIDTH],
-        first,
-        &mut [0; 2 * SLOT_WIDTH],
-        second,
-    )
+fn areas(rt: &impl Print, told: &[u8], first: &mut [u8], second: &mut [u8]) -> io::Result<()> {
+    let one = Room {
+        slots: &mut [0; 2 * SLOT_WIDTH],
+        area: first,
+    };
+    let other = Room {
+        slots: &mut [0; 2 * SLOT_WIDTH],
+        area: second,
+    };
+    same(rt, told, one, other)
 }
 
 // Number 11, of either area.
 pub fn short_areas(rt: &impl Print) -> io::Result<()> {
-    area(rt, b"areas of 10 bytes", &mut [0; 10], &mut [0; 10])?;
-    area(rt, b"areas of 9 and 10 bytes", &mut [0; 9], &mut [0; 10])?;
-    area(rt, b"areas of 10 and 9 bytes", &mut [0; 10], &mut [0; 9])
+    areas(rt, b"areas of 10 bytes", &mut [0; 10], &mut [0; 10])?;
+    areas(rt, b"areas of 9 and 10 bytes", &mut [0; 9], &mut [0; 10])?;
+    areas(rt, b"areas of 10 and 9 bytes", &mut [0; 10], &mut [0; 9])
 }
 
-// Number 1, of the second area, after number 11 of the first. A long array is lent as an array, and only its borrower
-// takes it for a slice: where an array is made, the prover counts a slice of it byte by byte.
-fn longer(
-    rt: &impl Print,
-    told: &[u8],
-    first: &mut [u8],
-    second: &mut [u8; MAX_AREA + 1],
-) -> io::Result<()> {
-    area(rt, told, first, second)
-}
-
-pub fn long_areas(rt: &impl Print) -> io::Result<()> {
-    longer(
-        rt,
-        b"second area over its size",
-        &mut [0; 10],
-        &mut [0; MAX_AREA + 1],
-    )?;
-    longer(
+// Number 1, of the second area, after number 11 of the first.
+pub fn long_areas(rt: &(impl Print + AllocGlobal)) -> io::Result<()> {
+    let mut long = vec![in rt.alloc(); 0; MAX_AREA + 1]?;
+    areas(rt, b"second area over its size", &mut [0; 10], &mut long)?;
+    areas(
         rt,
         b"first area of 9 bytes, second over its size",
         &mut [0; 9],
-        &mut [0; MAX_AREA + 1],
+        &mut long,
     )
-}
-
-fn longest_records(
-    rt: &impl Print,
-    first: &[u8; MAX_RECORD],
-    second: &[u8; MAX_RECORD],
-) -> io::Result<()> {
-    own(
-        rt,
-        b"@32767a",
-        first,
-        second,
-        b"records of the longest size",
-        &mut [9; 3],
-    )
-}
-
-fn longer_first(rt: &impl Print, first: &[u8; MAX_RECORD + 1]) -> io::Result<()> {
-    own(rt, b"a", first, b"x", b"a byte more first", &mut [9; 3])
-}
-
-fn longer_second(rt: &impl Print, layout: &[u8], second: &[u8; MAX_RECORD + 1]) -> io::Result<()> {
-    own(rt, layout, b"x", second, b"a byte more second", &mut [9; 3])
 }
 
 // Records at their limit and above: number 1, after every refusal of the first.
-pub fn records(rt: &impl Print) -> io::Result<()> {
-    longest_records(rt, &[b'x'; MAX_RECORD], &[b'y'; MAX_RECORD])?;
-    longer_first(rt, &[b'x'; MAX_RECORD + 1])?;
-    longer_second(rt, b"a", &[b'x'; MAX_RECORD + 1])?;
-    longer_second(rt, b"a9z", &[b'x'; MAX_RECORD + 1])
+pub fn records(rt: &(impl Print + AllocGlobal)) -> io::Result<()> {
+    let x = vec![in rt.alloc(); b'x'; MAX_RECORD]?;
+    let y = vec![in rt.alloc(); b'y'; MAX_RECORD]?;
+    own(
+        rt,
+        b"@32767a",
+        &x,
+        &y,
+        b"records of the longest size",
+        &mut [9; 3],
+    )?;
+    let long = vec![in rt.alloc(); b'x'; MAX_RECORD + 1]?;
+    own(rt, b"a", &long, b"x", b"a byte more first", &mut [9; 3])?;
+    own(rt, b"a", b"x", &long, b"a byte more second", &mut [9; 3])?;
+    own(rt, b"a9z", b"x", &long, b"a byte more second", &mut [9; 3])
 }
 
 // Compares into slots of 9 and areas of bytes aa, and prints all that they then hold.
@@ -231,23 +182,28 @@ pub fn whole(
     second: &[u8],
     report: &mut [u32],
 ) -> io::Result<()> {
-    let mut first_slots = [9u32; 2 * SLOT_WIDTH];
-    let mut second_slots = [9u32; 2 * SLOT_WIDTH];
-    let mut first_area = [0xaau8; 12];
-    let mut second_area = [0xaau8; 12];
-    show(
-        rt,
-        layout,
-        first,
-        second,
-        b"",
-        &mut first_slots,
-        &mut first_area,
-        &mut second_slots,
-        &mut second_area,
-        report,
-    )?;
-    values::whole(rt, &first_slots, &first_area)?;
-    values::whole(rt, &second_slots, &second_area)?;
-    print::text(rt, b"\n")
+    let mut first_slots = [9; 2 * SLOT_WIDTH];
+    let mut second_slots = [9; 2 * SLOT_WIDTH];
+    let mut first_area = [0xaa; 12];
+    let mut second_area = [0xaa; 12];
+    let one = Room {
+        slots: &mut first_slots,
+        area: &mut first_area,
+    };
+    let other = Room {
+        slots: &mut second_slots,
+        area: &mut second_area,
+    };
+    show(rt, layout, first, second, b"", one, other, report)?;
+    println!(rt;
+        "{}{}",
+        Whole(Table {
+            slots: &first_slots,
+            area: &first_area
+        }),
+        Whole(Table {
+            slots: &second_slots,
+            area: &second_area
+        })
+    )
 }

@@ -1,11 +1,10 @@
 // Lists of examples: a letter, a layout, the two records and what is lent besides, with bars between. The letter is a
 // digit, for a report of as many numbers, or `w`, to show all that is lent, with a report of seven, or `v`, with one of
 // five.
-use super::super::lists;
-use super::super::lists::Show;
 use super::comparing;
 use std::io;
-use tour_text::lines;
+use tour_text::lists;
+use tour_text::lists::at_bar;
 
 fn call(
     rt: &impl Print,
@@ -16,7 +15,7 @@ fn call(
     told: &[u8],
 ) -> io::Result<()> {
     match kind {
-        b'0' => comparing::own(rt, layout, first, second, told, &mut [9; 0]),
+        b'0' => comparing::own(rt, layout, first, second, told, &mut []),
         b'5' => comparing::own(rt, layout, first, second, told, &mut [9; 5]),
         b'6' => comparing::own(rt, layout, first, second, told, &mut [9; 6]),
         b'v' => comparing::whole(rt, layout, first, second, &mut [9; 5]),
@@ -25,30 +24,20 @@ fn call(
     }
 }
 
-// What follows the second bar.
-fn last(rt: &impl Print, kind: u8, layout: &[u8], first: &[u8], rest: &[u8]) -> io::Result<()> {
-    let bar = lines::find(rest, 0, b'|');
-    if bar < rest.len() {
-        let told = bar + 1;
-        call(rt, kind, layout, first, &rest[0..bar], &rest[told..])?;
-    }
-    Ok(())
-}
-
-// What follows the first bar.
-pub fn records(rt: &impl Print, kind: u8, layout: &[u8], rest: &[u8]) -> io::Result<()> {
-    let bar = lines::find(rest, 0, b'|');
-    if bar < rest.len() {
-        let second = bar + 1;
-        last(rt, kind, layout, &rest[0..bar], &rest[second..])?;
-    }
-    Ok(())
+fn run(rt: &impl Print, list: &[u8]) -> io::Result<()> {
+    lists::run(rt, list, |kind, layout, rest| {
+        if let Some((first, rest)) = at_bar(rest)
+            && let Some((second, told)) = at_bar(rest)
+        {
+            call(rt, kind, layout, first, second, told)?;
+        }
+        Ok(())
+    })
 }
 
 pub fn verdicts(rt: &impl Print) -> io::Result<()> {
-    lists::run(
+    run(
         rt,
-        Show::Compared,
         b"
 h |Comparing: layout, first and second record -> number, first, second; report
 
@@ -102,9 +91,8 @@ Numbers 2, 3, 4 and 5.
 }
 
 pub fn reports(rt: &impl Print) -> io::Result<()> {
-    lists::run(
+    run(
         rt,
-        Show::Compared,
         b"
 
 Number 11: a report of fewer numbers than three a value field.

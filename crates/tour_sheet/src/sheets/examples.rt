@@ -1,14 +1,12 @@
 // Lists of examples, one a line: `w` and a table to write, `r` and a sheet to read, `k` and a sheet to read and show
 // all that is lent, or `h` and a heading. A line of no such letter is no example. No sheet among them has the byte 0a.
-use super::super::lists;
-use super::super::lists::Show;
 use super::{reading, writing};
 use std::io;
-use tour_text::print;
+use tour_text::print::Escaped;
 
 fn example(rt: &impl Print, kind: u8, rest: &[u8]) -> io::Result<()> {
     match kind {
-        b'h' => print::heading(rt, rest),
+        b'h' => println!(rt; "{}", Escaped(rest)),
         b'w' => writing::example(rt, rest),
         b'r' => reading::example(rt, rest),
         b'k' => reading::whole(rt, rest),
@@ -16,17 +14,18 @@ fn example(rt: &impl Print, kind: u8, rest: &[u8]) -> io::Result<()> {
     }
 }
 
-pub fn line(rt: &impl Print, text: &[u8]) -> io::Result<()> {
-    if text.len() < 2 {
-        return Ok(());
+fn run(rt: &impl Print, list: &[u8]) -> io::Result<()> {
+    for line in list.split(|b| *b == b'\n') {
+        if let [kind, _, rest @ ..] = line {
+            example(rt, *kind, rest)?;
+        }
     }
-    example(rt, text[0], &text[2..])
+    Ok(())
 }
 
 pub fn written(rt: &impl Print) -> io::Result<()> {
-    lists::run(
+    run(
         rt,
-        Show::Sheets,
         b"
 h Writing: table -> number, first, second: sheet. Keeping: the same, then read from the mark 4 on: values
 
@@ -41,9 +40,8 @@ w {1 258} - \"a\"
 }
 
 pub fn read(rt: &impl Print) -> io::Result<()> {
-    lists::run(
+    run(
         rt,
-        Show::Sheets,
         b"
 h\x20
 h Reading: sheet -> number, first, second: values
@@ -102,9 +100,8 @@ r \x02\x00\x00\x00\x14\x00\x00\x00\x01\x00\x00\x00\x00\x01\x00\x00\x00\x00\x01\x
 }
 
 pub fn kept(rt: &impl Print) -> io::Result<()> {
-    lists::run(
+    run(
         rt,
-        Show::Sheets,
         b"
 
 Slots past the last entry and bytes that no value covers stay as lent, and all of a refused call does.

@@ -1,33 +1,28 @@
--- A turn puts the lowest byte that is left, so the loop keeps what comes of putting those that are left. All eight are
--- put at once.
+-- All eight bytes are put at once. Else a turn puts the lowest byte that is left.
 use Prim.Native.Nat.{suc, ◌-◌}
 use native.Mathlib.Omega.{arith}
-use mathlib.Core.Path.{◌≡◌, refl, sym, ◌∙◌}
-use lib.ListN.{length-set}
-use Rattle.record.specs.Bytes.{digits, number_bytes}
+use mathlib.Core.Path.{◌≡◌, sym, ap, ◌∙◌}
+use Rattle.std.proofs.Common.{rules}
+use Rattle.record.specs.Bytes.{store_at, digits, number_bytes}
 use Rattle.record.proofs.NumberLaws.{high-put}
 use Rattle.record.proofs.Stores.{store-none}
+use Rattle.byte_runs.proofs.ByteLaws.{put-part}
+use Rattle.byte_runs.proofs.Endian.{high_bytes}
 use Rattle.byte_runs.proofs.big_endian.put_number.Goals as goal
 
 pub returns-then-w-eq-INTEGER_SIZE : goal.returns-then-w-eq-INTEGER_SIZE
-returns-then-w-eq-INTEGER_SIZE c = rw c.if-w-eq-INTEGER_SIZE.true c.put_eight.ensures
+returns-then-w-eq-INTEGER_SIZE c =
+    let a = c.args in
+    put-part a.at _ a.out.now _ (search rules) ∙ ap (store_at a.out.now a.at) (c.copy_from_slice.ensures.after ∙ c.to_be_bytes.ensures ∙ rw c.if-w-eq-INTEGER_SIZE.true (high_bytes 8 a.x))
 
-pub loop-left-init : goal.loop-left-init
-loop-left-init c = (omega arith, refl, refl)
-
-pub loop-left-preserved : goal.loop-left-preserved
-loop-left-preserved c =
-    let loop = c.loop-left in
-    let at = c.args.at in
-    let on : loop.left ≡ suc (loop.left - 1) = omega arith in
-    (omega arith, simp length-set loop.invariant.1, high-put loop.out at (loop.left - 1) loop.rest (omega arith) ∙ (rw on at loop.invariant.2))
-
-pub shape_of-out : goal.shape_of-out
-shape_of-out c = c.loop-left.invariant.1
+pub loop-j-preserved : goal.loop-j-preserved
+loop-j-preserved c =
+    let loop = c.loop-j in
+    let on : loop.j ≡ suc (loop.j - 1) = omega arith in
+    high-put loop.out c.args.at (loop.j - 1) loop.rest (omega arith) ∙ rw on at loop.invariant
 
 pub returns : goal.returns
 unfolding number_bytes digits
 returns c =
-    let loop = c.loop-left in
-    let none : loop.left ≡ 0 = omega arith in
-    sym (store-none loop.out c.args.at) ∙ (rw none at loop.invariant.2)
+    let none : c.loop-j.j ≡ 0 = omega arith in
+    sym (store-none c.loop-j.out c.args.at) ∙ rw none at c.loop-j.invariant

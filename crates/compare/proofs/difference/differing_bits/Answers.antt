@@ -1,31 +1,24 @@
 -- The sum so far is that of the blocks so far.
-use native.Mathlib.Omega.{arith}
-use Rattle.compare.proofs.difference.Bits.{counted_none, counted-block, counted-done}
+
+use Rattle.std.proofs.Common.{◌≡◌, ◌∙◌, arith, ◌+◌, ◌-◌, ◌*◌, ◌/◌, ◌≤◌, length, drop}
+use lib.ListN.{length-take}
+use Rattle.compare.proofs.difference.Bits.{Counted, counted_none, counted-block, counted-last}
 use Rattle.compare.proofs.difference.differing_bits.Goals as goal
 
-pub loop-i-init : goal.loop-i-init
-loop-i-init c = (omega arith, counted_none _ _ _ _)
+pub loop-k-init : goal.loop-k-init
+loop-k-init c = counted_none _ _
 
-pub block_bits-bits-requires : goal.block_bits-bits-requires
-block_bits-bits-requires c = (omega (arith, c.least-m.ensures), omega (arith, c.least-m.ensures), omega (arith, c.least-m.ensures))
-
-pub overflow_cast-sum : goal.overflow_cast-sum
-overflow_cast-sum c = omega (arith, c.block_bits-bits.ensures.1, c.least-m.ensures)
-
-pub overflow_add-sum : goal.overflow_add-sum
-overflow_add-sum c = omega (arith, c.loop-i.invariant.1.small, c.block_bits-bits.ensures.1, c.least-m.ensures)
-
-pub overflow_add-i : goal.overflow_add-i
-overflow_add-i c = omega (arith, c.least-m.ensures)
-
-pub loop-i-smaller : goal.loop-i-smaller
-loop-i-smaller c = omega (arith, c.least-m.ensures)
-
-pub loop-i-preserved : goal.loop-i-preserved
-loop-i-preserved c =
-    let m = c.least-m in
-    let bits = c.block_bits-bits.ensures in
-    (omega (arith, m.ensures), counted-block m.result c.loop-i.invariant.1 (omega (arith, m.ensures)) (omega (arith, m.ensures)) bits.0 bits.1)
+pub loop-k-preserved : goal.loop-k-preserved
+loop-k-preserved c =
+    let l = c.loop-k in
+    let m = 16 * l.k + 16 - 16 * l.k in
+    let next : 16 * (l.k + 1) ≡ 16 * l.k + m = omega arith in
+    let few : c.from-sum.result ≤ 8 * m = omega (arith, c.from-sum.ensures, c.block_bits.ensures.few, length-take m (drop (16 * l.k) c.args.first.now)) in
+    rw next (counted-block c.requires.0 l.invariant m (c.from-sum.ensures ∙ c.block_bits.ensures.value) few)
 
 pub returns : goal.returns
-returns c = counted-done c.loop-i.invariant.1 c.loop-i.invariant.0 c.loop-i-test.false
+returns c =
+    let l = c.loop-k in
+    let end : 16 * l.k ≡ 16 * (length c.args.first.now / 16) = omega arith in
+    let blocks : Counted c.args.first.now c.args.second.now l.sum (16 * (length c.args.first.now / 16)) = rw end at l.invariant in
+    counted-last c.requires.0 blocks (c.from.ensures ∙ c.block_bits-2.ensures.value)

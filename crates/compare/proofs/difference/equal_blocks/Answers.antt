@@ -1,25 +1,17 @@
--- The loop keeps that the bytes up to i are the same.
-use native.Mathlib.Omega.{arith}
-use mathlib.Core.Path.{refl, sym, ◌∙◌}
+-- The loop keeps that the blocks before number k are the same.
+
+use Rattle.std.proofs.Common.{◌≡◌, refl, sym, ◌∙◌, arith, ◌+◌, ◌-◌, ◌*◌}
 use Rattle.compare.specs.Difference.{same_bytes}
 use Rattle.compare.proofs.difference.Runs.{block_same}
 use Rattle.compare.proofs.difference.equal_blocks.Goals as goal
 
-pub loop-i-init : goal.loop-i-init
+pub loop-k-init : goal.loop-k-init
 unfolding same_bytes
-loop-i-init c = (omega arith, refl)
+loop-k-init c = refl
 
-pub same_bytes-requires : goal.same_bytes-requires
-same_bytes-requires c = (omega arith, omega arith)
-
-pub returns-then-not-same_bytes : goal.returns-then-not-same_bytes
-returns-then-not-same_bytes c = c.loop-i.invariant
-
-pub loop-i-preserved : goal.loop-i-preserved
-loop-i-preserved c =
+pub loop-k-preserved : goal.loop-k-preserved
+loop-k-preserved c =
     let a = c.args in
-    let l = c.loop-i in
-    (omega arith, block_same a.first.now a.at a.second.now a.to l.i 16 (omega arith) (omega arith) l.invariant.1 (sym c.same_bytes.ensures ∙ c.if-not-same_bytes.false))
-
-pub returns : goal.returns
-returns c = c.loop-i.invariant
+    let k = c.loop-k.k in
+    let next : 16 * (k + 1) ≡ 16 * k + (16 * k + 16 - 16 * k) = omega arith in
+    rw next (block_same a.first.now a.second.now (16 * k) (16 * k + 16 - 16 * k) c.requires c.loop-k.invariant (sym c.same_bytes.ensures ∙ c.if-not-same_bytes.false))

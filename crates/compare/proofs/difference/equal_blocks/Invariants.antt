@@ -1,13 +1,8 @@
--- The loop keeps that the bytes up to i are the same.
-use Prim.Native.Nat.{◌-◌, ◌≤◌}
-use mathlib.Core.Path.{◌≡◌}
-use mathlib.Core.Bool.{true}
-use Rattle.record.specs.Bytes.{part}
+-- The loop keeps that the blocks before number k are the same.
+
 use Rattle.compare.specs.Difference.{same_bytes}
 use Rattle.compare.proofs.difference.equal_blocks.Given as goal
+use Rattle.std.proofs.Common.{◌≡◌, ◌*◌, take, true}
 
-abbrev pub invariant-loop-i : goal.invariant-loop-i
-invariant-loop-i l = (l.i ≤ l.n) × (same_bytes (part l.first l.at l.i) (part l.second l.to l.i) ≡ true)
-
-abbrev pub decreases-loop-i : goal.decreases-loop-i
-decreases-loop-i l = l.n - l.i
+abbrev pub invariant-loop-k : goal.invariant-loop-k
+invariant-loop-k l = same_bytes (take (16 * l.k) l.first) (take (16 * l.k) l.second) ≡ true

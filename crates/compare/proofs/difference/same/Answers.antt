@@ -1,9 +1,10 @@
 -- Runs of different lengths are not the same.
-use Rattle.compare.proofs.difference.Runs.{parts-long}
+
+use Rattle.std.proofs.Common.{sym, length}
+use Rattle.compare.proofs.difference.Runs.{same-long}
+use borrow.Author.Tests.{ne_eqb}
 use Rattle.compare.proofs.difference.same.Goals as goal
 
-pub returns-then-n-m : goal.returns-then-n-m
-returns-then-n-m c = let p = c.requires in parts-long _ _ _ _ _ _ p.0 p.1 c.if-n-m.true
-
-pub returns : goal.returns
-returns c = let e = c.if-n-m.false in cc
+pub returns-else-first-second : goal.returns-else-first-second
+returns-else-first-second c =
+    rw (ne_eqb (length c.args.first.now) (length c.args.second.now) c.if-first-second.false) (sym (same-long c.args.first.now c.args.second.now c.if-first-second.false))

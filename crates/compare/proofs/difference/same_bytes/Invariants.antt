@@ -1,12 +1,8 @@
 -- The loop keeps in `good` whether the bytes up to i are the same.
-use Prim.Native.Nat.{◌-◌, ◌≤◌}
-use mathlib.Core.Path.{◌≡◌}
-use Rattle.record.specs.Bytes.{part}
+
 use Rattle.compare.specs.Difference.{same_bytes}
 use Rattle.compare.proofs.difference.same_bytes.Given as goal
+use Rattle.std.proofs.Common.{◌≡◌, take}
 
 abbrev pub invariant-loop-i : goal.invariant-loop-i
-invariant-loop-i l = (l.i ≤ l.n) × (l.good ≡ same_bytes (part l.first l.at l.i) (part l.second l.to l.i))
-
-abbrev pub decreases-loop-i : goal.decreases-loop-i
-decreases-loop-i l = l.n - l.i
+invariant-loop-i l = l.good ≡ same_bytes (take l.i l.first) (take l.i l.second)

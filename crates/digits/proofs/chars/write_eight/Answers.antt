@@ -1,20 +1,11 @@
 -- The two halves' characters, stored one after the other, are the byte's.
-use mathlib.Core.Bool.{true, false}
-use Rattle.digits.proofs.chars.CharLaws.{two-fours, low_first, high-first}
+
+use Rattle.std.proofs.Common.{◌∙◌}
+use Rattle.digits.proofs.chars.CharLaws.{low_first, high-first}
 use Rattle.digits.proofs.chars.write_eight.Goals as goal
 
 pub returns-then-high : goal.returns-then-high
-returns-then-high c =
-    let a = c.args in
-    rw c.if-high.true
-    (two-fours a.area.now a.to c.four-top.result c.four-low.result true _
-    (rw (c.four-top.ensures, c.four-low.ensures) (high-first a.b)) c.requires c.put_four.ensures
-    c.put_four-then-high.ensures)
+returns-then-high c = rw c.if-high.true (c.put_fours.ensures ∙ rw (c.high_first.ensures, c.high_first-then-high.ensures) (high-first c.args.b))
 
-pub returns : goal.returns
-returns c =
-    let a = c.args in
-    rw c.if-high.false
-    (two-fours a.area.now a.to c.four-low.result c.four-top.result false _
-    (rw (c.four-top.ensures, c.four-low.ensures) (low_first a.b)) c.requires c.put_four-2.ensures
-    c.put_four-3.ensures)
+pub returns-else-high : goal.returns-else-high
+returns-else-high c = rw c.if-high.false (c.put_fours-else-high.ensures ∙ rw (c.low_first.ensures, c.low_first-else-high.ensures) (low_first c.args.b))

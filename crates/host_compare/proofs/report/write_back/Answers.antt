@@ -8,18 +8,6 @@ returns-then-a-ne0 c =
     let h = c.if-a-ne0.true in
     (replied.0, replied.1, (left_back _ _ _ h, left_back _ _ _ h, left_back _ _ _ h))
 
-pub encode-requires : goal.encode-requires
-encode-requires c =
-    (c.requires.fits c.if-a-ne0.false).first
-
-pub encode-requires-2 : goal.encode-requires-2
-encode-requires-2 c =
-    (c.requires.fits c.if-a-ne0.false).second
-
-pub encode_run-requires : goal.encode_run-requires
-encode_run-requires c =
-    (c.requires.fits c.if-a-ne0.false).findings
-
 pub returns : goal.returns
 returns c =
     let replied = c.reply_with-2.ensures in

@@ -1,12 +1,8 @@
--- The answer's four numbers are encoded, and the first is handed back.
-use mathlib.Core.Path.{refl, ◌∙◌}
-use mathlib.Core.List.{[], ◌∷◌}
+-- The reply of four numbers is one of an answer and a fourth number.
+use Rattle.host.specs.Host.{long_reply}
 use Rattle.host_sheet.specs.Rescuing.{rescue_reply}
-use Rattle.host.proofs.numbers.NumberLaws.{bytes_whole}
 use Rattle.host_sheet.proofs.damaged.reply_with.Goals as goal
 
 pub returns : goal.returns
-unfolding rescue_reply
-returns c =
-    let a = c.args.a in
-    (refl, c.encode_run.ensures ∙ bytes_whole c.args.reply.now (a.number ∷ a.first ∷ a.second ∷ a.third ∷ []) c.requires)
+unfolding rescue_reply long_reply
+returns c = c.reply_long.ensures

@@ -1,46 +1,17 @@
 -- Each way out is one law of the definition; what was tested on the way is its premise.
-use native.Mathlib.Omega.{arith}
-use mathlib.Core.Path.{◌≡◌, sym, ◌∙◌}
-use borrow.Author.Tests.{eqb-true}
-use mathlib.Core.Bool.{true}
-use lib.Dec.{eqb}
-use lib.ListN.{length}
-use Rattle.host_sheet.specs.Rescuing.{rescue_reply_size}
-use lib.Seq.{length-take-le}
-use Rattle.host.proofs.Guards.{Fit, fit, room_for}
+use Rattle.std.proofs.Common.{sym, ◌∙◌}
+use Rattle.host.proofs.Guards.{fit}
 use Rattle.host_sheet.proofs.damaged.Calls.{rescue-unwritten, rescue-refused, rescue-served}
 use Rattle.host_sheet.proofs.damaged.rescue.Goals as goal
 
-pub returns-then-not-reply_fits : goal.returns-then-not-reply_fits
-returns-then-not-reply_fits c = rescue-unwritten _ _ _ _ _ _ (sym c.reply_fits.ensures ∙ c.if-not-reply_fits.true)
-
-pub reply_with-requires : goal.reply_with-requires
-reply_with-requires c =
-    let sized : eqb (length c.args.reply.now) rescue_reply_size ≡ true = sym c.reply_fits.ensures ∙ c.if-not-reply_fits.false in eqb-true _ _ (sized)
+pub returns-then-not-long_reply_fits : goal.returns-then-not-long_reply_fits
+returns-then-not-long_reply_fits c = rw c.number.ensures (rescue-unwritten _ _ _ _ _ _ (sym c.long_reply_fits.ensures ∙ c.if-not-long_reply_fits.true))
 
 pub returns-then-not-slots_fit : goal.returns-then-not-slots_fit
 returns-then-not-slots_fit c =
-    let sized : eqb (length c.args.reply.now) rescue_reply_size ≡ true = sym c.reply_fits.ensures ∙ c.if-not-reply_fits.false in
-    rescue-refused _ _ _ _ _ _ (sized) (sym c.slots_fit.ensures
-    ∙ c.if-not-slots_fit.true) c.refused.ensures c.reply_with.ensures
-
-pub slice_bounds-room-end : goal.slice_bounds-room-end
-slice_bounds-room-end c =
-    let served : Fit (length c.args.slots.now) = fit _ (sym c.slots_fit.ensures ∙ c.if-not-slots_fit.false) in let k = served in omega (arith, k.few)
-
-pub slice_bounds-rescue_by-end : goal.slice_bounds-rescue_by-end
-slice_bounds-rescue_by-end c =
-    let served : Fit (length c.args.slots.now) = fit _ (sym c.slots_fit.ensures ∙ c.if-not-slots_fit.false) in
-    sym (length-take-le _ _ (omega (arith, served.few)))
-
-pub rescue_by-requires : goal.rescue_by-requires
-rescue_by-requires c =
-    let sized : eqb (length c.args.reply.now) rescue_reply_size ≡ true = sym c.reply_fits.ensures ∙ c.if-not-reply_fits.false in
-    let served : Fit (length c.args.slots.now) = fit _ (sym c.slots_fit.ensures ∙ c.if-not-slots_fit.false) in
-    (eqb-true _ _ (sized), room_for _ (served) (omega (arith, served.few)))
+    rescue-refused _ _ _ _ _ _ (sym c.long_reply_fits.ensures ∙ c.if-not-long_reply_fits.false) (sym c.slots_fit.ensures ∙ c.if-not-slots_fit.true) c.refused.ensures c.reply_with.ensures
 
 pub returns : goal.returns
 returns c =
-    let sized : eqb (length c.args.reply.now) rescue_reply_size ≡ true = sym c.reply_fits.ensures ∙ c.if-not-reply_fits.false in
-    let served : Fit (length c.args.slots.now) = fit _ (sym c.slots_fit.ensures ∙ c.if-not-slots_fit.false) in
-    c.rescue_by.ensures ∙ rescue-served _ _ _ _ _ _ (sized) (served)
+    c.rescue_by.ensures
+    ∙ rescue-served _ _ _ _ _ _ (sym c.long_reply_fits.ensures ∙ c.if-not-long_reply_fits.false) (fit _ (sym c.slots_fit.ensures ∙ c.if-not-slots_fit.false))

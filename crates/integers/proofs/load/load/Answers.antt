@@ -16,10 +16,4 @@ returns-then-w-eq8 c =
     let pre = rw eight at c.requires in
     rw eight
     (c.copy_eights.ensures
-    ∙ ap (store_at a.area.now a.to) (eights-loaded a.input.now a.at a.big a.unsigned a.n (λ i. (c.shared_slice_known-1.given i).fits) pre.2))
-
-pub returns-then-unsigned : goal.returns-then-unsigned
-returns-then-unsigned c = rw c.if-unsigned.true c.load_unsigned.ensures
-
-pub returns : goal.returns
-returns c = rw c.if-unsigned.false c.load_each.ensures
+    ∙ ap (store_at a.area.now a.to) (eights-loaded a.input.now a.at a.big a.unsigned a.n (λ i. (c.type_inv.input i).fits) pre.2))

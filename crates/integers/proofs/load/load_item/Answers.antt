@@ -1,13 +1,11 @@
--- Each width has its own way, and its law is that of every width.
-use Rattle.integers.proofs.load.LoadedLaws.{one_byte}
+-- The number, widened, has the item's eight bytes.
+use mathlib.Core.Path.{ap, ◌∙◌}
+use Rattle.record.specs.Bytes.{part, store_at}
+use Rattle.integers.proofs.load.LoadedLaws.{number-item}
 use Rattle.integers.proofs.load.load_item.Goals as goal
-
-pub returns-then-w-eq2 : goal.returns-then-w-eq2
-returns-then-w-eq2 c = rw c.if-w-eq2.true c.load_pair.ensures
-
-pub returns-then-w-eq4 : goal.returns-then-w-eq4
-returns-then-w-eq4 c = rw c.if-w-eq4.true c.load_four.ensures
 
 pub returns : goal.returns
 returns c =
-    rw (one_byte c.args.w c.requires.0 c.if-w-eq2.false c.if-w-eq4.false) (c.load_one.ensures c.args.big)
+    let a = c.args in
+    c.put_number.ensures
+    ∙ ap (store_at a.area.now a.to) (number-item a.w a.big a.unsigned (part a.input.now a.at a.w) _ _ c.number_at-x.ensures.0 c.widened.ensures)

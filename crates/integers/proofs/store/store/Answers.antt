@@ -18,7 +18,7 @@ returns-then-n-eq1 c =
     let pre = rw one at c.requires in
     rw one
     (c.copy_ordered.ensures
-    ∙ ap (store_at a.out.now a.at) (stored_one a.area.now a.start a.w a.big (λ i. (c.shared_slice_known-1.given i).fits) c.requires.0 (omega (arith, pre.2))))
+    ∙ ap (store_at a.out.now a.at) (stored_one a.area.now a.start a.w a.big (λ i. (c.type_inv.area i).fits) c.requires.0 (omega (arith, pre.2))))
 
 pub copy_eights-requires : goal.copy_eights-requires
 copy_eights-requires c =
@@ -32,4 +32,4 @@ returns-then-w-eq8 c =
     let pre = rw eight at c.requires in
     rw eight
     (c.copy_eights.ensures
-    ∙ ap (store_at a.out.now a.at) (eights-stored a.area.now a.start a.big a.n (λ i. (c.shared_slice_known-1.given i).fits) pre.2))
+    ∙ ap (store_at a.out.now a.at) (eights-stored a.area.now a.start a.big a.n (λ i. (c.type_inv.area i).fits) pre.2))

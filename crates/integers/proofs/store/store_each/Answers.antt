@@ -9,31 +9,17 @@ use Rattle.integers.proofs.store.StoredLaws.{stored-item, stored-runs}
 use Rattle.integers.proofs.store.store_each.Goals as goal
 
 pub loop-i-init : goal.loop-i-init
-loop-i-init c = (omega arith, wrote_none)
-
-pub overflow_mul-i : goal.overflow_mul-i
-overflow_mul-i c = omega (arith, next-run c.args.w c.loop-i-test.true)
-
-pub overflow_add-at : goal.overflow_add-at
-overflow_add-at c = omega (arith, next-run c.args.w c.loop-i-test.true)
-
-pub store_item-requires : goal.store_item-requires
-store_item-requires c = omega (arith, next-run c.args.w c.loop-i-test.true)
+loop-i-init c = wrote_none
 
 pub loop-i-preserved : goal.loop-i-preserved
 loop-i-preserved c =
     let loop = c.loop-i in
     let a = c.args in
-    let bytes = stored-item a.area.now (a.start + loop.i * 8) a.w a.big (λ i. (c.shared_slice_known-1.given i).fits) c.requires.0 (omega arith) in (
-      omega arith,
-      wrote-more a.w (λ k. length-item a.w a.big _) loop.invariant.1 refl (omega (arith, next-run a.w c.loop-i-test.true))
-          (c.store_item.ensures ∙ ap (store_at loop.out (a.at + loop.i * a.w)) bytes),
-    )
-
-pub shape_of-out : goal.shape_of-out
-shape_of-out c = c.loop-i.invariant.1.long
+    let bytes = stored-item a.area.now (a.start + loop.i * 8) a.w a.big (λ i. (c.type_inv.area i).fits) c.requires.0 (omega arith) in
+    wrote-more a.w (λ k. length-item a.w a.big _) loop.invariant refl (omega (arith, next-run a.w c.loop-i-test.true))
+    (c.copy_ordered.ensures ∙ ap (store_at loop.out (a.at + loop.i * a.w)) bytes)
 
 pub returns : goal.returns
 returns c =
     let a = c.args in
-    wrote-done c.loop-i.invariant.1 (omega arith) (omega arith) ∙ ap (store_at a.out.now a.at) (stored-runs a.area.now a.start a.w a.big a.n)
+    wrote-done c.loop-i.invariant (omega arith) (omega arith) ∙ ap (store_at a.out.now a.at) (stored-runs a.area.now a.start a.w a.big a.n)

@@ -1,23 +1,27 @@
--- What takes a slot takes every count, and so does `X`; `x` and `@` are told apart by their numbers.
-use Rattle.layout.specs.Codes.{type_numbered}
+-- `x` and `@` are told apart by their numbers; every other type takes every count.
+use native.Mathlib.Omega.{arith}
+use borrow.Author.Tests.{ne_eqb}
+use native.Mathlib.Decide.{dec_le}
+use native.Mathlib.Nat.{lt_of_not-le}
+use Rattle.layout.specs.Codes.{last_data, type_numbered}
 use Rattle.layout.proofs.Numbered.{meaning-data, meaning-back}
 use Rattle.layout.proofs.Steps.{skip-meaning, goto-meaning}
 use Rattle.layout.proofs.parser.has_meaning.Goals as goal
 
-pub returns-then-d-le-LAST_DATA : goal.returns-then-d-le-LAST_DATA
-returns-then-d-le-LAST_DATA c = meaning-data _ _ _ c.if-d-le-LAST_DATA.true
-
-pub returns-then-n-eq1 : goal.returns-then-n-eq1
+pub returns-then-n-ne1 : goal.returns-then-n-ne1
 unfolding type_numbered
-returns-then-n-eq1 c = rw (c.if-d-eq-SKIP.true, c.if-n-eq1.true)
+returns-then-n-ne1 c = rw (c.in-24.is, ne_eqb c.args.n 1 c.if-n-ne1.true) (skip-meaning _ _ c.if-n-ne1.true)
 
-pub returns-then-d-eq-SKIP : goal.returns-then-d-eq-SKIP
+pub returns-else-n-ne1 : goal.returns-else-n-ne1
 unfolding type_numbered
-returns-then-d-eq-SKIP c = rw c.if-d-eq-SKIP.true (skip-meaning _ _ c.if-n-eq1.false)
+returns-else-n-ne1 c = rw (c.in-24.is, c.if-n-ne1.false)
 
-pub returns-then-d-eq-GOTO : goal.returns-then-d-eq-GOTO
+pub returns-in-26 : goal.returns-in-26
 unfolding type_numbered
-returns-then-d-eq-GOTO c = rw c.if-d-eq-GOTO.true (goto-meaning c.args.packing c.args.n)
+returns-in-26 c = rw c.in-26.is (goto-meaning c.args.packing c.args.n)
 
-pub returns : goal.returns
-returns c = meaning-back _ _ _ c.if-d-le-LAST_DATA.false c.if-d-eq-SKIP.false c.if-d-eq-GOTO.false
+pub returns-in_default : goal.returns-in_default
+returns-in_default c = elim (dec_le c.args.d last_data) [
+  | yes h ↦ meaning-data _ _ _ h
+  | no h ↦ meaning-back _ _ _ (lt_of_not-le h) (λ e. omega arith) (λ e. omega arith)
+]

@@ -6,7 +6,7 @@ use mathlib.Core.Path.{◌≡◌, refl, ap}
 use mathlib.Core.Bool.{false}
 use borrow.Author.Tests.{ne_eqb}
 use lib.Dec.{eqb}
-use Rattle.layout.specs.declared.Typed.TheVariants.{Unknown}
+use Rattle.std.specs.declared.option.Option.TheVariants.{None}
 use Rattle.layout.specs.Layout.{type_of}
 use Rattle.layout.specs.Codes.{type_numbered}
 use Rattle.layout.proofs.scanner.letter.Goals as goal
@@ -118,7 +118,7 @@ Misses n =
     × (n ≡ 24 → ⊥)
     × (n ≡ 0 → ⊥)
 
-other : (n : ℕ) → Misses n → type_of (n + 64) ≡ Unknown
+other : (n : ℕ) → Misses n → type_of (n + 64) ≡ None
 unfolding type_of
 other n h = rw (apart n 33 h.0, apart n 1 h.1, apart n 34 h.2, apart n 2 h.3, apart n 40 h.4, apart n 8 h.5, apart n 35 h.6, apart n 51 h.7, apart n 19 h.8, apart n 41 h.9, apart n 9 h.10, apart n 55 h.11, apart n 23 h.12, apart n 50 h.13, apart n 18 h.14, apart n 49 h.15, apart n 17 h.16, apart n 56 h.17, apart n 24 h.18, apart n 0 h.19)
 

@@ -4,11 +4,11 @@ use Rattle.record.specs.Reading.{left_of}
 use Rattle.lossless.proofs.pack_again.Calls.{then-refused, then-packed, promised}
 use Rattle.lossless.proofs.pack_again.read_and_pack.Goals as goal
 
-pub returns-then-number-ne0 : goal.returns-then-number-ne0
-returns-then-number-ne0 c =
-    promised _ _ (then-refused _ _ _ _ (ap left_of c.read-r.ensures) c.if-number-ne0.true)
+pub returns-then-r-ne0 : goal.returns-then-r-ne0
+returns-then-r-ne0 c =
+    promised _ _ (then-refused _ _ _ _ (ap left_of c.read-r.ensures) c.if-r-ne0.true)
 
 pub returns : goal.returns
 returns c =
     promised _ _
-    (then-packed _ _ _ _ (ap left_of c.read-r.ensures) c.if-number-ne0.false _ _ c.pack.ensures)
+    (then-packed _ _ _ _ (ap left_of c.read-r.ensures) c.if-r-ne0.false _ _ c.pack.ensures)

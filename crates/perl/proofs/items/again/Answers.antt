@@ -1,54 +1,29 @@
--- Every byte put is the one a text before it, so that the text goes on again and again.
+-- Every turn puts the text once more, after what stands there.
 use Prim.Native.Nat.{ℕ, suc, ◌-◌, ◌*◌, ◌≤◌}
-use mathlib.Core.Path.{refl, sym, ◌∙◌}
+use native.Mathlib.Nat.{mul-le-mul_right}
+use native.Mathlib.Numerals.{add-one}
 use native.Mathlib.Omega.{arith}
-use lib.ListN.{length-set}
-use Rattle.layout.specs.Layout.{max_layout}
-use Rattle.record.proofs.Bounds.{product_small}
-use Rattle.perl.specs.Tokens.{max_repeat}
-use Rattle.perl.proofs.items.Blocks.{at_least_one, again-over, again-none, again-more, again-done}
+use mathlib.Core.Path.{sym, ◌∙◌}
+use Rattle.perl.proofs.items.Blocks.{again-none, again-over, again-once, again-more}
 use Rattle.perl.proofs.items.again.Goals as goal
 
--- nothing wraps
-small : (to end times : ℕ) → end ≤ suc max_layout → times ≤ max_repeat
-    → times * (end - to) ≤ max_repeat * suc max_layout
-small to end times h k = product_small times (end - to) max_repeat (suc max_layout) k (omega arith)
+pub returns-in_err-end : goal.returns-in_err-end
+returns-in_err-end c =
+    λ s d st. rw c.from_residual-in_err-end.ensures (again-none s d c.args.to c.args.times c.args.out.now c.requires.2 (rw c.in_err-end.was at st))
 
-pub overflow_mul-all : goal.overflow_mul-all
-overflow_mul-all c =
-    record { fits = omega (arith, small c.args.to c.args.end c.args.times c.requires.1 c.requires.3) }
-
-pub overflow_add-to : goal.overflow_add-to
-overflow_add-to c = record { fits = omega (arith, small c.args.to c.args.end c.args.times c.requires.1 c.requires.3) }
-
-pub returns-then-to-all-gt-MAX_LAYOUT : goal.returns-then-to-all-gt-MAX_LAYOUT
-returns-then-to-all-gt-MAX_LAYOUT c =
-    let p = c.requires in
-    λ s d st. again-over s d _ _ _ _ p.0 p.2 (sym st.long ∙ p.4) st c.if-to-all-gt-MAX_LAYOUT.true
+pub returns-then-all-gt-MAX_LAYOUT : goal.returns-then-all-gt-MAX_LAYOUT
+returns-then-all-gt-MAX_LAYOUT c =
+    λ s d st. rw c.in_ok-to.was
+    (again-over s d c.in_ok-to.to c.in_ok-end.end c.args.out.now (rw c.in_ok-end.was at c.requires.1) (rw (c.in_ok-to.was, c.in_ok-end.was) at st)
+    c.args.times c.if-all-gt-MAX_LAYOUT.true)
 
 pub loop-j-init : goal.loop-j-init
-loop-j-init c =
-    let p = c.requires in (
-      omega arith,
-      at_least_one _ _ p.2,
-      refl,
-      λ s d st. again-none s d _ _ _ _ p.0 p.2 (sym st.long ∙ p.4) st c.if-to-all-gt-MAX_LAYOUT.false,
-    )
+loop-j-init c = λ s d st. again-once s d _ _ _ (rw c.in_ok-end.was at c.requires.1) st
 
 pub loop-j-preserved : goal.loop-j-preserved
 loop-j-preserved c =
-    let l = c.loop-j.invariant in
-    let p = c.requires in (
-      omega arith,
-      omega arith,
-      simp length-set l.2,
-      λ s d st. again-more s d _ _ _ _ p.0 p.2 (sym st.long ∙ p.4) st c.if-to-all-gt-MAX_LAYOUT.false _ _ (l.3 s d st)
-          l.0 c.loop-j-test.true,
-    )
-
-pub returns : goal.returns
-returns c =
-    let l = c.loop-j.invariant in
-    let p = c.requires in
-    λ s d st. again-done s d _ _ _ _ p.0 p.2 (sym st.long ∙ p.4) st c.if-to-all-gt-MAX_LAYOUT.false _ _ (l.3 s d st)
-    (omega arith)
+    let size : ℕ = c.in_ok-end.end - c.in_ok-to.to in
+    let step : suc c.loop-j.j * size ≤ c.args.times * size = mul-le-mul_right size c.loop-j-test.true in
+    λ s d st. rw (c.copy_within.ensures.after, add-one)
+    (again-more s d c.in_ok-to.to c.in_ok-end.end c.args.out.now (rw c.in_ok-end.was at c.requires.1) st c.loop-j.j c.loop-j.out (sym st.long ∙ c.requires.4)
+    (omega arith) (omega (arith, step)) (c.loop-j.invariant s d st))

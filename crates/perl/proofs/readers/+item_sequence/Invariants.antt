@@ -11,8 +11,8 @@ decreases-item l = max_depth - l.depth + 2 * (length l.text.now - l.p)
 abbrev pub decreases-sequence : goal.decreases-sequence
 decreases-sequence l = max_depth - l.depth + 2 * (length l.text.now - l.at) + 1
 
-abbrev pub invariant-sequence-loop-i : goal.invariant-sequence-loop-i
-invariant-sequence-loop-i l = Turn l.depth l.text l.at l.to l.initial.out l.i l.end l.filled l.out
+abbrev pub invariant-sequence-loop-span : goal.invariant-sequence-loop-span
+invariant-sequence-loop-span l = Turn l.depth l.text l.at l.fn.to l.initial.out l.span l.filled l.out
 
-abbrev pub decreases-sequence-loop-i : goal.decreases-sequence-loop-i
-decreases-sequence-loop-i l = length l.text - l.i
+abbrev pub decreases-sequence-loop-span : goal.decreases-sequence-loop-span
+decreases-sequence-loop-span l = length l.text - l.span.next

@@ -1,21 +1,13 @@
--- The sum so far and the bound of the fields that are left make the bound of all.
-use native.Mathlib.Omega.{arith}
-use Rattle.reading.proofs.measure.Bounds.{bound-next, bound-end}
+-- The sum of the bounds is the bound of the fields.
+use mathlib.Core.Path.{◌≡◌, ◌∙◌}
+use borrow.Author.Rules.{rules}
+use Rattle.std.specs.List.{sum_by}
+use Rattle.layout.specs.Codes.{field_of}
+use Rattle.reading.specs.inside.Bounds.{field_bound}
+use Rattle.reading.proofs.measure.Bounds.{sum-bound}
 use Rattle.reading.proofs.measure.value_bound.Goals as goal
-
-pub loop-i-init : goal.loop-i-init
-loop-i-init c = (omega arith, omega arith, omega arith)
-
-pub overflow_add-sum : goal.overflow_add-sum
-overflow_add-sum c = omega (arith, c.field_bound-sum.ensures.1)
-
-pub loop-i-preserved : goal.loop-i-preserved
-loop-i-preserved c =
-    let a = c.args in
-    let next = bound-next a.bytes a.n a.codes.now c.requires.0 c.loop-i.i c.loop-i-test.true in
-    (omega arith, omega (arith, next, c.loop-i.invariant.1, c.field_bound-sum.ensures.0), omega (arith, c.field_bound-sum.ensures.1))
 
 pub returns : goal.returns
 returns c =
-    let a = c.args in
-    omega (arith, c.loop-i.invariant.1, bound-end a.bytes a.n a.codes.now c.requires.0 c.loop-i.i c.loop-i-test.false)
+    let sum : c.sum.result ≡ sum_by (λ w. field_bound c.args.bytes (field_of w).role (field_of w).count) c.args.codes.now = search rules in
+    sum ∙ sum-bound _ _

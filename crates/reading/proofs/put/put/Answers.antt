@@ -4,4 +4,4 @@ use Rattle.reading.proofs.put.put.Goals as goal
 
 pub returns : goal.returns
 returns c =
-    put_as c.load-v.ensures c.set_slot.ensures
+    put_as c.load-loaded.ensures c.set_slot.ensures

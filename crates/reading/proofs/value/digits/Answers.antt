@@ -1,27 +1,28 @@
 -- In either base the bytes that the call stores are the value's.
-use Rattle.reading.proofs.value.Loads.{loaded-digits, digits-limit}
+use native.Mathlib.Omega.{arith}
+use mathlib.Core.Path.{◌≡◌}
+use Rattle.record.specs.Bytes.{ceil_div}
+use Rattle.reading.proofs.value.Loads.{digits-asked, loaded-digits}
 use Rattle.reading.proofs.value.digits.Goals as goal
 
-pub load_hex-requires : goal.load_hex-requires
-load_hex-requires c =
-    let inside = rw c.if-hex.true at c.requires.inside in
-    (c.requires.room, inside.within)
+pub slice_bounds-load_hex-end : goal.slice_bounds-load_hex-end
+slice_bounds-load_hex-end c =
+    omega (arith, (digits-asked _ _ _ c.requires.inside.1 c.requires.room c.requires.form).1)
 
 pub returns-then-hex : goal.returns-then-hex
 returns-then-hex c =
-    λ u.
+    let (inside, room) = digits-asked _ _ _ c.requires.inside.1 c.requires.room c.requires.form in
     let hex = c.if-hex.true in
-    let inside = rw hex at c.requires.inside in
-    rw hex (loaded-digits u inside (c.load_hex.ensures u))
+    let b : c.div_ceil.result ≡ ceil_div c.args.found.items 2 = omega (arith, c.div_ceil.ensures) in
+    rw (c.requires.form, hex, c.string.ensures) (loaded-digits _ (rw hex at inside) room b (c.load_hex.ensures _))
 
-pub load_binary-requires : goal.load_binary-requires
-load_binary-requires c =
-    let inside = rw c.if-hex.false at c.requires.inside in
-    (digits-limit inside, c.requires.room, inside.within)
+pub slice_bounds-load_binary-end : goal.slice_bounds-load_binary-end
+slice_bounds-load_binary-end c =
+    omega (arith, (digits-asked _ _ _ c.requires.inside.1 c.requires.room c.requires.form).1)
 
 pub returns : goal.returns
 returns c =
-    λ u.
+    let (inside, room) = digits-asked _ _ _ c.requires.inside.1 c.requires.room c.requires.form in
     let binary = c.if-hex.false in
-    let inside = rw binary at c.requires.inside in
-    rw binary (loaded-digits u inside (c.load_binary.ensures.effect u))
+    let b : c.div_ceil-2.result ≡ ceil_div c.args.found.items 8 = omega (arith, c.div_ceil-2.ensures) in
+    rw (c.requires.form, binary, c.string-2.ensures) (loaded-digits _ (rw binary at inside) room b (c.load_binary.ensures.effect _))

@@ -7,17 +7,14 @@ use Rattle.reals.proofs.store.StoreLaws.{length-single_bytes, stored-singles}
 use Rattle.reals.proofs.store.store_singles.Goals as goal
 
 pub loop-i-init : goal.loop-i-init
-loop-i-init c = (omega arith, wrote_none)
+loop-i-init c = wrote_none
 
 pub loop-i-preserved : goal.loop-i-preserved
 loop-i-preserved c =
     let a = c.args in
-    (omega arith, wrote-more 4 (λ k. length-single_bytes a.big _) c.loop-i.invariant.1 refl (omega arith) c.store_single.ensures)
-
-pub shape_of-out : goal.shape_of-out
-shape_of-out c = c.loop-i.invariant.1.long
+    wrote-more 4 (λ k. length-single_bytes a.big _) c.loop-i.invariant refl (omega arith) c.store_single.ensures
 
 pub returns : goal.returns
 returns c =
     let a = c.args in
-    wrote-done c.loop-i.invariant.1 (omega arith) (omega arith) ∙ ap (store_at a.out.now a.at) (stored-singles a.area.now a.start a.big a.n)
+    wrote-done c.loop-i.invariant (omega arith) (omega arith) ∙ ap (store_at a.out.now a.at) (stored-singles a.area.now a.start a.big a.n)

@@ -1,10 +1,6 @@
 -- What the loop keeps is `Clearing`: the first i slots from number k on are cleared.
-use Prim.Native.Nat.{◌-◌}
 use Rattle.rescue.proofs.fill.Clearing.{Clearing}
 use Rattle.rescue.proofs.fill.clear.Given as goal
 
 abbrev pub invariant-loop-i : goal.invariant-loop-i
 invariant-loop-i l = Clearing l.initial.slots l.k l.n l.slots l.i
-
-abbrev pub decreases-loop-i : goal.decreases-loop-i
-decreases-loop-i l = l.n - l.i

@@ -1,45 +1,27 @@
 -- Each way out is one law of the definition, by the numbers that the first pass answers.
-use native.Mathlib.Omega.{arith}
-use Rattle.rescue.proofs.fill.Runs.{bounds, legs-few, all_found, kept-few, no_room, has_room, rest-clearable, all_done}
+use Rattle.std.proofs.Common.{arith, ap, ◌<◌, length}
+use Rattle.sheet.specs.Sheet.{header_size, width_of, width_in}
+use Rattle.rescue.proofs.fill.Runs.{all-clearable, nothing-done, no_room, has_room, rest-clearable, all_done}
 use Rattle.rescue.proofs.fill.rescue_entries.Goals as goal
 
-pub measure-x-requires : goal.measure-x-requires
-measure-x-requires c = (c.requires.2, c.requires.3, (bounds c.requires.0).lengths.size)
+pub clear-requires : goal.clear-requires
+clear-requires c = all-clearable c.requires.0
 
-pub overflow_sub-area : goal.overflow_sub-area
-overflow_sub-area c = (bounds c.requires.0).start
+pub returns-then-sheet-header : goal.returns-then-sheet-header
+returns-then-sheet-header c =
+    let short : length c.args.sheet.now < header_size (width_in c.args.sheet.now) = omega (arith, c.if-sheet-header.true, c.header.ensures.0, ap (λ n. header_size (width_of n)) c.requires.1) in
+    nothing-done c.requires.0 short c.clear.ensures c.saved.ensures
 
 pub returns-then-area-mark : goal.returns-then-area-mark
 returns-then-area-mark c =
-    rw c.refused.ensures (no_room c.requires.0 c.requires.1 c.measure-x.ensures c.if-area-mark.true)
+    rw c.refused.ensures (no_room c.requires.0 c.args.v c.requires.1 c.measure-x.ensures c.if-area-mark.true)
 
-pub fill-requires : goal.fill-requires
-fill-requires c =
-    let p = c.requires in
-    let found = c.measure-x.ensures in
-    record { entries = (p.2, p.3, all_found p.0 p.1 found); room = has_room p.0 p.1 found c.if-area-mark.false }
+pub fill-requires-clause-room : goal.fill-requires-clause-room
+fill-requires-clause-room c = has_room c.requires.0 c.args.v c.requires.1 c.measure-x.ensures c.if-area-mark.false
 
-pub overflow_sub-legs : goal.overflow_sub-legs
-overflow_sub-legs c =
-    omega (arith, kept-few c.requires.0 c.requires.1 c.measure-x.ensures)
-
-pub clear-requires : goal.clear-requires
-clear-requires c =
-    rest-clearable c.requires.0 c.requires.1 c.measure-x.ensures c.if-area-mark.false c.fill.ensures
-
-pub overflow_sub-legs-2 : goal.overflow_sub-legs-2
-overflow_sub-legs-2 c =
-    omega (arith, kept-few c.requires.0 c.requires.1 c.measure-x.ensures)
-
-pub saved-requires : goal.saved-requires
-saved-requires c =
-    let few = legs-few c.requires.0 in
-    let kept = kept-few c.requires.0 c.requires.1 c.measure-x.ensures in
-    let size = (bounds c.requires.0).lengths.size in
-    (omega (arith, few, kept), omega (arith, few), omega (arith, size))
+pub clear-requires-2 : goal.clear-requires-2
+clear-requires-2 c = rest-clearable c.requires.0 c.args.v c.requires.1 c.measure-x.ensures c.if-area-mark.false c.fill.ensures
 
 pub returns : goal.returns
 returns c =
-    all_done c.requires.0 c.requires.1 c.measure-x.ensures
-    c.if-area-mark.false c.fill.ensures c.requires.3
-    c.clear.ensures c.saved.ensures
+    all_done c.requires.0 c.args.v c.requires.1 c.measure-x.ensures c.if-area-mark.false c.fill.ensures (omega (arith, c.header.ensures.0)) c.clear-2.ensures c.saved-2.ensures

@@ -1,11 +1,7 @@
 -- What the loop keeps is `Measuring`: the entries so far, and those from here on, are all of them.
-use Prim.Native.Nat.{◌-◌}
-use lib.ListN.{length}
+use Rattle.sheet.specs.inside.Steps.{width}
 use Rattle.sheet_read.proofs.check.Walks.{Measuring}
 use Rattle.sheet_read.proofs.check.measure.Given as goal
 
-abbrev pub invariant-loop-n : goal.invariant-loop-n
-invariant-loop-n l = Measuring l.w l.sheet l.most l.at l.entries l.values
-
-abbrev pub decreases-loop-n : goal.decreases-loop-n
-decreases-loop-n l = length l.sheet - l.at
+abbrev pub invariant-loop-entries : goal.invariant-loop-entries
+invariant-loop-entries l = Measuring (width l.v) l.sheet l.most l.end l.entries l.values

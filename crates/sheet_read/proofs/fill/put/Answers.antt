@@ -1,62 +1,19 @@
 -- The slot gets the numbers of the entry, and the area its value.
-use native.Mathlib.Omega.{arith}
-use native.Mathlib.Numerals.{add-one}
-use mathlib.Core.Path.{refl, ap}
-use Prim.Native.Nat.{◌+◌, ◌-◌}
-use lib.ListN.{get_or}
-use Rattle.record.specs.Table.{max_area}
-use Rattle.sheet_read.proofs.check.Walks.{there}
-use Rattle.sheet_read.proofs.fill.Filling.{put_as, start_small, items-small}
+use Rattle.std.proofs.Common.{arith, ap, sym, ◌∙◌}
+use Rattle.sheet.specs.Entries.{entry_in}
+use Rattle.sheet.proofs.Entries.{begins}
+use Rattle.record.specs.inside.Slots.{slot_set}
 use Rattle.sheet_read.proofs.fill.put.Goals as goal
 
-pub length_at-size-requires : goal.length_at-size-requires
-length_at-size-requires c = let t = there c.args.w c.args.sheet.now c.args.at c.requires.entry.2 c.requires.entry.1 in omega (arith, t.inside)
-
-pub overflow_sub-size : goal.overflow_sub-size
-overflow_sub-size c = let t = there c.args.w c.args.sheet.now c.args.at c.requires.entry.2 c.requires.entry.1 in omega (arith, t.some, c.length_at-size.ensures)
-
-pub bounds-sheet-at : goal.bounds-sheet-at
-bounds-sheet-at c =
-    let t = there c.args.w c.args.sheet.now c.args.at
-    c.requires.entry.2 c.requires.entry.1 in omega (arith, t.inside, t.some)
-
-pub overflow_cast-kind : goal.overflow_cast-kind
-overflow_cast-kind c =
-    omega (arith, c.shared_slice_known-2-1.given (c.args.at + c.args.w))
-
-pub set_slot-requires : goal.set_slot-requires
-set_slot-requires c =
-    let t = there c.args.w c.args.sheet.now c.args.at c.requires.entry.2 c.requires.entry.1 in
-    let kind = get_or c.args.sheet.now (c.args.at + c.args.w) 0 in
-    let size = c.length_at-size.result - 1 in
-    let room = c.requires.put_room in (
-      room.row,
-      omega (
-        arith,
-        c.start_of.ensures,
-        start_small kind c.args.to max_area
-            (omega (arith, room.room, room.limit)),
-      ),
-      omega (
-        arith,
-        c.items_of.ensures,
-        items-small kind size,
-        t.long,
-        c.length_at-size.ensures,
-        room.room,
-        room.limit,
-      ),
-      omega arith,
-    )
-
-pub copy-requires : goal.copy-requires
-copy-requires c =
-    let t = there c.args.w c.args.sheet.now c.args.at c.requires.entry.2 c.requires.entry.1 in
-    (omega (arith, c.requires.put_room.room, t.long, c.length_at-size.ensures), omega (arith, t.inside, t.some, c.length_at-size.ensures))
+pub length-size-requires : goal.length-size-requires
+length-size-requires c = let t = begins _ _ c.requires.entry in omega (arith, t.within)
 
 pub returns : goal.returns
+unfolding entry_in
 returns c =
-    let t = there c.args.w c.args.sheet.now c.args.at c.requires.entry.2 c.requires.entry.1 in
-    put_as t refl (ap (λ n. n - 1) c.length_at-size.ensures)
-    c.start_of.ensures c.items_of.ensures
-    c.set_slot.ensures (rw (add-one c.args.w) at c.copy.ensures)
+    let t = begins _ _ c.requires.entry in
+    record {
+      size = rw c.length-size.ensures (sym t.long);
+      table = c.set_slot.ensures ∙ ap (slot_set c.args.slots.now c.args.k) c.slot_for.ensures ∙ rw (c.width.ensures.0, c.length-size.ensures, t.long);
+      values = c.copy.ensures ∙ rw (c.header.ensures.0, c.length-size.ensures);
+    }

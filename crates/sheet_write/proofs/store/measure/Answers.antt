@@ -1,39 +1,19 @@
 -- What the loop keeps is `Sizing`: the slots before k fit, and the header with their entries takes `size` bytes.
-use mathlib.Core.Path.{sym, ◌∙◌}
-use native.Mathlib.Omega.{arith}
+use Rattle.std.proofs.Common.{arith, sym, ◌∙◌}
 use Rattle.sheet_write.proofs.store.Writing.{sizing-none, sizing-done, sizing-bad, sizing-more}
 use Rattle.sheet_write.proofs.store.measure.Goals as goal
 
 pub loop-k-init : goal.loop-k-init
-loop-k-init c = sizing-none _ _ _
-
-pub slot_fits-requires : goal.slot_fits-requires
-slot_fits-requires c = (c.slot_at-a.ensures.start, c.slot_at-a.ensures.len)
+loop-k-init c = rw c.header-header.ensures.0 (sizing-none _ _ _)
 
 pub returns-then-not-slot_fits : goal.returns-then-not-slot_fits
 returns-then-not-slot_fits c =
-    let l = c.loop-k in
-    sizing-bad 2 c.args.area.now c.args.slots.now l.k l.size l.invariant
-    c.loop-k-test.true _ c.slot_at-a.ensures c.requires.0
-    (sym c.slot_fits.ensures ∙ c.if-not-slot_fits.true)
-
-pub value_size-requires : goal.value_size-requires
-value_size-requires c = c.slot_at-a.ensures.len
+    sizing-bad _ _ _ _ _ c.loop-k.invariant c.loop-k-test.true _ c.slot_at-a.ensures (sym c.slot_fits.ensures ∙ c.if-not-slot_fits.true) c.refused.ensures
 
 pub loop-k-preserved : goal.loop-k-preserved
 loop-k-preserved c =
-    let l = c.loop-k in
-    let slot = c.slot_at-a.ensures in
-    let fits = sym c.slot_fits.ensures ∙ c.if-not-slot_fits.false in
-    sizing-more 2 c.args.area.now c.args.slots.now l.k l.size l.invariant c.loop-k-test.true _ slot fits c.requires.1 _ c.value_size.ensures
-
-pub overflow_add-size : goal.overflow_add-size
-overflow_add-size c =
-    omega (arith, (loop-k-preserved c).small, (loop-k-preserved c).within, c.requires.0)
-
-pub overflow_add-size-in-loop-k : goal.overflow_add-size-in-loop-k
-overflow_add-size-in-loop-k c =
-    omega (arith, (loop-k-preserved c).small, (loop-k-preserved c).within, c.requires.0)
+    rw c.header-header.ensures.0
+    (sizing-more _ _ _ _ _ c.loop-k.invariant c.loop-k-test.true _ c.slot_at-a.ensures (sym c.slot_fits.ensures ∙ c.if-not-slot_fits.false) c.requires.1 _ c.value_size.ensures)
 
 pub returns : goal.returns
 returns c =

@@ -12,7 +12,7 @@ pub returns-then-d-le-LAST_TEXT : goal.returns-then-d-le-LAST_TEXT
 returns-then-d-le-LAST_TEXT c = rw (shape-text _ c.if-d-le-LAST_TEXT.true)
 
 pub returns-then-d-le-LAST_BINARY : goal.returns-then-d-le-LAST_BINARY
-returns-then-d-le-LAST_BINARY c = rw (shape-binary _ c.if-d-le-LAST_TEXT.false c.if-d-le-LAST_BINARY.true)
+returns-then-d-le-LAST_BINARY c = rw (shape-binary _ c.if-d-le-LAST_TEXT.false c.if-d-le-LAST_BINARY.true) (omega (arith, c.div_ceil.ensures))
 
 pub returns-else-d-le-LAST_BINARY : goal.returns-else-d-le-LAST_BINARY
-returns-else-d-le-LAST_BINARY c = rw (shape-hex _ c.if-d-le-LAST_BINARY.false (omega arith))
+returns-else-d-le-LAST_BINARY c = rw (shape-hex _ c.if-d-le-LAST_BINARY.false (omega arith)) (omega (arith, c.div_ceil-else-d-le-LAST_BINARY.ensures))

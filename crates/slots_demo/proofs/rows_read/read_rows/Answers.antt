@@ -3,4 +3,4 @@ use Rattle.slots_demo.proofs.rows_read.Parts.{read-part}
 use Rattle.slots_demo.proofs.rows_read.read_rows.Goals as goal
 
 pub returns : goal.returns
-returns c = rw c.together.ensures (read-part _ _ _ _ _ _ _ _ _ c.read_slots-answer.ensures)
+returns c = read-part _ _ _ _ _ _ _ _ _ c.read_slots-answer.ensures

@@ -1,0 +1,12 @@
+-- The call on numbers reads over slots of any content; what it answered is written back.
+use borrow.Author.Rules.{rules}
+use Rattle.record.proofs.Bytes.{all-below}
+use Rattle.host_record.proofs.read.Calls.{set_room, read-replied}
+use Rattle.host_record.proofs.read.read_in.Goals as goal
+
+pub read_back-requires : goal.read_back-requires
+read_back-requires g c = (search rules, search rules, set_room _ _ _ _ _ c.read_by-r.ensures (search rules))
+
+pub returns : goal.returns
+returns g c =
+    read-replied _ _ c.args.slots.now _ _ _ (search rules) c.read_by-r.ensures c.read_back.ensures (all-below c.args.slots.now (search rules))

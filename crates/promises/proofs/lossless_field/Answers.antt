@@ -1,5 +1,0 @@
--- The two tests, of the type and of the count.
-use Rattle.promises.proofs.lossless_field.Goals as goal
-
-pub returns : goal.returns
-returns c = cc

@@ -1,9 +1,0 @@
--- Each turn cuts one byte later, until the cut is at the end.
-use Rattle.std.proofs.Common.{◌-◌, ◌≤◌}
-use Rattle.tour.proofs.records.cuts.every.Given as goal
-
-abbrev pub invariant-loop-k : goal.invariant-loop-k
-invariant-loop-k g l = l.k ≤ l.end
-
-abbrev pub decreases-loop-k : goal.decreases-loop-k
-decreases-loop-k g l = l.end - l.k
