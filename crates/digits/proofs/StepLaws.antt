@@ -14,7 +14,7 @@ use Rattle.record.specs.Packing.{digit_value}
 use Rattle.record.specs.Reading.{digit_char}
 use Rattle.record.proofs.Stores.{Put, put-none, put-more, put-done}
 use Rattle.record.proofs.Fields.{split}
-use Rattle.digits.specs.Steps.{Progress, Writing, next_done, storing, step, steps, binary_steps, binary_budget, OneByteSet, OneByteSeen, InOneByte, AllDone, NoFewer, SevenNeeded, Settled, Example}
+use Rattle.digits.specs.Steps.{Progress, Writing, next_done, storing, step, steps, Advanced, binary_steps, binary_budget, OneByteSet, OneByteSeen, InOneByte, AllDone, NoFewer, SevenNeeded, Settled, Example}
 
 -- ---- one step
 
@@ -130,11 +130,13 @@ module _ (write : Writing) (n k : ℕ) (bytes : List ℕ) where
   digit-step j e h = next-step (8 * (n / 8) + j) (8 * (n / 8) + j + 1) (omega arith) (rw (lt-leb (8 * (n / 8) + j + 8) n (omega arith))) (omega arith)
 
 -- as many as the budget has, and no more than there are
-pub within-budget : (write : Writing) (n budget m : ℕ) (bytes : List ℕ) → m ≡ min (binary_steps n) budget → (steps write n bytes m).bytes ≡ (steps write n bytes budget).bytes
-within-budget write n budget m bytes e =
-    split (binary_steps n) budget
-    (λ h. let all : m ≡ binary_steps n = omega arith in ap (λ (p : Progress). p.bytes) (ap (steps write n bytes) all ∙ sym (settled write n bytes budget h)))
-    (λ h. let some : m ≡ budget = omega arith in ap (λ (k : ℕ). (steps write n bytes k).bytes) some)
+pub within-budget : (write : Writing) (n budget m : ℕ) {one two : List ℕ} → m ≡ min (binary_steps n) budget → Advanced write n 0 m one two → two ≡ (steps write n one budget).bytes
+unfolding steps
+within-budget write n budget m {one} e run =
+    run one refl
+    ∙ split (binary_steps n) budget
+    (λ h. let all : m ≡ binary_steps n = omega arith in ap (λ (p : Progress). p.bytes) (ap (steps write n one) all ∙ sym (settled write n one budget h)))
+    (λ h. let some : m ≡ budget = omega arith in ap (λ (k : ℕ). (steps write n one k).bytes) some)
 
 -- one byte is stored by being set
 pub one_set : (d : List ℕ) (at b : ℕ) → at < length d → set d at b ≡ store_at d at (b ∷ [])

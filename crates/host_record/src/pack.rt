@@ -1,7 +1,6 @@
 // Packing for a C host. A short layout and few slots get small arrays: clearing the large ones costs more than a small
 // record.
-ghost use Rattle.std.specs.Prelude.{◌≡◌, ◌*◌, ◌%◌, ◌≤◌, min, length};
-ghost use Rattle.layout.specs.Layout.{max_layout};
+ghost use Rattle.std.specs.Prelude.{◌≡◌, ◌*◌, ◌%◌, ◌≤◌, length};
 ghost use Rattle.record.specs.Table.{slot_width, max_slots};
 ghost use Rattle.host.specs.Numbers.{number_size};
 ghost use Rattle.host.specs.Host.{slot_size};
@@ -9,17 +8,16 @@ ghost use Rattle.host_record.specs.Packing.{HostPacks};
 ghost use Rattle.host_record.specs.inside.Steps.{Packs};
 
 use host::FEW_NUMBERS;
-use layout::{MAX_LAYOUT, Refusal, SHORT_LAYOUT};
+use layout::{Refusal, SHORT_LAYOUT};
 use record::{Answer, MAX_NUMBERS};
 
-// Packs, with CODES codes for the layout's fields and room for N numbers of slots.
-fn pack_in<const CODES: usize, const N: usize>(
+// Packs, with room for N numbers of slots, by the call for a short layout or for any.
+fn pack_in<const SHORT: bool, const N: usize>(
     layout: &[u8],
     slots: &[u8],
     area: &[u8],
     out: &mut [u8],
 ) -> Answer
-    requires codes { (min (length layout.now) max_layout ≤ CODES) × (CODES ≤ max_layout) }
     requires numbers { (length slots.now % slot_size ≡ 0) × (length slots.now ≤ N * number_size)
         × (N ≤ slot_width * max_slots) }
     ensures { Packs layout.now slots.now area.now out.old out.new result }
@@ -27,7 +25,10 @@ fn pack_in<const CODES: usize, const N: usize>(
     let mut room: [u32; N] = [0; N];
     let room = &mut room[..slots.len() / host::numbers::NUMBER_SIZE];
     host::numbers::decode(slots, room);
-    packer::pack_in::<CODES>(layout, room, area, out)
+    if SHORT {
+        return packer::pack_short(layout, room, area, out);
+    }
+    packer::pack(layout, room, area, out)
 }
 
 // Packs the arguments into `out` by the layout (Tcl's `binary format`).
@@ -41,9 +42,9 @@ pub fn pack(layout: &[u8], slots: &[u8], area: &[u8], out: &mut [u8], reply: &mu
         return host::reply_with(reply, Answer::refused(Refusal::BadSize, 0));
     }
     if layout.len() <= SHORT_LAYOUT && host::few(slots.len()) {
-        let a = pack_in::<SHORT_LAYOUT, FEW_NUMBERS>(layout, slots, area, out);
+        let a = pack_in::<true, FEW_NUMBERS>(layout, slots, area, out);
         return host::reply_with(reply, a);
     }
-    let a = pack_in::<MAX_LAYOUT, MAX_NUMBERS>(layout, slots, area, out);
+    let a = pack_in::<false, MAX_NUMBERS>(layout, slots, area, out);
     host::reply_with(reply, a)
 }

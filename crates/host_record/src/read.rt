@@ -1,7 +1,6 @@
 // Reading for a C host. A short layout and few slots get small arrays: clearing the large ones costs more than a small
 // record.
 ghost use Rattle.std.specs.Prelude.{◌≡◌, ◌*◌, ◌%◌, ◌≤◌, length};
-ghost use Rattle.layout.specs.Layout.{max_layout};
 ghost use Rattle.record.specs.Table.{slot_width, max_slots};
 ghost use Rattle.host.specs.Numbers.{number_size};
 ghost use Rattle.host.specs.Host.{slot_size, long_reply_size, long_reply};
@@ -9,7 +8,7 @@ ghost use Rattle.host_record.specs.Reading.{HostReads};
 ghost use Rattle.host_record.specs.inside.Steps.{written_back, Reads};
 
 use host::FEW_NUMBERS;
-use layout::{MAX_LAYOUT, Refusal, SHORT_LAYOUT};
+use layout::{Refusal, SHORT_LAYOUT};
 use record::{Answer, MAX_NUMBERS, ReadAnswer};
 
 // Writes a reading's answer into the reply, and back into the slots those that an accepted reading set; the rest stays
@@ -28,8 +27,8 @@ pub fn read_back(slots: &mut [u8], reply: &mut [u8], room: &[u32], r: ReadAnswer
     host::reply_long(reply, a, r.steps)
 }
 
-// Reads, with CODES codes for the layout's fields and room for N numbers of slots: what stands there does not count.
-fn read_in<const CODES: usize, const N: usize>(
+// Reads, with room for N numbers of slots, by the call for a short layout or for any: what stands there does not count.
+fn read_in<const SHORT: bool, const N: usize>(
     layout: &[u8],
     bytes: &[u8],
     slots: &mut [u8],
@@ -37,14 +36,17 @@ fn read_in<const CODES: usize, const N: usize>(
     mark: usize,
     reply: &mut [u8],
 ) -> u32
-    requires codes { (CODES ≤ max_layout) × (length layout.now ≤ max_layout → length layout.now ≤ CODES) }
     requires numbers { (length reply.old ≡ long_reply_size) × (length slots.old % slot_size ≡ 0)
         × (length slots.old ≤ N * number_size) × (N ≤ slot_width * max_slots) }
     ensures { Reads layout.now bytes.now slots.old slots.new area.old area.new mark reply.old reply.new result }
 {
     let mut room: [u32; N] = [0; N];
     let room = &mut room[..slots.len() / host::numbers::NUMBER_SIZE];
-    let r = reader::read_by::<CODES>(layout, bytes, room, area, mark);
+    if SHORT {
+        let r = reader::read_short(layout, bytes, room, area, mark);
+        return read_back(slots, reply, room, r);
+    }
+    let r = reader::read(layout, bytes, room, area, mark);
     read_back(slots, reply, room, r)
 }
 
@@ -66,7 +68,7 @@ pub fn read(
         return host::reply_long(reply, Answer::refused(Refusal::BadSize, 0), 0);
     }
     if layout.len() <= SHORT_LAYOUT && host::few(slots.len()) {
-        return read_in::<SHORT_LAYOUT, FEW_NUMBERS>(layout, bytes, slots, area, mark, reply);
+        return read_in::<true, FEW_NUMBERS>(layout, bytes, slots, area, mark, reply);
     }
-    read_in::<MAX_LAYOUT, MAX_NUMBERS>(layout, bytes, slots, area, mark, reply)
+    read_in::<false, MAX_NUMBERS>(layout, bytes, slots, area, mark, reply)
 }

@@ -1,6 +1,6 @@
 // `c s S i I w W`, read: from fields of 1 to 8 bytes into integers of eight big-endian bytes in the area. A field's
 // bytes are the last ones of an item, in their order where the field is big-endian, else turned round.
-ghost use Rattle.std.specs.Prelude.{◌≡◌, ◌+◌, ◌*◌, ◌^◌, ◌≤◌, ◌<◌, length};
+ghost use Rattle.std.specs.Prelude.{◌≡◌, true, ◌+◌, ◌*◌, ◌^◌, ◌≤◌, ◌<◌, length};
 ghost use Rattle.layout.specs.declared.Shape.TheVariants.{Integers};
 ghost use Rattle.record.specs.Bytes.{part, store_at, number, ordered};
 ghost use Rattle.record.specs.Table.{integer_bytes};
@@ -21,7 +21,21 @@ fn widened(x: u64, w: usize, unsigned: bool) -> u64
     (x ^ half).wrapping_sub(half)
 }
 
-// Reads one integer of a width below eight.
+// Reads one integer of four bytes: they go, the high one first, behind four bytes of their sign, so that their eight
+// bytes are one store and runs of them are done many at a time.
+fn load_four(area: &mut [u8], to: usize, input: &[u8], at: usize, big: bool, unsigned: bool)
+    requires { (to + 8 ≤ length area.old) × (at + 4 ≤ length input.now) }
+    ensures { area.new ≡ store_at area.old to (item_bytes 4 big unsigned (part input.now at 4)) }
+{
+    let four = byte_runs::four_at(input, at, !big) as u32;
+    let sign = if unsigned { 0 } else { four % 256 / 128 };
+    let fill = 0u32.wrapping_sub(sign);
+    let eight = u64::from(fill) + (u64::from(four) << 32);
+    area[to..to + 8].copy_from_slice(&eight.to_le_bytes());
+}
+
+// Reads one integer of a width below eight: as a number, but for signed big-endian and unsigned little-endian ones of
+// four bytes, whose bytes alone are quicker.
 fn load_item(
     area: &mut [u8],
     to: usize,
@@ -34,6 +48,9 @@ fn load_item(
     requires { Narrow w × (to + 8 ≤ length area.old) × (at + w ≤ length input.now) }
     ensures { area.new ≡ store_at area.old to (item_bytes w big unsigned (part input.now at w)) }
 {
+    if w == 4 && big != unsigned {
+        return load_four(area, to, input, at, big, unsigned);
+    }
     let x = super::number_at(input, at, w, big);
     big_endian::put_number(area, to, record::INTEGER_SIZE, widened(x, w, unsigned));
 }

@@ -10,11 +10,12 @@ use super::{Fields, Item, Refusal, Refused, scanner};
 pub fn has_meaning(packing: bool, d: u32, n: u32) -> bool
     ensures { result ≡ has_meaning packing (known (type_numbered d)) (count_from n) }
 {
-    match d {
-        super::SKIP => n != 1 || !packing,
-        super::GOTO => n != 0,
-        _ => true,
-    }
+    d <= super::LAST_DATA
+        || match d {
+            super::SKIP => n != 1 || !packing,
+            super::GOTO => n != 0,
+            _ => true,
+        }
 }
 
 // The field whose type character stands at p.

@@ -69,17 +69,16 @@ pub fn type_number(c: u8) -> u32
     if c / 64 == 1 { n } else { n + 32 }
 }
 
-// The place after the spaces from `at` on.
+// The place after the spaces from `at` on. A `while`: a `for` over the places takes an instruction more a byte.
 pub fn spaces_end(text: &[u8], at: usize) -> usize
     requires { at ≤ length text.now }
     ensures { SpacesEnd text.now at result }
 {
-    for i in at..text.len() {
-        if text[i] != b' ' {
-            return i;
-        }
+    let mut i = at;
+    while i < text.len() && text[i] == b' ' {
+        i += 1;
     }
-    text.len()
+    i
 }
 
 // A number with one digit more, held just above the limit.
@@ -117,20 +116,19 @@ fn count_at(text: &[u8], at: usize) -> Numeral
     if text.len() <= at {
         return Numeral { value: 0, next: at };
     }
-    let c = text[at];
-    if c == b'*' {
-        return Numeral {
+    match text[at] {
+        b'*' => Numeral {
             value: 1,
             next: at + 1,
-        };
-    }
-    if !c.is_ascii_digit() {
-        return Numeral { value: 0, next: at };
-    }
-    let n = number(text, at);
-    Numeral {
-        value: n.value + 2,
-        next: n.next,
+        },
+        b'0'..=b'9' => {
+            let n = number(text, at);
+            Numeral {
+                value: n.value + 2,
+                next: n.next,
+            }
+        }
+        _ => Numeral { value: 0, next: at },
     }
 }
 
@@ -138,7 +136,24 @@ fn count_at(text: &[u8], at: usize) -> Numeral
 pub fn tail_at(text: &[u8], at: usize) -> Tail
     ensures { TailAt text.now at (to_nat result.flag) result.value result.next }
 {
-    if at < text.len() && text[at] == b'u' {
+    if text.len() <= at {
+        return Tail {
+            flag: false,
+            value: 0,
+            next: at,
+        };
+    }
+    let c = text[at];
+    // Asked first, since a letter stands here most often: the next field's.
+    if b'9' < c {
+        let flag = c == b'u';
+        if !flag {
+            return Tail {
+                flag: false,
+                value: 0,
+                next: at,
+            };
+        }
         let n = count_at(text, at + 1);
         return Tail {
             flag: true,

@@ -29,8 +29,12 @@ fn put(out: &mut [u8], to: Option<usize>, letter: Letter, digits: &[u8]) -> Opti
         return None;
     }
     out[to] = letter.byte;
-    out[to + 1..count].fill(b'u');
-    out[count..end].copy_from_slice(digits);
+    if letter.unsigned {
+        out[to + 1] = b'u';
+    }
+    for (i, &digit) in digits.iter().enumerate() {
+        out[count + i] = digit;
+    }
     Some(end)
 }
 
@@ -47,8 +51,9 @@ pub fn again(out: &mut [u8], to: Option<usize>, end: Option<usize>, times: usize
     if MAX_LAYOUT < all {
         return None;
     }
-    for j in 1..times {
-        out.copy_within(to..end, to + j * size);
+    // By index: each byte is the one a text before it, which an earlier turn may have put.
+    for j in end..all {
+        out[j] = out[j - size];
     }
     Some(all)
 }

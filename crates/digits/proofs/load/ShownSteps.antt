@@ -17,7 +17,7 @@ use Rattle.digits.proofs.chars.CharLaws.{length-chars}
 use Rattle.byte_runs.proofs.ByteLaws.{part-rest, Grown, grown-none, grown-more, grown-done}
 use Rattle.digits.specs.Steps.{Writing, showing, steps, Advanced, binary_budget, ShownWithin}
 use Rattle.digits.proofs.StepLaws.{done_after, over-steps, whole-step, digit-step, one_set}
-use Rattle.digits.proofs.load.DigitChars.{shown_chars, length-shown, shown-part, shown-any}
+use Rattle.digits.proofs.load.DigitChars.{shown_chars, length-shown, shown-first, shown-part, shown-any}
 
 -- a part of a byte's characters, in those of the field
 shown-piece : (high : Bool) (n : ℕ) (bs : List ℕ) (k j count : ℕ) → k < length bs → j + count ≤ 8 → k * 8 + (j + count) ≤ n
@@ -35,7 +35,7 @@ module _ (high : Bool) (bytes : List ℕ) (at to n : ℕ) (area : List ℕ) (fit
   chars = shown_chars false high n (part bytes at (ceil_div n 8))
 
   long : length chars ≡ n
-  long = length-shown false high n (part bytes at (ceil_div n 8)) (length_part (ceil_div n 8) at bytes fits)
+  long = length-shown false high n (part bytes at (ceil_div n 8)) (omega (arith, length_part (ceil_div n 8) at bytes fits))
 
   -- the characters that a step writes
   written : (d e : ℕ) → d < e → e ≤ n → e ≤ 8 * (d / 8) + 8 → part chars d (e - d) ≡ part (chars_of false high (get_or bytes (at + d / 8) 0)) (d % 8) (e - d)
@@ -97,10 +97,10 @@ pub shown-within : ShownWithin
 shown-within high bytes at to n area fits room = shown-all high bytes at to n area fits room
 
 -- the whole of a field
-pub shown-whole : (high u : Bool) (bytes area : List ℕ) → length bytes ≡ ceil_div (length area) 8
+pub shown-whole : (high u : Bool) (bytes area : List ℕ) → ceil_div (length area) 8 ≤ length bytes
     → (steps (showing high bytes 0 0) (length area) area (binary_budget (length area))).bytes ≡ (loaded (Digits false high) u (length area) bytes).items
-shown-whole high u bytes area e =
+shown-whole high u bytes area fits =
     let n : ℕ = length area in
-    let all : part bytes 0 (ceil_div n 8) ≡ bytes = take_all (ceil_div n 8) bytes (omega arith) in
     shown-within high bytes 0 0 n area (omega arith) (omega arith)
-    ∙ rw all (store-whole area (shown_chars false high n bytes) (length-shown false high n bytes e) ∙ shown-any false high u n bytes)
+    ∙ rw (shown-first false high n (ceil_div n 8) bytes (omega arith))
+    (store-whole area (shown_chars false high n bytes) (length-shown false high n bytes fits) ∙ shown-any false high u n bytes)

@@ -95,6 +95,21 @@ leg-alike area i j s =
     let x = tests_of area s in
     rw (leg-by area i s, leg-by area j s) (alike-by x.blank x.inside x.integers x.one x.small (mark_in area s) i j)
 
+place-by : (a b c d e : Bool) (m i : ℕ) (why : Refusal) (place : ℕ) → leg_by (tests a b c d e) m i ≡ refused why place → place ≡ i
+unfolding leg_by
+place-by true b c d e m i why place h = cc
+place-by false false c d e m i why place h = cc
+place-by false true false d e m i why place h = cc
+place-by false true true false e m i why place h = cc
+place-by false true true true false m i why place h = cc
+place-by false true true true true m i why place h = cc
+
+-- a refusal's place is the slot's number
+pub leg-place : (area : List ℕ) (i : ℕ) (s : Slot) (why : Refusal) (place : ℕ) → leg_of area i s ≡ refused why place → place ≡ i
+leg-place area i s why place h =
+    let x = tests_of area s in
+    place-by x.blank x.inside x.integers x.one x.small (mark_in area s) i why place (sym (leg-by area i s) ∙ h)
+
 -- a leg that is accepted is in range
 abbrev pub InRange : Leg → Type 0
 InRange unset = Unit {0}

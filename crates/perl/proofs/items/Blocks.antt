@@ -1,23 +1,21 @@
 -- What is stored in the block, on plain values: nothing, one text after the other, and one text again and again.
 use Rattle.std.specs.declared.option.Option.{Option}
 use Rattle.std.specs.declared.option.Option.TheVariants.{Some, None}
-use Rattle.std.specs.Prelude.{replicate}
 use Prim.Native.Nat.{ℕ, zero, suc, ◌+◌, ◌-◌, ◌*◌, ◌≤◌, ◌<◌, min}
-use native.Mathlib.Nat.{add-zero, suc-mul}
+use native.Mathlib.Nat.{add-zero, mul-zero, suc-mul}
 use native.Mathlib.Numerals.{add-one}
 use native.Mathlib.Omega.{arith}
 use mathlib.Core.Path.{◌≡◌, refl, sym, ap, ◌∙◌, subst}
 use mathlib.Core.Bool.{Bool, true, false}
-use mathlib.Core.List.{List, [], ◌∷◌, ◌++◌, append-nil, append_assoc}
+use mathlib.Core.List.{List, [], ◌∷◌, ◌++◌}
 use borrow.Author.Tests.{le-leb, lt-leb}
-use borrow.Rule.Slice.PartMut.{put_mid}
 use mir.Val.{bool_byte}
-use lib.ListN.{length, take, drop, set, length-append}
-use lib.Seq.{paste, drop_at, drop-drop, length-take-le, take-append-le, take-length}
+use lib.ListN.{length, take, drop, get_or, set, length-append, length-set, get_or-append}
+use lib.Seq.{length-take-le, length_paste_head, take-append-le, take-length, get_or-take, get_or-append-add}
 use Rattle.layout.specs.Layout.{max_layout}
 use Rattle.record.specs.Bytes.{store_at}
 use Rattle.record.proofs.Fields.{split}
-use Rattle.record.proofs.Stores.{store-none, store-first, store-store, length-store_at}
+use Rattle.record.proofs.Stores.{Put, put-more, put-done, store-none, store-first, store-store, length-store_at}
 use Rattle.perl.specs.Writing.{repeated, flag_text}
 use Rattle.perl.specs.inside.Readers.{placed, held, Inside, Stored}
 use Rattle.perl.proofs.items.Texts.{length-repeated, repeated-last}
@@ -70,30 +68,28 @@ stored-append {s} {t} {d} {d₁} {d₂} {to} {end} {end₂} room a b =
 
 -- ---- a letter, its flag and its count
 
-flag-run : (u : Bool) → replicate (bool_byte u) 117 ≡ flag_text u
-flag-run true = refl
-flag-run false = refl
+module _ (d : List ℕ) (to b : ℕ) where
+  pub one_byte : to < length d → set d to b ≡ store_at d to (b ∷ [])
+  one_byte h = sym (store-none (set d to b) (suc to)) ∙ store-first d to b [] (omega arith)
 
-put-run : (d : List ℕ) (at k : ℕ) (s : List ℕ) → length s ≡ k → put_mid at k d s ≡ store_at d at s
-put-run d at k s e =
-    ap (λ (x : List ℕ). take at d ++ (s ++ x)) (drop-drop k at d ∙ ap (λ (n : ℕ). drop (at + n) d) (sym e)) ∙ sym (append_assoc (take at d) s (drop (at + length s) d))
+  pub two_bytes : (c : ℕ) → to + 1 < length d → set (set d to b) (to + 1) c ≡ store_at d to (b ∷ c ∷ [])
+  two_bytes c h =
+      let second : set (set d to b) (suc to) c ≡ store_at (set d to b) (suc to) (c ∷ []) =
+      sym (store-none (set (set d to b) (suc to) c) (suc (suc to))) ∙ store-first (set d to b) (suc to) c [] (rw length-set (omega arith)) in
+      rw add-one (second ∙ store-first d to b (c ∷ []) (omega arith))
 
 bit-byte : (u : Bool) → bool_byte u ≡ length (flag_text u)
 bit-byte true = refl
 bit-byte false = refl
 
 module _ (d digits : List ℕ) (to b : ℕ) (u : Bool) (room : length d ≡ max_layout) where
-  pub put_whole : (f : ℕ) {flag count : List ℕ} {k : ℕ} → f ≡ bool_byte u → to + 1 + f + length digits ≤ max_layout → flag ≡ replicate (to + 1 + f - (to + 1)) 117 → count ≡ digits → k ≡ length digits
-      → Stored ((b ∷ flag_text u) ++ digits) (Some to) d (Some (to + 1 + f + length digits)) (put_mid (to + 1 + f) k (put_mid (to + 1) (to + 1 + f - (to + 1)) (set d to b) flag) count)
-  put_whole f {flag} {count} {k} m fits e q l =
-      let one : to + 1 + f - (to + 1) ≡ f = omega arith in
+  pub put_whole : (f : ℕ) {d₁ d₂ : List ℕ} → f ≡ bool_byte u → to + 1 + f + length digits ≤ max_layout
+      → d₁ ≡ store_at d to (b ∷ flag_text u) → d₂ ≡ store_at d₁ (to + 1 + f) digits
+      → Stored ((b ∷ flag_text u) ++ digits) (Some to) d (Some (to + 1 + f + length digits)) d₂
+  put_whole f {d₁} {d₂} m fits e₁ e₂ =
       let long : f ≡ length (flag_text u) = m ∙ bit-byte u in
-      let run : flag ≡ flag_text u = e ∙ (rw (one, m) (flag-run u)) in
-      let first : store_at (set d to b) (to + 1) (flag_text u) ≡ store_at d to (b ∷ flag_text u) = rw add-one (store-first d to b (flag_text u) (omega arith)) in
       let next : to + length (b ∷ flag_text u) ≡ to + 1 + f = omega arith in
-      let text : put_mid (to + 1) (to + 1 + f - (to + 1)) (set d to b) flag ≡ store_at d to (b ∷ flag_text u) = rw (run, one) (put-run (set d to b) (to + 1) f (flag_text u) (sym long) ∙ first) in
-      let whole : put_mid (to + 1 + f) k (put_mid (to + 1) (to + 1 + f - (to + 1)) (set d to b) flag) count ≡ store_at d to ((b ∷ flag_text u) ++ digits) =
-      rw (text, q, l, ← next) (put-run (store_at d to (b ∷ flag_text u)) (to + length (b ∷ flag_text u)) (length digits) digits refl ∙ store-store d to (b ∷ flag_text u) digits (omega arith)) in
+      let whole : d₂ ≡ store_at d to ((b ∷ flag_text u) ++ digits) = e₂ ∙ (rw (e₁, ← next) (store-store d to (b ∷ flag_text u) digits (omega arith))) in
       let end : to + length ((b ∷ flag_text u) ++ digits) ≡ to + 1 + f + length digits = omega (arith, length-append (b ∷ flag_text u) digits) in
       record { place = rw end (sym (placed-within (to + 1 + f + length digits) fits)); long = ap length whole ∙ length-store_at d to ((b ∷ flag_text u) ++ digits) (omega arith); bytes = λ k. whole }
 
@@ -103,6 +99,10 @@ at_least_one : (n m : ℕ) → 0 < n → m ≤ n * m
 at_least_one zero m h = absurd (omega arith)
 at_least_one (suc n) m h = rw (suc-mul n m) (omega arith)
 
+some_bytes : (n m : ℕ) {j : ℕ} → j < n * m → 0 < m
+some_bytes n zero h = let e : n * 0 ≡ 0 = mul-zero n in absurd (omega arith)
+some_bytes n (suc m) h = omega arith
+
 -- of a text that has run over every repetition runs over
 pub again-none : (s d : List ℕ) (to : Option ℕ) (times : ℕ) (old : List ℕ) → 0 < times → Stored s to d None old → Stored (repeated times s) to d None old
 again-none s d to times old some st =
@@ -110,41 +110,70 @@ again-none s d to times old some st =
     let l : length s ≤ length (repeated times s) = rw (length-repeated times s) (at_least_one times (length s) some) in
     record { place = sym (placed-over (held to + length (repeated times s)) (omega arith)); long = st.long; bytes = λ k. absurd (omega arith) }
 
+-- byte k of what was put in
+put-at : (d₀ : List ℕ) (to : ℕ) (s d : List ℕ) (j k : ℕ) → Put d₀ to s d j → to ≤ length d₀ → j ≤ length s → k < j → get_or d (to + k) 0 ≡ get_or s k 0
+put-at d₀ to s d j k p h l m =
+    let front : length (take to d₀) ≡ to = length-take-le to d₀ h in
+    let head : List ℕ = take to d₀ ++ take j s in
+    let long : length head ≡ to + j = length_paste_head d₀ to s j h l in
+    ap (λ (x : List ℕ). get_or x (to + k) 0) p.is
+    ∙ get_or-append head (drop (to + j) d₀) 0 (to + k) (omega arith)
+    ∙ ap (λ (n : ℕ). get_or head (n + k) 0) (sym front)
+    ∙ get_or-append-add (take to d₀) (take j s) k 0
+    ∙ get_or-take j s k 0 m
+
+-- a repeated text is the same one text further on
+period : (n : ℕ) (s : List ℕ) (j : ℕ) → length s ≤ j → j < n * length s → get_or (repeated n s) (j - length s) 0 ≡ get_or (repeated n s) j 0
+unfolding repeated
+period zero s j h k = absurd (omega arith)
+period (suc n) s j h k =
+    let e : length s + (j - length s) ≡ j = omega arith in
+    let m : suc n * length s ≡ n * length s + length s = suc-mul n (length s) in
+    let front : get_or (repeated n s ++ s) (j - length s) 0 ≡ get_or (repeated n s) (j - length s) 0 = get_or-append (repeated n s) s 0 (j - length s) (omega (arith, length-repeated n s)) in
+    ap (λ (x : List ℕ). get_or x (j - length s) 0) (repeated-last n s) ∙ front ∙ sym (get_or-append-add s (repeated n s) (j - length s) 0) ∙ ap (λ (i : ℕ). get_or (s ++ repeated n s) i 0) e
+
 module _ (s d : List ℕ) (to end : ℕ) (old : List ℕ) (within : end ≤ max_layout) (st : Stored s (Some to) d (Some end) old) where
   size_is : end ≡ to + length s
   size_is = omega (arith, held-placed (to + length s), ap held st.place)
 
+  total : (times : ℕ) → length (repeated times s) ≡ times * (end - to)
+  total times = length-repeated times s ∙ ap (λ (n : ℕ). times * n) (omega (arith, size_is))
+
   pub again-over : (times : ℕ) → max_layout < to + times * (end - to) → Stored (repeated times s) (Some to) d None old
   again-over times h =
-      let l : length (repeated times s) ≡ times * (end - to) = length-repeated times s ∙ ap (λ (n : ℕ). times * n) (omega (arith, size_is)) in
-      record { place = sym (placed-over (to + length (repeated times s)) (omega arith)); long = st.long; bytes = λ k. absurd (omega arith) }
+      record { place = sym (placed-over (to + length (repeated times s)) (omega (arith, total times))); long = st.long; bytes = λ k. absurd (omega (arith, total times)) }
 
-  pub again-once : Stored (repeated 1 s) (Some to) d (Some (to + 1 * (end - to))) old
-  unfolding repeated
-  again-once =
-      let e : to + 1 * (end - to) ≡ end = omega (arith, size_is) in
-      rw (e, append-nil) st
+  module _ (times : ℕ) (some : 0 < times) (room : length d ≡ max_layout) (fits : to + times * (end - to) ≤ max_layout) where
+    size : end - to ≡ length s
+    size = omega (arith, size_is)
 
-  pub again-more : (j : ℕ) (out : List ℕ) → length d ≡ max_layout → 0 < j → to + suc j * (end - to) ≤ max_layout → Stored (repeated j s) (Some to) d (Some (to + j * (end - to))) out
-      → Stored (repeated (suc j) s) (Some to) d (Some (to + suc j * (end - to))) (paste out (to + j * (end - to)) (drop to out) (end - to))
-  unfolding repeated
-  again-more j out room some fits p =
-      let k : suc j * (end - to) ≡ j * (end - to) + (end - to) = suc-mul j (end - to) in
-      let size : end - to ≡ length s = omega (arith, size_is) in
-      let l : length (repeated j s) ≡ j * (end - to) = length-repeated j s ∙ ap (λ (n : ℕ). j * n) (sym size) in
-      let is : out ≡ store_at d to (repeated j s) = p.bytes (omega arith) in
-      let front : take (length s) (repeated j s) ≡ s = begins j some in
-      let enough : length s ≤ length (repeated j s) = rw (length-repeated j s) (at_least_one j (length s) some) in
-      let there : take (end - to) (drop to out) ≡ s =
-      rw size (ap (λ (x : List ℕ). take (length s) (drop to x)) (is ∙ append_assoc (take to d) (repeated j s) (drop (to + length (repeated j s)) d))
-      ∙ ap (take (length s)) (drop_at (take to d) (repeated j s ++ drop (to + length (repeated j s)) d) to (length-take-le to d (omega (arith, room))))
-      ∙ take-append-le (length s) (repeated j s) (drop (to + length (repeated j s)) d) enough ∙ front) in
-      let whole : paste out (to + j * (end - to)) (drop to out) (end - to) ≡ store_at out (to + j * (end - to)) s = rw (there, size) in
-      let next : to + j * (end - to) + length s ≡ to + suc j * (end - to) = omega arith in
-      let here : Stored s (Some (to + j * (end - to))) out (Some (to + suc j * (end - to))) (paste out (to + j * (end - to)) (drop to out) (end - to)) =
-      record { place = rw next (sym (placed-within (to + suc j * (end - to)) fits)); long = ap length whole ∙ length-store_at out (to + j * (end - to)) s (omega (arith, p.long)); bytes = λ h. whole } in
-      subst (λ (x : List ℕ). Stored x (Some to) d (Some (to + suc j * (end - to))) (paste out (to + j * (end - to)) (drop to out) (end - to))) (sym (repeated-last j s)) (stored-append room p here)
-    where
-      begins : (n : ℕ) → 0 < n → take (length s) (repeated n s) ≡ s
-      begins zero h = absurd (omega arith)
-      begins (suc n) h = take-append-le (length s) s (repeated n s) (omega arith) ∙ take-length s
+    first : take (end - to) (repeated times s) ≡ s
+    unfolding repeated
+    first = rw size (go times some)
+      where
+        go : (n : ℕ) → 0 < n → take (length s) (repeated n s) ≡ s
+        go zero h = absurd (omega arith)
+        go (suc n) h = take-append-le (length s) s (repeated n s) (omega arith) ∙ take-length s
+
+    pub again-once : Put d to (repeated times s) old (end - to)
+    again-once =
+        let o : old ≡ store_at d to s = st.bytes (omega (arith, size_is)) in
+        record { long = st.long; is = o ∙ (rw (first, size)) }
+
+    module _ (out : List ℕ) (j : ℕ) (on : end ≤ j) (p : Put d to (repeated times s) out (j - to)) where
+      pub again-more : j < to + times * (end - to) → Put d to (repeated times s) (set out j (get_or out (j - (end - to)) 0)) (j + 1 - to)
+      again-more k =
+          let m : times * length s ≡ times * (end - to) = rw size in
+          let here : to + (j - to) ≡ j = omega (arith, size_is) in
+          let more : j - to + 1 ≡ j + 1 - to = omega (arith, size_is) in
+          let back : to + (j - to - (end - to)) ≡ j - (end - to) = omega (arith, size_is) in
+          let b : get_or out (to + (j - to - (end - to))) 0 ≡ get_or (repeated times s) (j - to) 0 = put-at d to (repeated times s) out
+          (j - to) (j - to - (end - to)) p (omega (arith, size_is)) (omega (arith, total times)) (omega (arith, some_bytes times (end - to) {j = j - to} (omega (arith, size_is)), size_is))
+          ∙ (rw size (period times s (j - to) (omega (arith, size_is)) (omega (arith, size_is, m)))) in
+          rw (here, more, back) at (put-more p (omega (arith, size_is)) (omega (arith, total times, size_is)) b)
+
+      pub again-done : (end ≤ to + times * (end - to) → j ≤ to + times * (end - to)) → to + times * (end - to) ≤ j → Stored (repeated times s) (Some to) d (Some (to + times * (end - to))) out
+      again-done h k =
+          let e : j ≤ to + times * (end - to) = h (omega (arith, size_is, at_least_one times (end - to) some)) in
+          let l : length (repeated times s) ≡ j - to = omega (arith, total times) in
+          record { place = rw (total times) (sym (placed-within (to + times * (end - to)) fits)); long = p.long; bytes = λ k. put-done p l }

@@ -110,57 +110,71 @@ pub fn refusals(rt: &impl Print) -> io::Result<()> {
     rooms(rt)
 }
 
-// Writes slots over an area as long as any, into a buffer of a size. (The longest buffers and sheets, of more than a
+// Writes slots over an area as long as any, into a buffer of zeros. (The longest buffers and sheets, of more than a
 // million bytes, are tried by the tests outside.)
 fn long(
-    rt: &(impl Print + AllocGlobal),
+    rt: &impl Print,
     told: &[u8],
     slots: &[u32],
-    size: usize,
+    area: &[u8],
+    sheet: &mut [u8],
 ) -> io::Result<()> {
-    let area = vec![in rt.alloc(); b'z'; MAX_AREA]?;
-    let mut sheet = vec![in rt.alloc(); 0; size]?;
-    show(rt, told, slots, &area, &mut sheet)
+    sheet.fill(0);
+    show(rt, told, slots, area, sheet)
 }
 
 // The bytes of a sheet whose one value fills an area: a header and an entry's length and kind before it.
 const ONE_AREA: usize = MAX_AREA + 10;
 
 // The longest that version 1 can hold, and a byte more: version 2. The longest value; and number 11. The version goes by
-// the lengths, and not by the buffer.
+// the lengths, and not by the buffer. (Area and buffer are made once: making them for each line takes longer than all
+// else.)
 fn lengths(rt: &(impl Print + AllocGlobal)) -> io::Result<()> {
-    long(rt, b"slot 1 0 65532", &[1, 0, 65532, 0], ONE_AREA)?;
-    long(rt, b"slot 1 0 65533", &[1, 0, 65533, 0], ONE_AREA)?;
+    let area = vec![in rt.alloc(); b'z'; MAX_AREA]?;
+    let mut sheet = vec![in rt.alloc(); 0; ONE_AREA]?;
+    long(rt, b"slot 1 0 65532", &[1, 0, 65532, 0], &area, &mut sheet)?;
+    long(rt, b"slot 1 0 65533", &[1, 0, 65533, 0], &area, &mut sheet)?;
     long(
         rt,
         b"slots 1 0 32765, 1 0 32764",
         &[1, 0, 32765, 0, 1, 0, 32764, 0],
-        ONE_AREA,
+        &area,
+        &mut sheet,
     )?;
     long(
         rt,
         b"slots 1 0 32765, 1 0 32765",
         &[1, 0, 32765, 0, 1, 0, 32765, 0],
-        ONE_AREA,
+        &area,
+        &mut sheet,
     )?;
-    long(rt, b"slot 1 0 524288", &[1, 0, 524288, 0], ONE_AREA)?;
+    long(
+        rt,
+        b"slot 1 0 524288",
+        &[1, 0, 524288, 0],
+        &area,
+        &mut sheet,
+    )?;
     long(
         rt,
         b"slots 1 0 524288, 0 0 0",
         &[1, 0, 524288, 0, 0, 0, 0, 0],
-        ONE_AREA,
+        &area,
+        &mut sheet,
     )?;
     long(
         rt,
         b"slot 1 0 65533, buffer of 65543 bytes",
         &[1, 0, 65533, 0],
-        65543,
+        &area,
+        &mut vec![in rt.alloc(); 0; 65543]?,
     )?;
     long(
         rt,
         b"slot 1 0 65533, buffer of 65542 bytes",
         &[1, 0, 65533, 0],
-        65542,
+        &area,
+        &mut vec![in rt.alloc(); 0; 65542]?,
     )
 }
 

@@ -1,12 +1,13 @@
--- `x` and `@` are told apart by their numbers; every other type takes every count.
+-- What takes a slot takes every count, and so does `X`; `x` and `@` are told apart by their numbers.
 use native.Mathlib.Omega.{arith}
-use borrow.Author.Tests.{ne_eqb}
-use native.Mathlib.Decide.{dec_le}
-use native.Mathlib.Nat.{lt_of_not-le}
-use Rattle.layout.specs.Codes.{last_data, type_numbered}
+use borrow.Author.Tests.{ne_eqb, le-leb}
+use Rattle.layout.specs.Codes.{type_numbered}
 use Rattle.layout.proofs.Numbered.{meaning-data, meaning-back}
 use Rattle.layout.proofs.Steps.{skip-meaning, goto-meaning}
 use Rattle.layout.proofs.parser.has_meaning.Goals as goal
+
+pub returns-then-d-le-LAST_DATA : goal.returns-then-d-le-LAST_DATA
+returns-then-d-le-LAST_DATA c = rw (le-leb _ _ c.if-d-le-LAST_DATA.true) (meaning-data _ _ _ c.if-d-le-LAST_DATA.true)
 
 pub returns-then-n-ne1 : goal.returns-then-n-ne1
 unfolding type_numbered
@@ -21,7 +22,4 @@ unfolding type_numbered
 returns-in-26 c = rw c.in-26.is (goto-meaning c.args.packing c.args.n)
 
 pub returns-in_default : goal.returns-in_default
-returns-in_default c = elim (dec_le c.args.d last_data) [
-  | yes h ↦ meaning-data _ _ _ h
-  | no h ↦ meaning-back _ _ _ (lt_of_not-le h) (λ e. omega arith) (λ e. omega arith)
-]
+returns-in_default c = meaning-back _ _ _ c.if-d-le-LAST_DATA.false (λ e. omega arith) (λ e. omega arith)

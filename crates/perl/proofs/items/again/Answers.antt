@@ -1,10 +1,6 @@
--- Every turn puts the text once more, after what stands there.
-use Prim.Native.Nat.{ℕ, suc, ◌-◌, ◌*◌, ◌≤◌}
-use native.Mathlib.Nat.{mul-le-mul_right}
-use native.Mathlib.Numerals.{add-one}
-use native.Mathlib.Omega.{arith}
+-- Every byte put is the one a text before it, so that the text goes on again and again.
 use mathlib.Core.Path.{sym, ◌∙◌}
-use Rattle.perl.proofs.items.Blocks.{again-none, again-over, again-once, again-more}
+use Rattle.perl.proofs.items.Blocks.{again-none, again-over, again-once, again-more, again-done}
 use Rattle.perl.proofs.items.again.Goals as goal
 
 pub returns-in_err-end : goal.returns-in_err-end
@@ -18,12 +14,19 @@ returns-then-all-gt-MAX_LAYOUT c =
     c.args.times c.if-all-gt-MAX_LAYOUT.true)
 
 pub loop-j-init : goal.loop-j-init
-loop-j-init c = λ s d st. again-once s d _ _ _ (rw c.in_ok-end.was at c.requires.1) st
+loop-j-init c =
+    let q = c.requires in
+    λ s d st. again-once s d _ _ _ (rw c.in_ok-end.was at q.1) st _ q.2 (sym st.long ∙ q.4) c.if-all-gt-MAX_LAYOUT.false
 
 pub loop-j-preserved : goal.loop-j-preserved
 loop-j-preserved c =
-    let size : ℕ = c.in_ok-end.end - c.in_ok-to.to in
-    let step : suc c.loop-j.j * size ≤ c.args.times * size = mul-le-mul_right size c.loop-j-test.true in
-    λ s d st. rw (c.copy_within.ensures.after, add-one)
-    (again-more s d c.in_ok-to.to c.in_ok-end.end c.args.out.now (rw c.in_ok-end.was at c.requires.1) st c.loop-j.j c.loop-j.out (sym st.long ∙ c.requires.4)
-    (omega arith) (omega (arith, step)) (c.loop-j.invariant s d st))
+    let q = c.requires in
+    λ s d st. again-more s d _ _ _ (rw c.in_ok-end.was at q.1) st _ q.2 (sym st.long ∙ q.4) c.if-all-gt-MAX_LAYOUT.false
+    _ _ c.loop-j.auto.j (c.loop-j.invariant s d st) c.loop-j-test.true
+
+pub returns : goal.returns
+returns c =
+    let q = c.requires in
+    λ s d st. rw c.in_ok-to.was
+    (again-done s d _ _ _ (rw c.in_ok-end.was at q.1) (rw (c.in_ok-to.was, c.in_ok-end.was) at st) _ q.2 (sym st.long ∙ q.4) c.if-all-gt-MAX_LAYOUT.false
+    _ _ c.loop-j.auto.j (c.loop-j.invariant s d (rw (c.in_ok-to.was, c.in_ok-end.was) at st)) c.loop-j.auto.j-end c.loop-j-test.false)
