@@ -34,8 +34,7 @@ fn load_four(area: &mut [u8], to: usize, input: &[u8], at: usize, big: bool, uns
     area[to..to + 8].copy_from_slice(&eight.to_le_bytes());
 }
 
-// Reads one integer of a width below eight: as a number, but for signed big-endian and unsigned little-endian ones of
-// four bytes, whose bytes alone are quicker.
+// Reads one integer of a width below eight: as a number, but for those of four bytes whose bytes alone are quicker.
 fn load_item(
     area: &mut [u8],
     to: usize,
@@ -48,7 +47,7 @@ fn load_item(
     requires { Narrow w × (to + 8 ≤ length area.old) × (at + w ≤ length input.now) }
     ensures { area.new ≡ store_at area.old to (item_bytes w big unsigned (part input.now at w)) }
 {
-    if w == 4 && big != unsigned {
+    if w == 4 && (big || unsigned) {
         return load_four(area, to, input, at, big, unsigned);
     }
     let x = super::number_at(input, at, w, big);
@@ -77,6 +76,17 @@ fn load_each(
     }
 }
 
+// Reads n unsigned integers of a width below eight. (Where both calls of `load` are of one function the compiler joins
+// them again, and the loop then tests the flag.)
+fn load_unsigned(area: &mut [u8], to: usize, input: &[u8], at: usize, n: usize, w: usize, big: bool)
+    requires { Narrow w × (to + n * 8 ≤ length area.old) × (at + n * w ≤ length input.now) }
+    ensures { area.new
+        ≡ store_at area.old to
+        (integer_bytes (loaded (Integers w big) true n (part input.now at (n * w))).items) }
+{
+    load_each(area, to, input, at, n, w, big, true)
+}
+
 // Reads n integers of w bytes each.
 pub fn load(
     area: &mut [u8],
@@ -96,5 +106,8 @@ pub fn load(
     if w == 8 {
         return super::copy_eights(area, to, input, at, n, !big);
     }
-    load_each(area, to, input, at, n, w, big, unsigned)
+    if unsigned {
+        return load_unsigned(area, to, input, at, n, w, big);
+    }
+    load_each(area, to, input, at, n, w, big, false)
 }
