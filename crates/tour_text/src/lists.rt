@@ -1,12 +1,13 @@
 // A list of examples is a text with one of them a line.
-ghost use Rattle.std.specs.Prelude.{◌≡◌, ◌∷◌, ◌++◌, IfSome};
+ghost use Rattle.std.specs.Prelude.{◌≡◌, ◌≢◌, ◌∷◌, ◌++◌, All, IfSome, MatchOption};
 
 use super::print::Escaped;
 use std::io;
 
 // What stands before the first bar of a text, and what after it.
 pub fn at_bar(text: &[u8]) -> Option<(&[u8], &[u8])>
-    ensures { IfSome result (λ parts. text.now ≡ parts.0.now ++ 124 ∷ parts.1.now) }
+    ensures parts { IfSome result (λ parts. text.now ≡ parts.0.now ++ 124 ∷ parts.1.now) }
+    ensures first { MatchOption result (All (λ b. b ≢ 124) text.now) (λ parts. All (λ b. b ≢ 124) parts.0.now) }
 {
     let bar = text.iter().position(|b| *b == b'|')?;
     Some((&text[..bar], &text[bar + 1..]))
