@@ -184,8 +184,9 @@ fn keeps_its_word(dice: &mut Dice, judge: &mut dyn Judge) {
             spec.count = Count::Number(n.min(40).max(1));
         }
     });
-    let values = random_arguments(dice, &old);
+    // The text first: fields for which it has no room are dropped, and take no value.
     let text = spelled(dice, &mut old);
+    let values = random_arguments(dice, &old);
     let (told, _) = by_library(&asking(&text));
     if numbers(&told.reply)[..2] != [0, NOWHERE] || values.len() > SLOTS_MAX {
         return;
